@@ -102,8 +102,8 @@ const EXPLAIN_NOTES: &str = "\
 Prints the cost, then each soft clause that the bits give up, heaviest first, with its line and the
 comment above it, and what is paid so far; then each hard clause that the bits break, and the names
 of true variables. Without RESULT: how many variables, hard and soft clauses FILE has, and the sum
-of the weights. Of a faulty FILE it shows the line and the word, too, and says what would mend it:
-as that '-2 -1 0', which is a FirstToken, lacks the 'h' or the weight before it.
+of the weights. Of a faulty FILE it also shows the line and the word, and says what would mend it:
+in '-2 -1 0', for instance, the 'h' or the weight at the beginning is missing.
 
 Statuses:
    0  the bits are a solution of just the cost that the result says, or it has none
@@ -185,7 +185,7 @@ fn make_profile<'a>(alloc: Global) -> Arg<'a> {
         .value_parser(ValueParser::Names(&PROFILES))
         .hide_possible_values(true)
         .help(
-            "How 'cheaper' is encoded; where it is not said, as WMAX_PROFILE says, else 1. 1 adds \
+            "How 'cheaper' is encoded; by default as WMAX_PROFILE says, else 1. 1 adds \
              all weights column by column; 2 as 1, and spends no variable on soft clauses of one \
              literal; 3 adds weights in pairs, light ones first; 4 has sums of weights along a \
              tree that follows the hard clauses; 5, which finds most optima, looks for cores \
@@ -202,9 +202,9 @@ fn make_profile_or_any<'a>(alloc: Global) -> Arg<'a> {
         .value_parser(ValueParser::Names(&PROFILES_OR_ANY))
         .hide_possible_values(true)
         .help(
-            "The profile that the certificate was made in; where it is not said, as WMAX_PROFILE \
-             says, else 1. any tries 5, 4, 3, 2, 1 until one says YES; else NO with the fault that \
-             stands furthest down. PROOF is read anew for each, so it is no pipe then",
+            "The profile that the certificate was made in; by default as WMAX_PROFILE says, else \
+             1. any tries 5, 4, 3, 2, 1 until one says YES; else NO with the fault that stands \
+             furthest down. PROOF is read anew for each, so it cannot be a pipe then",
         )
 }
 
@@ -251,9 +251,10 @@ fn make_solve<'a>(alloc: Global) -> Result<Command<'a>, Error> {
         .value_name("RESULT")
         .help(
             "The search begins with the solution of this result, as --best kept it or another \
-             solver printed it: its cost, or a cheaper one, is the first o line. A RESULT that is \
-             not right for FILE is refused by the fault that check tells, and one that says \
-             UNKNOWN is passed over. It may be the PATH of --best",
+             solver printed it: its cost, or a cheaper one, is the first o line, unless the effort \
+             is 0. A RESULT that is not right for FILE is refused with the fault that check \
+             reports; one that says UNKNOWN or UNSATISFIABLE has no solution, and the search \
+             begins without one. It may be the PATH of --best",
         );
     let progress = Arg::new(alloc, "progress")
         .long("progress")
@@ -261,8 +262,8 @@ fn make_solve<'a>(alloc: Global) -> Result<Command<'a>, Error> {
         .help(
             "Tells on standard error how far the search is: a line at each better solution and at \
              the end, and at most one a second between. 'at least L' is what the cores found so \
-             far are worth, not yet proved by a certificate; the gap is what the cost is above it, \
-             of the cost. On a terminal one line is written over",
+             far are worth in profile 5, not yet proved by a certificate; the gap is the \
+             difference as a share of the cost. On a terminal a single line is overwritten",
         );
     let command = Command::new(alloc, "solve")
         .about("Finds a solution of least cost, and a certificate that nothing is cheaper")
@@ -301,7 +302,7 @@ fn make_explain<'a>(alloc: Global) -> Result<Command<'a>, Error> {
     let command = Command::new(alloc, "explain")
         .about(
             "Prints what a result costs, what is given up for it, and what it breaks; without a \
-             result, how much there is of the instance",
+             result, the size of the instance",
         )
         .after_help(EXPLAIN_NOTES)
         .arg(make_path(alloc, "FILE", "The instance, a WCNF text"))?

@@ -30,6 +30,14 @@ pub fn find_file_id<F: OpenFile>(file: &F) -> Option<FileId> {
     }
 }
 
+/// The id of the file at the path; none where there is none, or it cannot be looked at.
+pub fn find_path_id<R: Files>(rt: &R, path: &str) -> Option<FileId> {
+    match fs::metadata(rt, path) {
+        Ok(data) => Some(file_id_of(&data)),
+        Err(_) => None,
+    }
+}
+
 /// Whether the path is that of one of these files, or of what is no regular file.
 pub fn is_taken<R: Files>(rt: &R, path: &str, others: &[FileId]) -> bool {
     match fs::metadata(rt, path) {

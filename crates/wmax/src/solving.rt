@@ -1,6 +1,6 @@
 //! `wmax solve`: a result and its certificate.
 use crate::checking::show;
-use crate::file_id::{FileId, find_file_id, open_proof};
+use crate::file_id::{FileId, find_file_id, find_path_id, open_proof};
 use crate::files::{UNREADABLE, read_file};
 use crate::keeper::{BestPaths, Keeper, judge_left};
 use crate::onlooker::Onlooker;
@@ -38,8 +38,8 @@ struct Search<'a> {
 }
 
 /// FILE is opened, then RESULT, if the search begins with one: that is judged by FILE, all of which
-/// is in memory then. Then the PATH of the certificate is created or emptied, then the PATH of the
-/// best solution is looked at, then what is left of FILE is read. Without a PATH the certificate is
+/// is in memory then. Then the PATH of the best solution is looked at, then that of the certificate
+/// is created or emptied, then what is left of FILE is read. Without a PATH the certificate is
 /// dropped.
 pub fn solve<R: Files + AllocGlobal + Print + Env + Clock, E: Write>(
     rt: &R,
@@ -94,9 +94,9 @@ fn solve_from<R: Files + AllocGlobal + Print + Clock, E: Write>(
     let text = read_file(rt, text)?;
     let said = read_file(rt, &mut from)?;
     match judge_left(rt.alloc(), &text, &said)? {
-        Judgement::Unknown => {}
+        Judgement::Unknown | Judgement::Unsatisfiable => {}
         Judgement::Right(_) => search.start = read_start(rt.alloc(), &said)?,
-        Judgement::Wrong | Judgement::Unsatisfiable => {
+        Judgement::Wrong => {
             let verdict = check_as(rt.alloc(), &text, &said, &[], Profile::One);
             return show(rt, &verdict.map_err(|_| RunFault::Memory)?);
         }
@@ -113,29 +113,81 @@ fn read_start(alloc: Global, said: &[u8]) -> Result<Option<Vec<bool>>, RunFault>
     }
 }
 
-/// Solves, with the certificate in the file of this name, which may be none of those that are read.
-fn solve_proved<R: Files + AllocGlobal + Print + Clock, E: Write, T: Read>(
-    rt: &R,
-    messages: &mut Messages<'_, E>,
-    search: Search<'_>,
+/// Solves, where `--best` may name none of the files that are read and not the certificate. Where
+/// that has something already, it is judged by FILE first, all of which is in memory then. Nothing
+/// is emptied before.
+fn solve_proved<'a, R: Files + AllocGlobal + Print + Clock, E: Write, T: Read>(
+    rt: &'a R,
+    messages: &'a mut Messages<'_, E>,
+    search: Search<'a>,
     text: &mut T,
     proof: Option<&str>,
     read: [FileId; 2],
 ) -> Result<u8, RunFault> {
+    let Some(path) = search.best else {
+        return solve_into(rt, messages, search, text, proof, read, None);
+    };
+    let [here, _] = read;
+    let paths = BestPaths::new(rt.alloc(), path).map_err(|_| RunFault::Memory)?;
+    let there = match proof {
+        Some(proof) => find_path_id(rt, proof).unwrap_or(here),
+        None => here,
+    };
+    if paths.are_taken(rt, &[here, there]) {
+        return Ok(refuse_best(messages, TAKEN, 2));
+    }
+    let left = paths.read_earlier(rt)?;
+    let mut kept = Kept {
+        paths,
+        earlier: None,
+    };
+    if left.is_empty() {
+        return solve_into(rt, messages, search, text, proof, read, Some(kept));
+    }
+    let bytes = read_file(rt, text)?;
+    match judge_left(rt.alloc(), &bytes, &left)? {
+        Judgement::Unknown | Judgement::Unsatisfiable => {}
+        Judgement::Right(cost) => kept.earlier = Some(cost),
+        Judgement::Wrong => return Ok(refuse_best(messages, OTHER, 2)),
+    }
+    let mut text = bytes.as_slice();
+    solve_into(rt, messages, search, &mut text, proof, read, Some(kept))
+}
+
+/// Where the best solution is kept.
+#[derive(Drop)]
+struct Kept<'a> {
+    /// The files.
+    paths: BestPaths<'a>,
+    /// What the solution of an earlier run costs that stands there, below 2^62; none where none
+    /// does.
+    earlier: Option<u64>,
+}
+
+/// Solves, with the certificate in the file of this name, which may be none of those that are read.
+fn solve_into<'a, R: Files + AllocGlobal + Print + Clock, E: Write, T: Read>(
+    rt: &'a R,
+    messages: &'a mut Messages<'_, E>,
+    search: Search<'a>,
+    text: &mut T,
+    proof: Option<&str>,
+    read: [FileId; 2],
+    kept: Option<Kept<'a>>,
+) -> Result<u8, RunFault> {
     let [here, _] = read;
     let Some(proof) = proof else {
         let mut dropped = io::sink();
-        return solve_kept(rt, messages, search, text, &mut dropped, [here, here]);
+        return solve_kept(rt, messages, search, text, &mut dropped, [here, here], kept);
     };
     let mut proof = open_proof(rt, proof, read)?;
     let Some(there) = find_file_id(&proof) else {
         return Err(RunFault::ProofOutput);
     };
-    solve_kept(rt, messages, search, text, &mut proof, [here, there])
+    solve_kept(rt, messages, search, text, &mut proof, [here, there], kept)
 }
 
-/// Solves with a certificate, where `--best` may name neither of the others. Where that has
-/// something already, it is judged by FILE first, all of which is in memory then.
+/// Solves with a certificate. That the files of `--best` are none of the others is looked at once
+/// more, now that the certificate has a file.
 fn solve_kept<'a, R: Files + AllocGlobal + Print + Clock, E: Write, T: Read, P: Write>(
     rt: &'a R,
     messages: &'a mut Messages<'_, E>,
@@ -143,31 +195,17 @@ fn solve_kept<'a, R: Files + AllocGlobal + Print + Clock, E: Write, T: Read, P: 
     text: &mut T,
     proof: &mut P,
     others: [FileId; 2],
+    kept: Option<Kept<'a>>,
 ) -> Result<u8, RunFault> {
-    let Some(path) = search.best else {
+    let Some(Kept { paths, earlier }) = kept else {
         let keeper = Keeper::start(rt, None, others, None);
         return solve_over(rt, messages, search, text, proof, keeper);
     };
-    let paths = BestPaths::new(rt.alloc(), path).map_err(|_| RunFault::Memory)?;
     if paths.are_taken(rt, &others) {
         return Ok(refuse_best(messages, TAKEN, 2));
     }
-    let left = paths.read_earlier(rt)?;
-    if left.is_empty() {
-        let keeper = Keeper::start(rt, Some(paths), others, None);
-        return solve_over(rt, messages, search, text, proof, keeper);
-    }
-    let bytes = read_file(rt, text)?;
-    let earlier = match judge_left(rt.alloc(), &bytes, &left)? {
-        Judgement::Unknown => None,
-        Judgement::Right(cost) => Some(cost),
-        Judgement::Wrong | Judgement::Unsatisfiable => {
-            return Ok(refuse_best(messages, OTHER, 2));
-        }
-    };
     let keeper = Keeper::start(rt, Some(paths), others, earlier);
-    let mut text = bytes.as_slice();
-    solve_over(rt, messages, search, &mut text, proof, keeper)
+    solve_over(rt, messages, search, text, proof, keeper)
 }
 
 /// What is said of a `--best` that the run uses otherwise, or that is a device.
