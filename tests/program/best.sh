@@ -70,7 +70,20 @@ lost 'no end' 'o 3'
 lost 'another cost' 'o 3' 's SATISFIABLE' 'v 01'
 lost 'no solution of this instance' 'o 0' 's OPTIMUM FOUND' 'v 00'
 lost 'too few bits' 'o 3' 's OPTIMUM FOUND' 'v 1'
-lost 'nothing that bits show' 's UNSATISFIABLE'
+lines best 's UNSATISFIABLE'
+call solve --best best text
+ok 'a result without a solution' [ "$status" = 30 -a "$(sed -n 2p "$work/best")" = 's OPTIMUM FOUND' ]
+printf 'before\n' > "$work/proof"
+lines best 'o 3' 's SATISFIABLE' 'v 01'
+call solve --best best --proof proof text
+ok 'the certificate of an earlier run stays' [ "$status" = 2 -a "$(cat "$work/proof")" = before ]
+cp "$work/proof" "$work/both"
+call solve --best both --proof both text
+ok 'one file for both stays' [ "$status" = 2 -a "$(cat "$work/both")" = before ]
+ln "$work/both" "$work/link"
+call solve --best both --proof link text
+ok 'one file by two names stays' [ "$status" = 2 -a "$(cat "$work/both")" = before ]
+rm -f "$work/both" "$work/link" "$work/proof"
 
 # A failed output: what was met before stays.
 rm "$work/best"

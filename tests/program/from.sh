@@ -78,7 +78,10 @@ refused 'another cost, as an optimum' 'o 3' 's OPTIMUM FOUND' 'v 01'
 refused 'a broken clause' 'o 0' 's SATISFIABLE' 'v 00'
 refused 'too few bits' 'o 3' 's SATISFIABLE' 'v 1'
 refused 'too many bits' 'o 3' 's SATISFIABLE' 'v 100'
-refused 'no solution' 's UNSATISFIABLE'
+lines from 's UNSATISFIABLE'
+rm -f "$work/best"
+call solve --from from --best best text
+ok 'a result without a solution' [ "$status" = 30 -a "$(tail -n 1 <<< "$out")" = 'v 10' ]
 lines bad 'h 1'
 lines from 'o 3' 's SATISFIABLE' 'v 10'
 call solve --from from bad
