@@ -103,6 +103,7 @@ class Solution:
 
     cost: int  # the weights of the soft clauses that are given up, together
     is_optimum: bool  # whether nothing is cheaper: `wmax check` has said YES to the certificate
+    lower: Optional[int]  # nothing costs less, as `wmax lower` or `wmax check` has said; None where nothing is proved
     status: Optional[int]  # the exit status of `wmax solve`, None where the time limit stopped it
     true_names: List[str]  # the names of the variables that are true, in the order of their making
     given_up: List[GivenUp]  # the soft clauses that do not hold, in the order of their making
@@ -310,19 +311,21 @@ class Instance:
     # Solving
 
     def solve(self, *, time_limit: Optional[float] = None, conflicts: Optional[int] = None,
-              profile: Optional[int] = None, program: Optional[str] = None,
+              lower: bool = False, profile: Optional[int] = None, program: Optional[str] = None,
               folder: Union[str, "os.PathLike[str]", None] = None) -> Solution:
         """A solution of least cost, whose certificate `wmax check` has said YES to.
 
         time_limit  seconds, after which `wmax solve` is stopped. What it has found by then is given,
                     with `is_optimum` False. The check of an optimum comes on top.
         conflicts   the effort of `wmax solve --conflicts`: the same number, the same answer
+        lower       whether to prove also how little a solution can cost, which takes longer where the
+                    search does not end; then it may be known how far the solution is from an optimum
         profile     how 'cheaper' is said; else the last one that the program's help names
         program     the path of `wmax`; else WMAX in the environment, ../wmax as seen from this
                     file, or `wmax` on PATH
-        folder      where the files stay: instance.wcnf, instance.result, instance.lrat and
-                    instance.best (the last result that was kept meanwhile); it is made if need be.
-                    Else they are removed.
+        folder      where the files stay: instance.wcnf, instance.result, instance.lrat,
+                    instance.best (the last result that was kept meanwhile) and instance.bound (the
+                    certificate of a lower bound); it is made if need be. Else they are removed.
 
         Unsatisfiable: the hard clauses cannot all hold, which was checked.
         NoSolutionFound: time or effort ran out before a solution.
@@ -334,9 +337,10 @@ class Instance:
                 folder = stack.enter_context(tempfile.TemporaryDirectory(prefix="wmax-"))
             run = _Run(program or find_program(), pathlib.Path(folder), profile)
             run.instance.write_text(self.text(), encoding="utf-8")
-            status, said = run.solve(time_limit, conflicts)
+            status, said = run.solve(time_limit, conflicts, lower)
             if said.status in ("OPTIMUM FOUND", "UNSATISFIABLE") and status is not None:
                 run.check()
+            bound = run.lower() if lower else None
         if said.status == "UNSATISFIABLE":
             raise Unsatisfiable("no assignment satisfies the hard clauses")
         if said.status == "UNKNOWN":
@@ -346,7 +350,10 @@ class Instance:
         given_up = self._given_up(bits, said.cost)
         true_names = [name for name, literal in self.named() if _is_true(literal, bits)]
         is_optimum = said.status == "OPTIMUM FOUND" and status is not None
-        return Solution(said.cost, is_optimum, status, true_names, given_up, bits, self)
+        bound = said.cost if is_optimum else bound
+        if bound is not None and bound > said.cost:
+            raise CheckFailed(f"the bits cost {said.cost}, and at least {bound} is said to be needed")
+        return Solution(said.cost, is_optimum, bound, status, true_names, given_up, bits, self)
 
     def _given_up(self, bits: Tuple[bool, ...], cost: int) -> List[GivenUp]:
         """The soft clauses that do not hold. CheckFailed: a hard one does not, or it is another cost."""
@@ -420,9 +427,9 @@ class _Run:
     def __init__(self, program: str, folder: pathlib.Path, profile: Optional[int]) -> None:
         folder.mkdir(parents=True, exist_ok=True)
         self.program = program
-        self.instance, self.result, self.best, self.proof = (
-            folder / f"instance.{end}" for end in ("wcnf", "result", "best", "lrat"))
-        for old in (self.result, self.best, self.proof):
+        self.instance, self.result, self.best, self.proof, self.bound = (
+            folder / f"instance.{end}" for end in ("wcnf", "result", "best", "lrat", "bound"))
+        for old in (self.result, self.best, self.proof, self.bound):
             with contextlib.suppress(FileNotFoundError):
                 old.unlink()
         self.profile = str(profile if profile is not None else self._last_profile())
@@ -445,10 +452,12 @@ class _Run:
         named = re.search(r"--profile <(?:\d+\|)*(\d+)>", self._call("solve", "--help").stdout)
         return int(named[1]) if named else USUAL_PROFILE
 
-    def solve(self, time_limit: Optional[float], conflicts: Optional[int]) -> Tuple[Optional[int], _Said]:
+    def solve(self, time_limit: Optional[float], conflicts: Optional[int],
+              lower: bool) -> Tuple[Optional[int], _Said]:
         """The status and the result; the status is None where the time limit stopped the program."""
         words = ["solve", "--profile", self.profile, "--proof", str(self.proof), "--best", str(self.best)]
         words += [] if conflicts is None else ["--conflicts", str(conflicts)]
+        words += ["--lower", str(self.bound)] if lower else []
         try:
             ran = self._call(*words, str(self.instance), time_limit=time_limit)
         except subprocess.TimeoutExpired:
@@ -464,6 +473,20 @@ class _Run:
         if said.status != self.STATUSES[ran.returncode]:
             raise ProgramFailed(f"wmax solve said {said.status}, and ended with status {ran.returncode}")
         return ran.returncode, said
+
+    def lower(self) -> Optional[int]:
+        """The lower bound that was proved, if one was.
+
+        CheckFailed: `wmax lower` does not say of the certificate what it shows.
+        """
+        if not self.bound.exists():
+            return None
+        ran = self._call("lower", str(self.instance), str(self.bound))
+        said = re.fullmatch(r"at least ([0-9]+)\n", ran.stdout)
+        if ran.returncode != 0 or said is None:
+            verdict = ran.stdout.strip() or ran.stderr.strip() or "no verdict"
+            raise CheckFailed(f"the lower bound does not check: {verdict}")
+        return int(said[1])
 
     def check(self) -> None:
         """CheckFailed: `wmax check` does not say YES to instance, result and certificate."""

@@ -40,7 +40,19 @@ call solve --best best bad
 expect 'a faulty text' 2 '' 'error: line 1: NoZero'
 best_is 'a faulty text' 's UNKNOWN'
 
-# What an earlier run left stays until there is better.
+# The search begins with the solution that an earlier run left, which stays until there is one that is as cheap.
+cp examples/roster.wcnf "$work/text"
+call solve text
+bits=$(tail -n 1 <<< "$out")
+lines best 'o 4' 's SATISFIABLE' "$bits"
+call solve --best best --conflicts 1 text
+expect 'an earlier solution, a unit of effort' 10 $'o 4\ns SATISFIABLE\n'"$bits" ''
+best_is 'an earlier solution, a unit of effort' 'o 4' 's SATISFIABLE' "$bits"
+call solve --best best text
+expect 'an earlier solution, all of the effort' 30 $'o 4\ns OPTIMUM FOUND\n'"$bits" ''
+lines best 'o 4' 's OPTIMUM FOUND' "$bits"
+call solve --best best --conflicts 1 text
+best_is 'an optimum that this run has not shown' 'o 4' 's SATISFIABLE' "$bits"
 lines text 'h 1 2 0' '3 -1 0' '4 -2 0'
 lines best 'o 4' 's SATISFIABLE' 'v 01'
 call solve --best best --conflicts 0 text
@@ -62,7 +74,7 @@ lost() { # NAME LINE..: PATH has these lines, which this run does not lose
     shift
     lines best "$@"
     call solve --best best text
-    expect "$name" 2 '' 'error: --best names a file that has no solution of FILE at the cost that it tells'
+    expect "$name" 2 '' 'error: --best names a file that is not a correct result for FILE'
     best_is "$name" "$@"
 }
 lost 'no result' 'of an earlier run'
@@ -97,8 +109,19 @@ if [ -c /dev/full ]; then
     best_is 'a full certificate' "$(tail -n 1 <<< "$out")" 's SATISFIABLE' "$(tail -n 1 "$work/best")"
 fi
 
+# A later solution stands there before its cost is told: the output fails behind the line of the first one.
+awk -v family=network -v size=40 -v seed=1 -f bench/maxsat.awk > "$work/several"
+compiles -O1 -shared -fPIC -o "$work/device.so" tests/program/device.c
+call solve --profile 4 several
+first=$(head -n 1 <<< "$out")
+rm -f "$work/best"
+told=$(cd "$work" && DEVICE=out DEVICE_AT=$((${#first} + 1)) LD_PRELOAD=./device.so timeout 60 "$wmax" solve --profile 4 --best best several 2> .err)
+ok 'an output that fails at the second line' [ "$(cat "$work/.err")" = 'error: Output' -a "$told" = "$first" ]
+ok 'an output that fails at the second line: the cheaper solution' [ "$(sed -n 1s/..//p "$work/best")" -lt "${first:2}" ]
+ok 'an output that fails at the second line: a whole text' [ "$(sed -n 2p "$work/best")" = 's SATISFIABLE' ]
+
 # What is refused, and left as it was.
-refusal='error: --best names FILE, the certificate or no regular file'
+refusal='error: --best names FILE, the certificate, or something other than a regular file'
 refused() { # NAME WORD..
     local name=$1
     shift
@@ -115,6 +138,12 @@ for path in text ./text "$work/text" link hard; do refused "FILE as $path" --bes
 refused 'FILE beside it' --best other other.part
 refused 'the certificate' --best proof --proof proof text
 refused 'the certificate beside it' --best proof --proof proof.part text
+rm -f "$work/linked" && ln -s elsewhere "$work/linked"
+refused 'a link to nothing' --best linked text
+lines best.part 'o 4' 's SATISFIABLE' 'v 01'
+refused 'RESULT, which the text is written to first' --best best --from best.part text
+ok 'RESULT stays' [ "$(head -n 1 "$work/best.part")" = 'o 4' ]
+rm -f "$work/best.part"
 refused 'the certificate, by a link' --best proof --proof proof link
 refused 'a folder' --best . text
 refused 'a device' --best /dev/null text
@@ -122,13 +151,26 @@ ok 'a device stays' [ -c /dev/null ]
 mkfifo "$work/pipe.part"
 refused 'a pipe beside it' --best pipe text
 
-# What cannot be written is told before the search.
+# What cannot be written is told before the search, and before anything is emptied.
 unwritten='error: --best cannot be written'
 cp examples/roster.wcnf "$work/text"
+lines proof before
 for path in missing/best text/best; do
-    call solve --best $path text
+    call solve --best $path --proof proof text
     expect "an unwritable path, $path" 3 '' "$unwritten"
+    ok "an unwritable path, $path: the certificate of an earlier run stays" [ "$(cat "$work/proof")" = before ]
 done
+lines best 's UNKNOWN'
+call solve --best best --proof missing/proof text
+expect 'an unwritable certificate' 3 '' 'error: ProofOutput'
+rm "$work/proof"
+chmod 0 "$work/best"
+if [ -r "$work/best" ]; then
+    echo 'files without permission can be read here: not tried'
+else
+    call solve --best best text
+    expect 'an unreadable path' 3 '' "error: Read: cannot open or read 'best' (--best)"
+fi
 rm -f "$work/best"
 full() { # NAME: with no room on the disk
     err=$(cd "$work" && { trap '' XFSZ; ulimit -f 0; timeout 60 "$wmax" solve --best best text 2>&1 > /dev/null; } | cat)

@@ -79,10 +79,10 @@ cp $text "$work/text"
 counted 'the roster' 15 "$(grep -c '^h' $text)" "$(grep -c '^[0-9]' $text)" "$(awk '/^[0-9]/ { sum += $1 } END { print sum }' $text)"
 
 # Of a faulty text: the line, the word, and what would mend it.
-mended() { # NAME TEXT FAULT LINE WORD SENTENCE: with no word, none is shown
+mended() { # NAME TEXT FAULT LINE WORD SENTENCE [COLUMN]: with no word, none is shown
     printf "$2" > "$work/text"
     wanted="error: $3"$'\n'"  $4"$'\n'
-    [ -z "$5" ] || wanted+="  here: $5"$'\n'
+    [ -z "$5" ] || wanted+="  here${7:+, column $7}: $5"$'\n'
     call explain text
     expect "$1" 2 '' "$wanted  $6"
     call solve text
@@ -91,63 +91,84 @@ mended() { # NAME TEXT FAULT LINE WORD SENTENCE: with no word, none is shown
 mended 'a byte order mark' '\357\273\277h 1 0\n' 'line 1: FirstToken' $'\357\273\277h 1 0' $'\357\273\277h' \
     'It begins with a byte order mark, which editors do not show: save FILE as UTF-8 without it.'
 mended 'a no-break space' 'h 1\302\2402 0\n' 'line 1: Literal' $'h 1\302\2402 0' $'1\302\2402' \
-    'It has a no-break space, which looks like a space and is none: write a plain one.'
-mended 'a minus sign of print' 'h 1 \342\210\2222 0\n' 'line 1: Literal' $'h 1 \342\210\2222 0' $'\342\210\2222' \
-    "It has a long dash or a minus sign of print: write the plain '-'."
+    'It has a no-break space, which only looks like a space: type a plain one.'
+mended 'a byte order mark of UTF-16' '\377\376h\000 \0001\000\n' 'line 1: FirstToken' $'\377\376h? ?1?' $'\377\376h?' \
+    'It begins with a byte order mark, which editors do not show: save FILE as UTF-8 without it.'
+mended 'a narrow no-break space' 'h 1\342\200\2572 0\n' 'line 1: Literal' $'h 1\342\200\2572 0' $'1\342\200\2572' \
+    'It has a no-break space, which only looks like a space: type a plain one.'
+for byte in 220 221 222 223 224 225; do
+    mended "a dash, $byte" "h 1 \\342\\200\\${byte}2 0\n" 'line 1: Literal' "$(printf "h 1 \\342\\200\\${byte}2 0")" \
+        "$(printf "\\342\\200\\${byte}2")" "It has a long dash or a typographic minus sign: type a plain '-'."
+done
+mended 'a typographic minus sign' 'h 1 \342\210\2222 0\n' 'line 1: Literal' $'h 1 \342\210\2222 0' $'\342\210\2222' \
+    "It has a long dash or a typographic minus sign: type a plain '-'."
+for byte in 213 214 215 216 217 250 251; do
+    mended "a hidden character, $byte" "h 1 2 0\\342\\200\\$byte\n" 'line 1: Literal' "$(printf "h 1 2 0\\342\\200\\$byte")" \
+        "$(printf "0\\342\\200\\$byte")" 'It has a character that editors do not show: type the line again.'
+done
+mended 'a file of gzip' '\037\213\010\000\n' 'line 1: FirstToken' '????' '????' "FILE is compressed: give it as '<(zcat FILE)'."
+mended 'a file of xz' '\3757zXZ\000\n' 'line 1: FirstToken' $'\3757zXZ?' $'\3757zXZ?' "FILE is compressed: give it as '<(xzcat FILE)'."
 mended 'no weight' 'c x\n-2 -1 0\n' 'line 2: FirstToken' '-2 -1 0' '-2' \
-    "A clause begins with 'h' where it must hold, else with its weight: 'h -1 0' or '3 -1 0'."
+    "A clause begins with 'h' if it must hold, else with its weight: 'h -1 0' or '3 -1 0'."
 mended 'h in the older form' 'p wcnf 2 1 7\nh 1 0\n' 'line 2: FirstToken' 'h 1 0' h \
-    "Below a line 'p wcnf V C T' a clause begins with its weight; with T where it must hold."
+    "Below a line 'p wcnf V C T' a clause begins with its weight, or with T if it must hold."
 mended 'another sign of a comment' '# x\n' 'line 1: FirstToken' '# x' '#' "A comment begins with 'c'."
-mended 'a result' 'o 3\ns UNKNOWN\n' 'line 1: FirstToken' 'o 3' o 'This is a line of a result: the instance comes first, then its result.'
+mended 'a result' 'o 3\ns UNKNOWN\n' 'line 1: FirstToken' 'o 3' o 'This is a line of a result: give the instance first, then its result.'
 mended 'a plus' '+3 1 0\n' 'line 1: FirstToken' '+3 1 0' '+3' "A number has no '+'."
 mended 'a second header' 'h 1 0\np wcnf 1 1 1\n' 'line 2: OldForm' 'p wcnf 1 1 1' p \
-    "A line 'p wcnf' can only be the first one that is no comment; today's form has none."
-mended 'a weight of 0' '0 1 0\n' 'line 1: Weight' '0 1 0' 0 'A weight is 1 at least: what costs nothing can be left out.'
+    "A line 'p wcnf' can only come before all clauses; today's form has none."
+mended 'a weight of 0' '0 1 0\n' 'line 1: Weight' '0 1 0' 0 'A weight is at least 1: what costs nothing can be left out.'
 mended 'a weight with decimals' '1.5 1 0\n' 'line 1: Weight' '1.5 1 0' 1.5 \
-    'A weight is a whole number: multiply all weights, so that no decimals are left.'
+    'A weight is a whole number: multiply all weights by one factor until they are whole.'
 mended 'a weight with a leading 0' '01 1 0\n' 'line 1: Weight' '01 1 0' 01 'A number has no leading 0.'
-mended 'a weight with a letter' '3x 1 0\n' 'line 1: Weight' '3x 1 0' 3x 'A weight has digits alone.'
+mended 'a weight with a letter' '3x 1 0\n' 'line 1: Weight' '3x 1 0' 3x 'A weight has only digits.'
 mended 'a weight that is too large' '4611686018427387904 1 0\n' 'line 1: Weight' '4611686018427387904 1 0' 4611686018427387904 \
-    'A weight is below 2^62 = 4611686018427387904, and so are all together.'
+    'A weight is below 2^62 = 4611686018427387904, and so is the sum of all weights.'
 mended 'a weight above the last number' 'p wcnf 2 1 7\n8 1 0\n' 'line 2: Weight' '8 1 0' 8 \
     "No weight is above T of the line 'p wcnf V C T', which makes a clause hard."
-mended 'a word' 'h 1 x2 0\n' 'line 1: Literal' 'h 1 x2 0' x2 "A literal is a variable from 1 on, with '-' before it for its negation."
+mended 'a word' 'h 1 x2 0\n' 'line 1: Literal' 'h 1 x2 0' x2 "A literal is a variable, numbered from 1, with '-' before it for its negation."
 mended 'a literal with a plus' 'h 1 +2 0\n' 'line 1: Literal' 'h 1 +2 0' '+2' "A number has no '+'."
 mended 'a literal with a leading 0' 'h 1 -02 0\n' 'line 1: Literal' 'h 1 -02 0' -02 'A number has no leading 0.'
-mended 'a negated 0' 'h 1 -0\n' 'line 1: Literal' 'h 1 -0' -0 'The end of a clause is a plain 0, and variables begin at 1.'
-mended 'commas' 'h 1,2 0\n' 'line 1: Literal' 'h 1,2 0' 1,2 'Words stand apart by spaces or tabs alone.'
+mended 'a negated 0' 'h 1 -0\n' 'line 1: Literal' 'h 1 -0' -0 'A clause ends with a plain 0, and variables begin at 1.'
+mended 'commas' 'h 1,2 0\n' 'line 1: Literal' 'h 1,2 0' 1,2 'Only spaces and tabs separate words.'
 mended 'no 0' 'h 1 2\n0\n' 'line 1: NoZero' 'h 1 2' '' 'A clause ends with 0, on the line on which it begins.'
 mended 'two clauses' 'h 1 0 3 2 0\n' 'line 1: AfterZero' 'h 1 0 3 2 0' 3 \
     'The 0 ends the clause: each clause and each comment has a line of its own.'
 mended 'two clauses, the second one hard' 'h 1 0 h 2 0\n' 'line 1: Literal' 'h 1 0 h 2 0' h \
     'The 0 ends the clause: each clause and each comment has a line of its own.'
 mended 'a variable that is too large' 'h 4194305 0\n' 'line 1: Variable' 'h 4194305 0' 4194305 \
-    'A variable is 2^22 = 4194304 at most: number them from 1 on without gaps.'
+    'A variable is at most 2^22 = 4194304: number them from 1 without gaps.'
 mended 'a variable above the header' 'p wcnf 2 1 7\n7 1 -3 0\n' 'line 2: Variable' '7 1 -3 0' -3 \
-    "A variable is V of the line 'p wcnf V C T' at most: mend that line, or this."
+    "A variable is at most V of the line 'p wcnf V C T': correct that line or this one."
 mended 'weights together' '4611686018427387903 1 0\n1 2 0\n' 'line 2: WeightSum' '1 2 0' 1 \
-    'With this weight all weights together reach 2^62 = 4611686018427387904: take smaller ones.'
+    'With this weight the sum of all reaches 2^62 = 4611686018427387904: use smaller ones.'
 mended 'a text for SAT' 'p cnf 2 1\n1 2 0\n' 'line 1: Header' 'p cnf 2 1' '' \
-    "This is a text for SAT: leave this line out, and write 'h' before each clause that must hold."
+    "This is a CNF for SAT solvers: remove this line, and put 'h' before clauses that must hold."
 mended 'no weight of hard clauses' 'p wcnf 2 1\n1 2 0\n' 'line 1: Header' 'p wcnf 2 1' '' \
-    "T of 'p wcnf V C T' is missing, which makes a clause hard: it is above all weights."
+    "T of 'p wcnf V C T' is missing: the weight that makes a clause hard, above all others."
 mended 'a weight of hard clauses that is too large' 'p wcnf 2 1 4611686018427387905\n' 'line 1: Header' 'p wcnf 2 1 4611686018427387905' '' \
     'The last number T is from 1 to 2^62 = 4611686018427387904: any above all weights will do.'
 mended 'a weight of hard clauses of 0' 'p wcnf 2 1 0\n' 'line 1: Header' 'p wcnf 2 1 0' '' \
     'The last number T is from 1 to 2^62 = 4611686018427387904: any above all weights will do.'
-mended 'too many variables' 'p wcnf 4194305 1 2\n' 'line 1: Header' 'p wcnf 4194305 1 2' '' 'There may be 2^22 = 4194304 variables.'
-mended 'too many clauses' 'p wcnf 1 4456449 2\n' 'line 1: Header' 'p wcnf 1 4456449 2' '' 'There may be 4456448 clauses: 2^22 hard and 2^18 soft ones.'
+mended 'too many variables' 'p wcnf 4194305 1 2\n' 'line 1: Header' 'p wcnf 4194305 1 2' '' 'At most 2^22 = 4194304 variables are allowed.'
+mended 'too many clauses' 'p wcnf 1 4456449 2\n' 'line 1: Header' 'p wcnf 1 4456449 2' '' 'At most 4456448 clauses are allowed: 2^22 hard and 2^18 soft ones.'
 mended 'another header' 'p max 1\n' 'line 1: Header' 'p max 1' '' \
-    "In the older form this line is 'p wcnf V C T', three numbers; in today's there is none."
+    "In the older form this line is 'p wcnf V C T' with three numbers; today's form has none."
 mended 'more clauses' 'c x\np wcnf 2 1 7\n7 1 0\n7 2 0\n' 'line 4: Count' '7 2 0' '' "There are more clauses than C of the line 'p wcnf V C T' says."
 mended 'fewer clauses' 'c x\np wcnf 2 3 7\n7 1 0\n' 'line 2: Count' 'p wcnf 2 3 7' '' 'There are fewer clauses than this line says.'
 mended 'bytes that command a terminal' 'h\t1 \033[31m\001 0\r\n' 'line 1: Literal' $'h\t1 ?[31m? 0' '?[31m?' \
-    "A literal is a variable from 1 on, with '-' before it for its negation."
+    "A literal is a variable, numbered from 1, with '-' before it for its negation."
 a=$(printf 'a%.0s' {1..100})
-mended 'a long word' "h ${a}a 0\n" 'line 1: Literal' "h ${a:2} .." "$a .." "A literal is a variable from 1 on, with '-' before it for its negation."
+mended 'C1 controls' 'h 1 \233x\302\233\303\204 0\n' 'line 1: Literal' $'h 1 ?x\302?\303\204 0' $'?x\302?\303\204' \
+    "A literal is a variable, numbered from 1, with '-' before it for its negation."
+mended 'a long word' "h ${a}a 0\n" 'line 1: Literal' "h ${a:2} .." "$a .." "A literal is a variable, numbered from 1, with '-' before it for its negation." 3
+many=$(seq -s ' ' 1 40)
+mended 'a word beyond what is shown' "h $many x 0\n" 'line 1: Literal' "$(head -c 100 <<< "h $many") .." x \
+    "A literal is a variable, numbered from 1, with '-' before it for its negation." 114
+mended 'a word like one before it' "h $many 0 40 0\n" 'line 1: AfterZero' "$(head -c 100 <<< "h $many") .." 40 \
+    'The 0 ends the clause: each clause and each comment has a line of its own.' 116
 mended 'a line of just the length' "h ${a:2}\n" 'line 1: Literal' "h ${a:2}" "${a:2}" \
-    "A literal is a variable from 1 on, with '-' before it for its negation."
+    "A literal is a variable, numbered from 1, with '-' before it for its negation."
 
 # Faults.
 lines text 'h 1 2'

@@ -9,7 +9,8 @@ fails() { # NAME FAULT: what was run ended with this fault
 lines text 'h 1 2 0' '3 -1 0' '4 -2 0'
 lines result 'o 3' 's OPTIMUM FOUND' 'v 10'
 lines proof '6 0 5 4 2 3 1 0'
-for words in 'solve text' 'check text result proof' 'encode text 3' '--help' 'solve --help' '--version'; do
+lines cores 'core 3 1 3 4 0' '7 0 6 4 5 2 3 1 0'
+for words in 'solve text' 'check text result proof' 'lower text cores' 'encode text 3' '--help' 'solve --help' '--version'; do
     # shellcheck disable=SC2086
     if [ -c /dev/full ]; then
         err=$(cd "$work" && timeout 60 "$wmax" $words 2>&1 > /dev/full)
@@ -103,6 +104,7 @@ if [ -e "$work/device.so" ]; then
     each text encode text 3
     lines cores 'core 3 1 3 4 0' '7 0 6 4 5 2 3 1 0'
     for device in out text; do each $device encode --profile 5 --proof cores text 3; done
+    for device in out text; do each $device lower text cores; done
     lines given '6 0 1 0'
     each out check text result given
 fi

@@ -86,8 +86,12 @@ lines bad 'h 1'
 lines from 'o 3' 's SATISFIABLE' 'v 10'
 call solve --from from bad
 expect 'a faulty text' 2 '' 'error: line 1: NoZero'
-call solve --from missing text
-expect 'a missing result' 3 '' 'error: Read'
+lines proof before
+call solve --from missing --proof proof text
+expect 'a missing result' 3 '' "error: Read: cannot open or read 'missing' (--from)"
+ok 'a missing result: the certificate of an earlier run stays' [ "$(cat "$work/proof")" = before ]
+call solve --from . text
+expect 'a folder as result' 3 '' "error: Read: cannot open or read '.' (--from)"
 call solve --from from missing
 expect 'a missing text' 3 '' 'error: Read'
 cp "$work/from" "$work/before"
@@ -107,6 +111,14 @@ ok 'a run that was stopped before its first solution goes on' [ "$status" = 30 -
 lines best 'o 3' 's SATISFIABLE' 'v 10'
 call solve --from best --best best --conflicts 0 text
 ok 'nothing is lost without effort' [ "$status" = 0 -a "$(cat "$work/best")" = $'o 3\ns SATISFIABLE\nv 10' ]
+lines from 'o 4' 's SATISFIABLE' 'v 01'
+lines best 'o 3' 's SATISFIABLE' 'v 10'
+for files in 'from best' 'best from'; do
+    read -r one other <<< "$files"
+    cp "$work/$other" "$work/kept"
+    call solve --from $one --best kept --conflicts 1 text
+    ok "the cheaper of two, --from $one" [ "$(head -n 1 <<< "$out")" = 'o 3' -a "$(head -n 1 "$work/kept")" = 'o 3' ]
+done
 out=$(cd "$work" && timeout 60 "$wmax" solve --from <(cat best) <(cat text) 2>&1)
 ok 'from pipes' [ "$?" = 30 -a "$(head -n 2 <<< "$out" | paste -sd ' ')" = 'o 3 s OPTIMUM FOUND' ]
 

@@ -7,7 +7,7 @@ ok 'make install' make -s install DESTDIR="$work/root" PREFIX=/usr > /dev/null
 page=$work/root/usr/share/man/man1/wmax.1
 ok 'the program' cmp -s wmax "$work/root/usr/bin/wmax"
 ok 'it can be run' [ "$("$work/root/usr/bin/wmax" --version)" = "$("$wmax" --version)" ]
-for command in solve check explain encode; do
+for command in solve check lower explain encode; do
     ok "the page has $command" grep -qx ".SH wmax $command" "$page"
     for option in $("$wmax" $command --help | grep -oE '^ +(-., )?--[a-z]+' | grep -oE '[-]-[a-z]+'); do
         ok "the page has $command $option" grep -qF "${option//-/\\-}" "$page"
@@ -30,6 +30,6 @@ ok 'faults are printed' [ "$(wc -w <<< "$printed")" -gt 25 ]
 ok 'the page sends nobody elsewhere for faults' [ -z "$(grep -E '(README|FAULTS\.md).* (has|have) (the others|all)\.' "$page")" ]
 if command -v man > /dev/null; then
     ok 'man has nothing to say against it' [ -z "$(man --warnings -l "$page" 2>&1 > /dev/null)" ]
-    ok 'man shows it' [ "$(MANWIDTH=100 man -l "$page" 2> /dev/null | grep -cE '^ +wmax (solve|check|explain|encode) ')" -ge 8 ]
+    ok 'man shows it' [ "$(MANWIDTH=100 man -l "$page" 2> /dev/null | grep -cE '^ +wmax (solve|check|lower|explain|encode) ')" -ge 8 ]
 fi
 totals

@@ -81,6 +81,7 @@ each 'from a solution' solve --from result --proof proof text
 each 'explain, no result' explain text
 lines given 'core 3 1 3 4 0' '7 0 6 4 5 2 3 1 0'
 each 'encode: a core' encode --profile 5 --proof given text 3
+each 'lower: a core' lower text given
 lines text 'h 1 -1 0' '2 1 1 0' '3 -1 0'
 each 'a clause with opposites' solve --proof proof text
 printf 'c x\r\n\r\nh -1 0\r\n7 1 0' > "$work/text"
@@ -103,5 +104,6 @@ lines given '5 3 1 0 0' '6 -3 2 0 -5 1 0' '7 2 0 1 2 0' '8 0 7 3 4 0'
 each 'check: a definition' check text result given
 lines given '5 2 0 1 2 0' '6 0 5 3 4 0'
 each 'check: RUP lines' check text result given
+each 'lower: no solution' lower text given
 
 totals

@@ -47,7 +47,7 @@ expect 'empty, as without it' 0 "$first" ''
 # What is no profile, and what is not looked at.
 cp "$work/proof" "$work/before"
 for value in 0 6 05 ' 5' 5x any five $'\377'; do
-    fault='error: WMAX_PROFILE names no profile from 1 to 5'
+    fault='error: WMAX_PROFILE is not a profile from 1 to 5'
     with "$value" solve --proof proof --best best text
     expect "solve, $value" 2 '' "$fault"
     ok "solve, $value: nothing was written" cmp -s "$work/proof" "$work/before"
@@ -133,7 +133,7 @@ ok 'spoiled' [ "$status" = 1 -a "${out##* }" -ge 9 ]
 
 # any reads PROOF more than once; FILE and RESULT may be pipes.
 cp examples/roster.lrat "$work/proof"
-refusal='error: check --profile any takes a regular file as PROOF, and no pipe'
+refusal='error: check --profile any needs a regular file as PROOF, not a pipe'
 out=$(cd "$work" && timeout 60 "$wmax" check --profile any text result <(cat proof) 2>&1)
 ok 'a pipe' [ "$? $out" = "2 $refusal" ]
 mkfifo "$work/fifo"

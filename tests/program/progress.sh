@@ -2,7 +2,7 @@
 # `--progress`: lines on standard error, and nothing else is different.
 source "$(dirname "$0")/../lib"
 
-form='[0-9]+\.[0-9] s, ((no solution yet|cost [0-9]+)(, at least [0-9]+(, gap [0-9]+\.[0-9]{2} %)?)?, [0-9]+ conflicts, [0-9]+/s, [0-9]+ propagations, [0-9]+ learned, [0-9]+ restarts, [0-9]+\.[0-9]{2} % spent|writing the certificate)'
+form='[0-9]+\.[0-9] s, ((no solution( yet)?|cost [0-9]+)(, at least [0-9]+(, gap [0-9]+\.[0-9]{2} %)?)?, [0-9]+ conflicts, [0-9]+/s, [0-9]+ propagations, [0-9]+ learned, [0-9]+ restarts,( [0-9]+ MB,)? [0-9]+\.[0-9]{2} % spent|writing the certificate)'
 
 plain() { # WORD..: the run without the option: `out`, `status` and the certificate
     rm -f "$work/proof"
@@ -62,17 +62,47 @@ ok 'profile 5: at least, never more than the optimum, and the gap' awk -F '[ ,]+
         last = low
         lines++
         off = gap - 100 * (cost - low) / cost
-        if (/gap/ && (off < -0.01 || off > 0.01)) wrong = 1
+        if (/gap/ && (off < -0.0001 || off > 0.0101 || (gap == 0) != (low == cost))) wrong = 1
     }
     END { exit wrong || !lines }' <<< "$(grep cost <<< "$err")"
 ok 'the certificate is told of once, at the end' [ "$(grep -c 'writing the certificate' <<< "$err") $(tail -n 1 <<< "$err" | cut -d ' ' -f 3-)" = '1 writing the certificate' ]
 call solve --profile 5 --progress text
 ok 'no file, no word of it' [ -z "$(grep certificate <<< "$err")" ]
 
-# Nothing to tell.
+# Each solution is shown, also the later ones.
+awk -v family=network -v size=40 -v seed=1 -f bench/maxsat.awk > "$work/text"
+several=0
+for profile in 1 2 3 4 5; do
+    call solve --profile $profile --conflicts 3000 --progress text
+    told=$(grep '^o' <<< "$out")
+    ok "profile $profile: a line at each solution" [ "$(sed -nE 's/.*, cost ([0-9]+),.*/o \1/p' <<< "$err" | uniq)" = "$told" ]
+    [ "$(wc -l <<< "$told")" = 1 ] || several=$((several + 1))
+done
+ok 'there are later ones' [ "$several" -gt 0 ]
+
+# The end is told also where there was nothing to tell before.
+ended() { # NAME STATUS LINE WORD..: one line on standard error, which has the form and these words
+    local name=$1 wanted=$2 line=$3
+    shift 3
+    call solve --progress text
+    ok "$name" [ "$status $(tail -n 1 <<< "$out")" = "$wanted $line" -a "$(wc -l <<< "$err")" = 1 ]
+    ok "$name: the form" grep -qxE "$form" <<< "$err"
+    for word; do ok "$name: $word" grep -qF -- "$word" <<< "$err"; done
+}
 lines text 'h 1 0' 'h -1 0'
-call solve --progress text
-expect 'no solution' 20 's UNSATISFIABLE' ''
+ended 'no solution' 20 's UNSATISFIABLE' ' s, no solution, 0 conflicts, '
+cp examples/roster.wcnf "$work/text"
+call solve --progress --conflicts 0 text
+ok 'no effort' [ "$status $out" = '0 s UNKNOWN' -a "$(wc -l <<< "$err")" = 1 ]
+ok 'no effort: the form' grep -qxE "$form" <<< "$err"
+ok 'no effort: all of it is spent' grep -qE ' s, no solution yet, 0 conflicts, .*, 100\.00 % spent$' <<< "$err"
+if [ -r /proc/self/status ]; then ok 'the memory' grep -qE ', [1-9][0-9]* MB, ' <<< "$err"; fi
+# A gap that is small, and none: of 2^40 all but one by a core of two soft clauses.
+lines text 'h -1 -2 0' '1099511627776 1 0' '1099511627776 2 0' '1 3 0' '1 -3 4 0' '1 -4 0'
+call solve --profile 5 --progress text
+ok 'no gap is told of costs that differ' awk -F '[ ,]+' '
+    { for (i = 3; i <= NF; i++) { if ($i == "least") low = $(i + 1); if ($i == "cost") cost = $(i + 1); if ($i == "gap" && ($(i + 1) == 0) != (low == cost)) wrong = 1 } }
+    END { exit wrong }' <<< "$err"
 lines bad 'h 1'
 call solve --progress bad
 expect 'a faulty text' 2 '' 'error: line 1: NoZero'
@@ -161,7 +191,7 @@ same 'a terminal'
 ok 'a terminal: one line, ended at the end' [ "$(wc -l < "$work/screen")" = 1 -a -z "$(tail -c 1 "$work/screen")" ]
 ok 'a terminal: written over at each solution' [ "$(tr -cd '\r' < "$work/screen" | wc -c)" -ge "$(grep -c '^o' <<< "$out")" ]
 ok 'a terminal: it begins with a cleared line' [ "$(head -c "${#clear}" "$work/screen")" = "$clear" ]
-ok 'a terminal: the last cost stands' grep -qxE "${form/(no solution yet|cost \[0-9\]+)/$(grep '^o' <<< "$out" | tail -n 1 | sed 's/^o/cost/')}" <<< "$(shown)"
+ok 'a terminal: the last cost stands' grep -qxE "${form/(no solution( yet)?|cost \[0-9\]+)/$(grep '^o' <<< "$out" | tail -n 1 | sed 's/^o/cost/')}" <<< "$(shown)"
 lose
 terminal err solve --progress --best folder/best --proof proof pipe
 same 'a terminal, a warning'

@@ -163,7 +163,7 @@ for words in --version -V; do
 done
 for words in $'te\377xt' $'--proof=\200'; do
     call solve "$words"
-    expect 'a word that is not UTF-8' 2 "" 'error: a word of the command line is not UTF-8'
+    expect 'a word that is not UTF-8' 2 "" 'error: the command line has a word that is not UTF-8'
 done
 
 # Standard input, output and error may be closed at the start: no file that is opened takes their number. Without

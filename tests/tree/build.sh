@@ -102,7 +102,7 @@ done
 # Interrupted in the middle: nothing goes on, nothing is left but what was built.
 for signal in INT TERM HUP; do
     rm -rf "$work"/crates/*/out "$JOURNAL"*
-    (cd "$work" && exec env --default-signal=INT LANES=2 SLOW='left right' ONE= REFUSED=none PATH="$work/bin:$PATH" bash tools/build > .out 2>&1 < /dev/null) &
+    (cd "$work" && exec env --default-signal="$signal" LANES=2 SLOW='left right' ONE= REFUSED=none PATH="$work/bin:$PATH" bash tools/build > .out 2>&1 < /dev/null) &
     build=$!
     for ((k = 0; k < 300; k++)); do
         [ "$(grep -cE '^begin (left|right) [12] ' "$JOURNAL" 2> /dev/null)" = 2 ] && break

@@ -1,10 +1,11 @@
 -- Cores: which assumptions cannot hold together.
-use Rattle.std.specs.Prelude.{◌≡◌, ℕ, ◌<◌, ◌≤◌, false, List, length, map, Some, All, Contains}
-use Rattle.std.specs.Prelude.{⊤}
+use Rattle.std.specs.Prelude.{◌≡◌, ℕ, ◌<◌, ◌≤◌, false, List, length, map, Some, None, All, Contains}
+use Rattle.std.specs.Prelude.{⊤, ◌⊎◌}
 use Rattle.cnf.specs.Literal.{Literal, negation}
 use Rattle.cnf.specs.Clause.{has_repeat, is_subset}
 use Rattle.clauses.specs.Slots.{Slots, clause_at}
 pub use Rattle.propagate.specs.Subsets.{HasSubset}
+use Rattle.propagate.specs.Trail.{Assigned, level_in, reason_in}
 use Rattle.analyze.specs.declared.analyzer.FinalClause.{FinalClause}
 use Rattle.analyze.specs.Analyzer.{IsFalsified, IsFinal}
 use Rattle.lrat_log.specs.Log.{LogLine}
@@ -35,6 +36,11 @@ pub record IsWhyFalse (s : Search) (literal : Literal) (clause : FinalClause) : 
   pub reason : ℕ
   pub falsified : IsFalsified (s.engine).trail literal reason
   pub final : IsFinal (s.store).slots (s.engine).trail literal reason clause
+
+-- no clause made it false: it is at level 0, or its negation was decided
+abbrev pub RestsOnNothing : List Assigned → Literal → Type 0
+RestsOnNothing trail l =
+    (level_in trail l.variable ≡ Some 0) ⊎ (reason_in trail l.variable ≡ None)
 
 -- the clause explains why a literal is false, and no live clause is a subset of it
 pub record IsCoreClause (s : Search) (clause : FinalClause) : Type 0 where

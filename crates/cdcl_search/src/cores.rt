@@ -6,15 +6,14 @@
 // takes the time of its analysis, of the assumptions and of these rows, and none by the number of
 // variables or of clauses.
 ghost use Rattle.std.specs.Prelude.{◌≡◌, ◌<◌, ◌≤◌, ◌+◌, true, false, map, length, All, Contains};
-ghost use Rattle.std.specs.Prelude.{IfOk, IfSome, OnOk, OnErr, Some};
+ghost use Rattle.std.specs.Prelude.{IfOk, IfSome, IfNone, OnOk, OnErr, Some};
 ghost use Rattle.cnf.specs.Literal.{Literal, negation};
 ghost use Rattle.propagate.specs.Trail.{value_in, depth_of};
 ghost use Rattle.analyze.specs.Analyzer.{IsFalsified};
 ghost use Rattle.cdcl_search.specs.Invariant.{NotesUnits, zero_of};
 ghost use Rattle.cdcl_search.specs.Running.{IsReady, Runs};
 ghost use Rattle.cdcl_search.specs.Cores.{IsCoreClause, IsRefusal};
-ghost use Rattle.cdcl_search.specs.Cores.{IsWhyFalse};
-ghost use Rattle.cdcl_search.specs.Cores.{LearnsCore};
+ghost use Rattle.cdcl_search.specs.Cores.{IsWhyFalse, RestsOnNothing, LearnsCore};
 
 use crate::input::Input;
 use crate::search::Search;
@@ -113,6 +112,8 @@ impl Search {
         requires small { falsified.variable ≤ self.old.engine.variables }
         requires falsified { value_in self.old.engine.trail falsified ≡ Some false }
         ensures explained { IfOk result (λ found. IfSome found (IsWhyFalse self.old falsified)) }
+        ensures none { IfOk result
+            (λ found. IfNone found (RestsOnNothing self.old.engine.trail falsified)) }
         ensures unchanged { self.new ≡ self.old }
     {
         if self.engine.level(falsified.variable()) == Some(0) {

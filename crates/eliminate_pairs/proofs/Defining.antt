@@ -16,10 +16,11 @@ use Rattle.eliminate_pairs.specs.Pairs.{Ground, stage_of, positive, whole_clause
 use Rattle.eliminate_pairs.specs.Pairs.{whole_line}
 use Rattle.eliminate_pairs.specs.Pairs.{side_line, replaced, IsDefined, Stage, IsStage, IsOpenLog}
 use Rattle.eliminate_pairs.specs.Pairs.{FitNames, Keeps, KeepsLog, AreRare, RestsWhereRare}
-use Rattle.eliminate_pairs.specs.Pairs.{Replaces, LeavesLog}
+use Rattle.eliminate_pairs.specs.Pairs.{LeadsTo, Replaces, LeavesLog}
 use Rattle.clauses.proofs.Laws.{clause_kept, clause_new}
 use Rattle.lrat_log.proofs.Laws.{additions_few, additions_push}
 use Rattle.eliminate_names.proofs.Laws.{name-push}
+use Rattle.eliminate_pairs.proofs.Leading.{breaks_at, leads_here, leads_off, leads_on}
 use Rattle.eliminate_pairs.proofs.Staging.{added_stage, deleted_stage, with_whole, with_side}
 use Rattle.eliminate_pairs.proofs.Staging.{with_replaced}
 use Rattle.eliminate_pairs.proofs.Staging.{replaced_line_of}
@@ -27,6 +28,9 @@ use Rattle.eliminate_pairs.proofs.Staging.{replaced_line_of}
 -- right work has an open log
 pub open_log : (ground : Ground) (s : Stage) → IsStage ground s → IsOpenLog ground s.lines
 open_log ground s k = record { steps = k.work.log; none_learned = k.work.none_learned }
+
+open_log_of : (s : Stage) → KeepsLog s s.lines
+open_log_of s ground k = open_log ground s k
 
 -- the names after an addition
 abbrev pub more_names : NamesState → NamesState
@@ -155,9 +159,6 @@ pub kept_log : (s t : Stage) (lines : List LogLine) → lines ≡ t.lines → Ke
 kept_log s t lines e keeps ground k =
     subst (IsOpenLog ground) (sym e) (open_log ground t (keeps ground k))
 
-pub keeps_as : (s t u : Stage) → u ≡ t → Keeps s t → Keeps s u
-keeps_as s t u e keeps ground k = subst (IsStage ground) (sym e) (keeps ground k)
-
 -- the name of a clause stays where another one comes
 pub name_stays : (n n' : NamesState) (r : ℕ) → n' ≡ more_names n → r < length n.names
     → name_at n'.names r ≡ name_at n.names r
@@ -202,6 +203,7 @@ pub record Defines (s : Stage) (v : ℕ) (d : Fresh) (slots : Slots) (n : NamesS
   pub defined : IsDefined slots d
   pub fit : FitNames n slots lines
   pub keeps : Keeps s (stage_of d.variable slots n lines)
+  pub moves : LeadsTo s (stage_of d.variable slots n lines)
 
 pub defines_same : (s : Stage) (v : ℕ) (d : Fresh) (slots slots' : Slots) (n n' : NamesState)
     (lines lines' : List LogLine) → slots' ≡ slots → n' ≡ n → lines' ≡ lines
@@ -215,6 +217,19 @@ defines_same s v d slots slots' n n' lines lines' p q r h =
 rests_on : (s t u : Stage) → RestsWhereRare s t → RestsWhereRare t u → RestsWhereRare s u
 rests_on s t u p q r = q (subst (λ (x : Stage). AreRare x.slots) (sym (p r)) r) ∙ p r
 
+-- nothing was done yet
+pub replaces_none : (v most : ℕ) (slots : Slots) (n : NamesState) (lines : List LogLine)
+    → v ≤ most → FitNames n slots lines
+    → Replaces (stage_of v slots n lines) most v slots n lines
+replaces_none v most slots n lines le fit = record {
+  more = omega arith;
+  most = le;
+  fit = fit;
+  keeps = λ ground k. k;
+  moves = leads_here (stage_of v slots n lines);
+  rests = λ rare. refl;
+}
+
 module _ (s : Stage) (most last : ℕ) (slots : Slots) (n : NamesState) (lines : List LogLine)
     (h : Replaces s most last slots n lines) where
   -- pairs are replaced after others
@@ -226,6 +241,9 @@ module _ (s : Stage) (most last : ℕ) (slots : Slots) (n : NamesState) (lines :
     most = omega (arith, next.most);
     fit = next.fit;
     keeps = λ ground k. next.keeps ground (h.keeps ground k);
+    moves =
+        leads_on s (stage_of last slots n lines) (stage_of last' slots' n' lines') h.moves
+        next.moves;
     rests =
         rests_on s (stage_of last slots n lines) (stage_of last' slots' n' lines') h.rests
         next.rests;
@@ -236,6 +254,7 @@ module _ (s : Stage) (most last : ℕ) (slots : Slots) (n : NamesState) (lines :
       → LeavesLog s lines'
   leaves_on lines' next = record {
     log = λ ground k. next.log ground (h.keeps ground k);
+    moves = leads_off s (stage_of last slots n lines) lines' h.moves next.moves;
     rests =
         λ rare. next.rests (subst (λ (x : Stage). AreRare x.slots) (sym (h.rests rare)) rare)
         ∙ ap (λ (x : Stage). x.lines) (h.rests rare);
@@ -244,6 +263,9 @@ module _ (s : Stage) (most last : ℕ) (slots : Slots) (n : NamesState) (lines :
   pub leaves_now : LeavesLog s lines
   leaves_now = record {
     log = λ ground k. open_log ground (stage_of last slots n lines) (h.keeps ground k);
+    moves =
+        let t : Stage = stage_of last slots n lines in
+        (t, h.moves, breaks_at t lines refl (open_log_of t));
     rests = λ rare. ap (λ (x : Stage). x.lines) (h.rests rare);
   }
 

@@ -1,5 +1,5 @@
 -- A stage stays one where its clauses move together, with their names.
-use Rattle.std.proofs.Common.{◌≡◌, ℕ, ◌<◌, List, map, Some, sym, ◌∙◌, ap}
+use Rattle.std.proofs.Common.{◌≡◌, ℕ, ◌<◌, List, map, Some, inr, refl, sym, ◌∙◌, ap}
 use Rattle.std.proofs.Common.{subst, arith}
 use Rattle.std.specs.Prelude.{All}
 use Rattle.cnf.specs.Clause.{Satisfies}
@@ -10,6 +10,7 @@ use Rattle.eliminate_names.specs.Together.{live_names}
 use Rattle.eliminate_names.specs.Work.{NamesState}
 use Rattle.eliminate_names.proofs.Laws.{AreTogether, together_fit, was_there, work_together}
 use Rattle.eliminate_pairs.specs.Pairs.{Stage, Ground, IsStage, FitNames, Replaces, stage_of}
+use Rattle.eliminate_pairs.proofs.Leading.{defines_nothing, leads_by, leads_on}
 
 pub stage_together : (ground : Ground) (v : ℕ) (slots moved : Slots) (names n : NamesState)
     (lines : List LogLine) → AreTogether slots moved names n
@@ -43,6 +44,13 @@ replaces_together s most last slots moved names n lines t grown h = record {
   most = h.most;
   fit = fit_together slots moved names n lines t h.fit;
   keeps = λ ground k. stage_together ground last slots moved names n lines t (h.keeps ground k);
+  moves =
+      let all : Stage = stage_of last slots names lines in
+      let left : Stage = stage_of last moved n lines in
+      leads_on s all left h.moves (leads_by all left (record {
+        keeps = λ ground k. stage_together ground last slots moved names n lines t k;
+        pair = inr (defines_nothing all left refl refl);
+      }));
   rests = λ rare.
       let same : last ≡ s.variables = ap (λ (x : Stage). x.variables) (h.rests rare) in
       absurd (omega arith);

@@ -1,7 +1,7 @@
 -- Pairs of literals that a fresh variable stands for, and what their definition keeps.
-use Rattle.std.specs.Prelude.{◌≡◌, ◌≢◌, ℕ, ◌+◌, ◌<◌, ◌≤◌, Bool, true, false, List, [], ◌∷◌, All}
-use Rattle.std.specs.Prelude.{Some, None, ◌&&◌, nat_le, length, if◌then◌else◌}
-use Rattle.std.specs.Prelude.{Result, MatchResult}
+use Rattle.std.specs.Prelude.{◌≡◌, ◌≢◌, ℕ, zero, suc, ◌+◌, ◌<◌, ◌≤◌, Bool, true, false, List, []}
+use Rattle.std.specs.Prelude.{◌∷◌, ◌++◌, All, Some, None, ◌&&◌, ◌⊎◌, nat_le, length, take}
+use Rattle.std.specs.Prelude.{if◌then◌else◌, Result, MatchResult}
 use Rattle.std.specs.List.{AllByRecursion}
 use Rattle.cnf.specs.Literal.{Literal, Assignment, negation, literal_eq}
 pub use Rattle.cnf.specs.Literal.{positive}
@@ -10,6 +10,7 @@ use Rattle.cnf.specs.Lrat.{IsId}
 use Rattle.clauses.specs.Slots.{Slots, clause_at, live_clauses}
 use Rattle.lrat_log.specs.declared.lines.Name.{Name}
 use Rattle.lrat_log.specs.declared.lines.Hint.TheVariants.{Group}
+use Rattle.lrat_log.specs.declared.lines.Kind.{Kind}
 use Rattle.lrat_log.specs.declared.lines.Kind.TheVariants.{Definition}
 use Rattle.lrat_log.specs.Log.{LogLine, Given}
 use Rattle.lrat_log.specs.Steps.{StaysLogOver, AddsNoEmptyClause, learned_count, added_count}
@@ -131,10 +132,77 @@ pub record IsOpenLog (ground : Ground) (lines : List LogLine) : Type 0 where
 abbrev pub KeepsLog : Stage → List LogLine → Type 0
 KeepsLog before lines = (ground : Ground) → IsStage ground before → IsOpenLog ground lines
 
--- what a move leaves, and after an error the lines of a log
+-- the lines that give a pair a variable, where the whole clause has this name for either side
+abbrev pub definition_lines : ℕ → Literal → Literal → Name → Name → List LogLine
+definition_lines z a b m n = whole_line z a b ∷ side_line z a m ∷ side_line z b n ∷ []
+
+abbrev pub is_definition : Kind → Bool
+is_definition Definition = true
+is_definition other = false
+
+-- none of these lines defines anything
+abbrev pub DefineNothing : List LogLine → Type 0
+DefineNothing lines = All (λ l. is_definition l.kind ≡ false) lines
+
+-- a pair that stood often got the next variable
+pub record DefinesOften (before after : Stage) : Type 0 where
+  pub left : Literal
+  pub right : Literal
+  pub often : StandOften before.slots left right
+  pub next : after.variables ≡ before.variables + 1
+  pub for_left : Name
+  pub for_right : Name
+  pub lines : after.lines
+      ≡ before.lines ++ definition_lines after.variables left right for_left for_right
+
+-- no pair got one
+pub record DefinesNone (before after : Stage) : Type 0 where
+  pub same : after.variables ≡ before.variables
+  pub more : List LogLine
+  pub none : DefineNothing more
+  pub lines : after.lines ≡ before.lines ++ more
+
+-- one move: it keeps what was right, and a pair that it gives a variable stood often before it
+pub record IsMove (before after : Stage) : Type 0 where
+  pub keeps : Keeps before after
+  pub pair : DefinesOften before after ⊎ DefinesNone before after
+
+-- some of the lines that give a variable to a pair that stood often
+pub record BeginsOften (before : Stage) (lines : List LogLine) : Type 0 where
+  pub left : Literal
+  pub right : Literal
+  pub often : StandOften before.slots left right
+  pub name : Name
+  pub count : ℕ
+  pub some : lines
+      ≡ take count (definition_lines (before.variables + 1) left right name name)
+
+-- a move that was refused: its lines are still those of a log, and a pair that they begin to define
+-- stood often
+pub record BreaksOff (before : Stage) (lines : List LogLine) : Type 0 where
+  pub log : KeepsLog before lines
+  pub more : List LogLine
+  pub all : lines ≡ before.lines ++ more
+  pub pair : BeginsOften before more ⊎ DefineNothing more
+
+-- what a move leaves
 abbrev pub Moves : {T E : Type 0} → Result T E → Stage → Stage → Type 0
 Moves result before after =
-    MatchResult result (λ _. Keeps before after) (λ _. KeepsLog before after.lines)
+    MatchResult result (λ _. IsMove before after) (λ _. BreaksOff before after.lines)
+
+-- so many moves, one after another
+abbrev pub AreMoves : ℕ → Stage → Stage → Type 0
+AreMoves zero before after = after ≡ before
+AreMoves (suc n) before after =
+    (between : Stage) × AreMoves n before between × IsMove between after
+
+-- moves alone lead from one stage to the other
+abbrev pub LeadsTo : Stage → Stage → Type 0
+LeadsTo before after = (n : ℕ) × AreMoves n before after
+
+-- the last of which was refused
+abbrev pub LeadsOff : Stage → List LogLine → Type 0
+LeadsOff before lines = (last : Stage) × LeadsTo before last × BreaksOff last lines
 
 -- no two literals stand together in four or more clauses
 abbrev pub AreRare : Slots → Type 0
@@ -144,18 +212,21 @@ AreRare slots = (a b : Literal) → StandOften slots a b → ⊥
 abbrev pub RestsWhereRare : Stage → Stage → Type 0
 RestsWhereRare before after = AreRare before.slots → after ≡ before
 
--- pairs got the variables after those of a stage, up to the last, which is at most a bound
+-- pairs got the variables after those of a stage, up to the last, which is at most a bound; each
+-- stood often when it got its own
 pub record Replaces (before : Stage) (bound last : ℕ) (slots : Slots) (n : NamesState)
     (lines : List LogLine) : Type 0 where
   pub more : before.variables ≤ last
   pub most : last ≤ bound
   pub fit : FitNames n slots lines
   pub keeps : Keeps before (stage_of last slots n lines)
+  pub moves : LeadsTo before (stage_of last slots n lines)
   pub rests : RestsWhereRare before (stage_of last slots n lines)
 
 -- and after an error
 pub record LeavesLog (before : Stage) (lines : List LogLine) : Type 0 where
   pub log : KeepsLog before lines
+  pub moves : LeadsOff before lines
   pub rests : AreRare before.slots → lines ≡ before.lines
 
 -- what a pass leaves, which answers with the last variable

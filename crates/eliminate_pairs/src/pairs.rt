@@ -50,8 +50,8 @@ pub(crate) struct Fresh {
 }
 
 /// Replaces pairs that stand in many clauses by fresh variables, the first of which is `vars + 1`;
-/// the answer is the last variable, which is at most `most`. Where no pair stands together in four
-/// or more clauses of three or more literals, nothing is done.
+/// the answer is the last variable, which is at most `most`. A pair gets one only where it stands
+/// together in four or more clauses of three or more literals.
 pub fn define_pairs<S: Sink>(
     store: &mut Store,
     names: &mut Names,
@@ -231,8 +231,7 @@ fn lacks(lits: &[Lit], variable: u32) -> bool
     true
 }
 
-/// Adds the three clauses that define a fresh variable as 'left or right'. No other function adds a
-/// definition.
+/// Adds the three clauses that define a fresh variable as 'left or right'.
 fn define<S: Sink>(
     store: &mut Store,
     names: &mut Names,

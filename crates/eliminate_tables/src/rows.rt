@@ -28,7 +28,7 @@ impl Model for Rows {
 
     ghost Value = { List (List ℕ) };
 
-    ghost view = { λ r. r.rows };
+    ghost view = { λ r. r.rows.rows };
 }
 
 impl Rows {

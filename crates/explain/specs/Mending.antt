@@ -1,11 +1,12 @@
 -- What is shown of a faulty text.
-use Rattle.std.specs.Prelude.{ℕ, List, [], ◌∷◌, ◌++◌, length, map, take, Option, nat_lt, ◌==◌}
+use Rattle.std.specs.Prelude.{ℕ, List, [], ◌∷◌, ◌++◌, length, take, Option, nat_lt, ◌==◌}
 use Rattle.std.specs.Prelude.{if◌then◌else◌}
+use Rattle.std.specs.Fmt.{decimal}
 use Rattle.std.specs.Io.KnownBytes.{Appends}
 use lib.Chars.{codes}
 use Rattle.text.specs.Text.{numbered_text}
 use Rattle.text.specs.Writing.{AppendsPart}
-use Rattle.explain.specs.Explanation.{shown}
+use Rattle.explain.specs.Explanation.{shown_text}
 use Rattle.explain.specs.declared.mending.TheConstants.{MOST_SHOWN}
 
 -- the line of this number; nothing where there is none
@@ -19,17 +20,23 @@ line_of text n = line_in (numbered_text text) n
 -- bytes as they are shown, and cut off at a limit
 abbrev pub cut_text : List ℕ → List ℕ
 cut_text bytes =
-    if nat_lt MOST_SHOWN (length bytes) then map shown (take MOST_SHOWN bytes) ++ codes " .."
-    else map shown bytes
+    if nat_lt MOST_SHOWN (length bytes) then shown_text (take MOST_SHOWN bytes) ++ codes " .."
+    else shown_text bytes
 
 -- how the line is shown
 abbrev pub shown_line : List ℕ → List ℕ
 shown_line line = codes "  " ++ (cut_text line ++ codes "\n")
 
+-- what stands before a word of it: the column, where the line as it is shown lacks the word
+abbrev pub place_text : ℕ → List ℕ
+place_text column =
+    if column == 0 then codes "  here: "
+    else codes "  here, column " ++ (decimal column ++ codes ": ")
+
 -- how a word of it is shown
-abbrev pub word_line : List ℕ → List ℕ
-word_line [] = []
-word_line (b ∷ bs) = codes "  here: " ++ (cut_text (b ∷ bs) ++ codes "\n")
+abbrev pub word_line : ℕ → List ℕ → List ℕ
+word_line column [] = []
+word_line column (b ∷ bs) = place_text column ++ (cut_text (b ∷ bs) ++ codes "\n")
 
 -- the line of this number, and then some advice
 pub record Mends (text : List ℕ) (n : ℕ) (out out' : Option (List ℕ)) : Type 0 where

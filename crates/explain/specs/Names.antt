@@ -1,5 +1,5 @@
 -- The names that comments give to variables: `c 7 = Ann Tue`.
-use Rattle.std.specs.Prelude.{ℕ, Bool, false, not, ◌&&◌, List, [], ◌∷◌, ◌++◌, map, bytes_eq}
+use Rattle.std.specs.Prelude.{ℕ, Bool, false, not, ◌&&◌, List, [], ◌∷◌, ◌++◌, bytes_eq}
 use Rattle.std.specs.Prelude.{if◌then◌else◌}
 use Rattle.std.specs.List.{flat_map}
 use lib.Chars.{codes}
@@ -10,7 +10,7 @@ use Rattle.text.specs.Words.{word_of}
 use Rattle.text.specs.Seen.{seen}
 use Rattle.text.specs.declared.words.Word.{Word}
 use Rattle.text.specs.declared.words.Word.TheVariants.{End, Literal, Above, Other}
-use Rattle.explain.specs.Explanation.{shown}
+use Rattle.explain.specs.Explanation.{shown_text}
 
 -- the token is a variable that the bits make true
 abbrev pub is_true_variable : List Bool → List ℕ → Bool
@@ -25,7 +25,7 @@ is_true_variable bits token = by (seen (word_of token))
 -- words, each after a space, and the end of their line
 abbrev pub words_text : List (List ℕ) → List ℕ
 words_text [] = codes "\n"
-words_text (w ∷ ws) = codes " " ++ (map shown w ++ words_text ws)
+words_text (w ∷ ws) = codes " " ++ (shown_text w ++ words_text ws)
 
 abbrev pub name_line : List (List ℕ) → List ℕ
 name_line words = codes "true:" ++ words_text words

@@ -2,6 +2,7 @@
 use Rattle.std.specs.Prelude.{◌≡◌, [], ◌∷◌, true, false, refl}
 use Rattle.cnf.specs.Literal.{positive as p, negative as n}
 use Rattle.cnf.specs.Problem.{Problem}
+use Rattle.explain.specs.Explanation.{shown_text}
 use Rattle.explain.specs.Falsified.{false_soft, false_hard}
 
 abbrev one_of_two : Problem
@@ -18,3 +19,12 @@ given_up = refl
 
 broken : false_hard one_of_two (false ∷ false ∷ []) ≡ 0 ∷ []
 broken = refl
+
+-- an umlaut (C3 84) and an em dash (E2 80 94) are shown whole
+two_characters :
+    shown_text (195 ∷ 132 ∷ 226 ∷ 128 ∷ 148 ∷ []) ≡ 195 ∷ 132 ∷ 226 ∷ 128 ∷ 148 ∷ []
+two_characters = refl
+
+-- ESC, and the control sequence introducer (9B) by itself and as UTF-8 (C2 9B)
+three_commands : shown_text (27 ∷ 155 ∷ 194 ∷ 155 ∷ []) ≡ 63 ∷ 63 ∷ 194 ∷ 63 ∷ []
+three_commands = refl

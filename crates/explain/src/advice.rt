@@ -1,8 +1,9 @@
 // What would mend a faulty line, in a sentence. Nothing rests on it: the fault and its line are the
 // reader's.
+use crate::mending::MOST_SHOWN;
 use cnf::limits::{MOST_HARD, MOST_SOFT, MOST_VARIABLES};
 use text::cutting::tokens;
-use text::digits::number;
+use text::digits::{is_blank, number};
 use text::pieces::Tokens;
 use text::words::{Word, read_word};
 use wcnf::faults::FaultKind;
@@ -12,6 +13,8 @@ use wcnf::faults::FaultKind;
 pub(crate) struct Advice<'a> {
     /// The word at which it is faulty; nothing where it is no single word.
     pub(crate) word: &'a [u8],
+    /// The column of that word, from 1; 0 where the line as it is shown has the whole word.
+    pub(crate) column: usize,
     /// What would mend it.
     pub(crate) sentence: &'static str,
 }
@@ -19,33 +22,59 @@ pub(crate) struct Advice<'a> {
 /// What is said of this line, which has the first fault of the text, of this kind. `header` is the
 /// line of the older form before it; nothing in today's form.
 pub(crate) fn advise<'a>(kind: FaultKind, header: &[u8], line: &'a [u8]) -> Advice<'a> {
-    let is_older = !header.is_empty();
-    let first = word_at(line, 0);
-    let (word, sentence) = match kind {
-        FaultKind::FirstToken => (first, mend_first(first, is_older)),
-        FaultKind::OldForm => (first, OLD_FORM),
-        FaultKind::Weight => (first, mend_weight(first, is_older)),
-        FaultKind::Literal => {
-            let word = first_other(line);
-            let sentence = if is_behind_zero(line) {
-                AFTER_ZERO
-            } else {
-                mend_literal(word)
-            };
-            (word, sentence)
-        }
-        FaultKind::NoZero => (EMPTY, NO_ZERO),
-        FaultKind::AfterZero => (first_after_zero(line), AFTER_ZERO),
-        FaultKind::Variable if is_older => (first_above(line, variables_of(header)), ABOVE_V),
-        FaultKind::Variable => (first_above(line, MOST_VARIABLES), ABOVE_ALL),
-        FaultKind::WeightSum => (first, WEIGHT_SUM),
-        FaultKind::TooMany => (EMPTY, TOO_MANY),
-        FaultKind::Header => (EMPTY, mend_header(line)),
-        FaultKind::Count if is_older => (EMPTY, MORE_CLAUSES),
-        FaultKind::Count => (EMPTY, FEWER_CLAUSES),
-        FaultKind::Memory | FaultKind::Read => (EMPTY, ""),
+    let Some(place) = place_of_fault(kind, header, line) else {
+        return Advice {
+            word: EMPTY,
+            column: 0,
+            sentence: mend(kind, header, line, EMPTY),
+        };
     };
-    Advice { word, sentence }
+    let word = word_at(line, place);
+    Advice {
+        word,
+        column: hidden_column(word_start(line, place), word.len()),
+        sentence: mend(kind, header, line, word),
+    }
+}
+
+/// Which word of the line is faulty, counted from 0; none where it is no single word.
+fn place_of_fault(kind: FaultKind, header: &[u8], line: &[u8]) -> Option<usize> {
+    match kind {
+        FaultKind::FirstToken | FaultKind::OldForm | FaultKind::Weight | FaultKind::WeightSum =>
+            Some(0),
+        FaultKind::Literal => first_other(line),
+        FaultKind::AfterZero => first_after_zero(line),
+        FaultKind::Variable if header.is_empty() => first_above(line, MOST_VARIABLES),
+        FaultKind::Variable => first_above(line, variables_of(header)),
+        FaultKind::NoZero
+        | FaultKind::TooMany
+        | FaultKind::Header
+        | FaultKind::Count
+        | FaultKind::Memory
+        | FaultKind::Read => None,
+    }
+}
+
+/// What would mend this line, where this word is the faulty one.
+fn mend(kind: FaultKind, header: &[u8], line: &[u8], word: &[u8]) -> &'static str {
+    let is_older = !header.is_empty();
+    match kind {
+        FaultKind::FirstToken => mend_first(word, is_older),
+        FaultKind::OldForm => OLD_FORM,
+        FaultKind::Weight => mend_weight(word, is_older),
+        FaultKind::Literal if is_behind_zero(line) => AFTER_ZERO,
+        FaultKind::Literal => mend_literal(word),
+        FaultKind::NoZero => NO_ZERO,
+        FaultKind::AfterZero => AFTER_ZERO,
+        FaultKind::Variable if is_older => ABOVE_V,
+        FaultKind::Variable => ABOVE_ALL,
+        FaultKind::WeightSum => WEIGHT_SUM,
+        FaultKind::TooMany => TOO_MANY,
+        FaultKind::Header => mend_header(line),
+        FaultKind::Count if is_older => MORE_CLAUSES,
+        FaultKind::Count => FEWER_CLAUSES,
+        FaultKind::Memory | FaultKind::Read => "",
+    }
 }
 
 const EMPTY: &[u8] = b"";
@@ -53,45 +82,80 @@ const EMPTY: &[u8] = b"";
 const BYTE_ORDER_MARK: &str =
     "It begins with a byte order mark, which editors do not show: save FILE as UTF-8 without it.";
 
-const NO_BREAK_SPACE: &str =
-    "It has a no-break space, which looks like a space and is none: write a plain one.";
+/// The byte order marks of UTF-8 and UTF-16.
+const ORDER_MARKS: [&[u8]; 3] = [b"\xef\xbb\xbf", b"\xff\xfe", b"\xfe\xff"];
 
-const LONG_DASH: &str = "It has a long dash or a minus sign of print: write the plain '-'.";
+const GZIP: &str = "FILE is compressed: give it as '<(zcat FILE)'.";
+
+const XZ: &str = "FILE is compressed: give it as '<(xzcat FILE)'.";
+
+const NO_BREAK_SPACE: &str =
+    "It has a no-break space, which only looks like a space: type a plain one.";
+
+/// A no-break space, and a narrow one.
+const SPACES: [&[u8]; 2] = [b"\xc2\xa0", b"\xe2\x80\xaf"];
+
+const LONG_DASH: &str = "It has a long dash or a typographic minus sign: type a plain '-'.";
+
+/// Hyphens and dashes of typography, and its minus sign.
+const DASHES: [&[u8]; 7] = [
+    b"\xe2\x80\x90",
+    b"\xe2\x80\x91",
+    b"\xe2\x80\x92",
+    b"\xe2\x80\x93",
+    b"\xe2\x80\x94",
+    b"\xe2\x80\x95",
+    b"\xe2\x88\x92",
+];
+
+const HIDDEN_SIGN: &str = "It has a character that editors do not show: type the line again.";
+
+/// Zero-width spaces and joiners, direction marks, line and paragraph separators.
+const HIDDEN_SIGNS: [&[u8]; 7] = [
+    b"\xe2\x80\x8b",
+    b"\xe2\x80\x8c",
+    b"\xe2\x80\x8d",
+    b"\xe2\x80\x8e",
+    b"\xe2\x80\x8f",
+    b"\xe2\x80\xa8",
+    b"\xe2\x80\xa9",
+];
 
 const NO_HEAD: &str =
-    "A clause begins with 'h' where it must hold, else with its weight: 'h -1 0' or '3 -1 0'.";
+    "A clause begins with 'h' if it must hold, else with its weight: 'h -1 0' or '3 -1 0'.";
 
 const OLDER_HEAD: &str =
-    "Below a line 'p wcnf V C T' a clause begins with its weight; with T where it must hold.";
+    "Below a line 'p wcnf V C T' a clause begins with its weight, or with T if it must hold.";
 
 const NO_COMMENT: &str = "A comment begins with 'c'.";
 
-const RESULT: &str = "This is a line of a result: the instance comes first, then its result.";
+const RESULT: &str = "This is a line of a result: give the instance first, then its result.";
 
-const OLD_FORM: &str =
-    "A line 'p wcnf' can only be the first one that is no comment; today's form has none.";
+const OLD_FORM: &str = "A line 'p wcnf' can only come before all clauses; today's form has none.";
 
 const WHOLE_WEIGHT: &str =
-    "A weight is a whole number: multiply all weights, so that no decimals are left.";
+    "A weight is a whole number: multiply all weights by one factor until they are whole.";
 
-const ZERO_WEIGHT: &str = "A weight is 1 at least: what costs nothing can be left out.";
+const ZERO_WEIGHT: &str = "A weight is at least 1: what costs nothing can be left out.";
 
 const LEADING_ZERO: &str = "A number has no leading 0.";
 
-const LARGE_WEIGHT: &str = "A weight is below 2^62 = 4611686018427387904, and so are all together.";
+const LARGE_WEIGHT: &str =
+    "A weight is below 2^62 = 4611686018427387904, and so is the sum of all weights.";
 
 const ABOVE_TOP: &str =
     "No weight is above T of the line 'p wcnf V C T', which makes a clause hard.";
 
-const DIGITS: &str = "A weight has digits alone.";
+const DIGITS: &str = "A weight has only digits.";
 
 const PLUS: &str = "A number has no '+'.";
 
-const MINUS_ZERO: &str = "The end of a clause is a plain 0, and variables begin at 1.";
+const MINUS_ZERO: &str = "A clause ends with a plain 0, and variables begin at 1.";
 
-const SEPARATOR: &str = "Words stand apart by spaces or tabs alone.";
+const SEPARATOR: &str = "Only spaces and tabs separate words.";
 
-const NO_LITERAL: &str = "A literal is a variable from 1 on, with '-' before it for its negation.";
+const NO_LITERAL: &str =
+    "A literal is a variable, numbered from 1, with '-' before it for its negation.";
 
 const NO_ZERO: &str = "A clause ends with 0, on the line on which it begins.";
 
@@ -99,35 +163,35 @@ const AFTER_ZERO: &str =
     "The 0 ends the clause: each clause and each comment has a line of its own.";
 
 const ABOVE_V: &str =
-    "A variable is V of the line 'p wcnf V C T' at most: mend that line, or this.";
+    "A variable is at most V of the line 'p wcnf V C T': correct that line or this one.";
 
-const ABOVE_ALL: &str = "A variable is 2^22 = 4194304 at most: number them from 1 on without gaps.";
+const ABOVE_ALL: &str = "A variable is at most 2^22 = 4194304: number them from 1 without gaps.";
 
 const WEIGHT_SUM: &str =
-    "With this weight all weights together reach 2^62 = 4611686018427387904: take smaller ones.";
+    "With this weight the sum of all reaches 2^62 = 4611686018427387904: use smaller ones.";
 
 const TOO_MANY: &str =
-    "There may be 2^22 = 4194304 hard clauses, 2^18 = 262144 soft ones and 2^26 literals.";
+    "At most 2^22 = 4194304 hard clauses, 2^18 = 262144 soft ones and 2^26 literals are allowed.";
 
 const MORE_CLAUSES: &str = "There are more clauses than C of the line 'p wcnf V C T' says.";
 
 const FEWER_CLAUSES: &str = "There are fewer clauses than this line says.";
 
 const CNF: &str =
-    "This is a text for SAT: leave this line out, and write 'h' before each clause that must hold.";
+    "This is a CNF for SAT solvers: remove this line, and put 'h' before clauses that must hold.";
 
 const NO_TOP: &str =
-    "T of 'p wcnf V C T' is missing, which makes a clause hard: it is above all weights.";
+    "T of 'p wcnf V C T' is missing: the weight that makes a clause hard, above all others.";
 
 const TOP: &str =
     "The last number T is from 1 to 2^62 = 4611686018427387904: any above all weights will do.";
 
-const MANY_VARIABLES: &str = "There may be 2^22 = 4194304 variables.";
+const MANY_VARIABLES: &str = "At most 2^22 = 4194304 variables are allowed.";
 
-const MANY_CLAUSES: &str = "There may be 4456448 clauses: 2^22 hard and 2^18 soft ones.";
+const MANY_CLAUSES: &str = "At most 4456448 clauses are allowed: 2^22 hard and 2^18 soft ones.";
 
 const HEADER: &str =
-    "In the older form this line is 'p wcnf V C T', three numbers; in today's there is none.";
+    "In the older form this line is 'p wcnf V C T' with three numbers; today's form has none.";
 
 /// Why no clause begins with this word.
 fn mend_first(word: &[u8], is_older: bool) -> &'static str {
@@ -175,16 +239,17 @@ fn mend_literal(word: &[u8]) -> &'static str {
     }
 }
 
-/// Whether a word has signs that look like others, or like none.
+/// What to do where a word has characters that look like others or like none, or begins a
+/// compressed file.
 fn mend_signs(word: &[u8]) -> Option<&'static str> {
-    if has_part(word, b"\xef\xbb\xbf") {
-        Some(BYTE_ORDER_MARK)
-    } else if has_part(word, b"\xc2\xa0") || word == NARROW_SPACE {
-        Some(NO_BREAK_SPACE)
-    } else if has_part(word, b"\xe2\x80") || has_part(word, b"\xe2\x88\x92") {
-        Some(LONG_DASH)
-    } else {
-        None
+    match word {
+        [0x1f, 0x8b, ..] => Some(GZIP),
+        [0xfd, b'7', b'z', b'X', b'Z', ..] => Some(XZ),
+        _ if has_one(word, &ORDER_MARKS) => Some(BYTE_ORDER_MARK),
+        _ if has_one(word, &SPACES) || word == BYTE_SPACE => Some(NO_BREAK_SPACE),
+        _ if has_one(word, &DASHES) => Some(LONG_DASH),
+        _ if has_one(word, &HIDDEN_SIGNS) => Some(HIDDEN_SIGN),
+        _ => None,
     }
 }
 
@@ -216,8 +281,8 @@ const SAT: &[u8] = b"cnf";
 /// The second word of the older form.
 const MAXSAT: &[u8] = b"wcnf";
 
-/// A no-break space where a byte is a letter.
-const NARROW_SPACE: &[u8] = b"\xa0";
+/// A no-break space where each byte is a character.
+const BYTE_SPACE: &[u8] = b"\xa0";
 
 /// How many clauses a header may say.
 const MOST_CLAUSES: u64 = (MOST_HARD + MOST_SOFT) as u64;
@@ -249,14 +314,16 @@ fn words_of(line: &[u8]) -> Tokens<'_> {
     words
 }
 
-/// The first word that is no literal and no 0; nothing where there is none.
-fn first_other(line: &[u8]) -> &[u8] {
+/// Which word is the first that is no literal and no 0; none where there is none.
+fn first_other(line: &[u8]) -> Option<usize> {
+    let mut place: usize = 1;
     for word in words_of(line) {
         if matches!(read_word(word), Word::Other) {
-            return word;
+            return Some(place);
         }
+        place = place.saturating_add(1);
     }
-    EMPTY
+    None
 }
 
 /// Whether the first word that is no literal and no 0 stands after a 0.
@@ -272,33 +339,73 @@ fn is_behind_zero(line: &[u8]) -> bool {
     false
 }
 
-/// The first word after the 0; nothing where there is none.
-fn first_after_zero(line: &[u8]) -> &[u8] {
+/// Which word is the first after the 0; none where there is none.
+fn first_after_zero(line: &[u8]) -> Option<usize> {
+    let mut place: usize = 1;
     let mut is_ended = false;
     for word in words_of(line) {
         if is_ended {
-            return word;
+            return Some(place);
         }
         is_ended = matches!(read_word(word), Word::End);
+        place = place.saturating_add(1);
     }
-    EMPTY
+    None
 }
 
-/// The first literal with a variable above this one; nothing where there is none.
-fn first_above(line: &[u8], most: u32) -> &[u8] {
+/// Which word is the first literal with a variable above this one; none where there is none.
+fn first_above(line: &[u8], most: u32) -> Option<usize> {
+    let mut place: usize = 1;
     for word in words_of(line) {
         match read_word(word) {
-            Word::Above => return word,
-            Word::Literal(lit) if lit.variable() > most => return word,
+            Word::Above => return Some(place),
+            Word::Literal(lit) if lit.variable() > most => return Some(place),
             _ => {}
         }
+        place = place.saturating_add(1);
     }
-    EMPTY
+    None
+}
+
+/// How many bytes stand before the word of this number, which counts from 0.
+fn word_start(line: &[u8], place: usize) -> usize {
+    let mut left = place;
+    let mut is_between = true;
+    for (at, byte) in line.iter().enumerate() {
+        if is_between && !is_blank(*byte) {
+            if left == 0 {
+                return at;
+            }
+            left -= 1;
+        }
+        is_between = is_blank(*byte);
+    }
+    line.len()
+}
+
+/// The column of a word with so many bytes before it, and so many of its own; 0 where the line as
+/// it is shown has the whole word. No character before a faulty word takes more than one byte.
+fn hidden_column(start: usize, length: usize) -> usize {
+    if start.saturating_add(length) <= MOST_SHOWN {
+        0
+    } else {
+        start.saturating_add(1)
+    }
 }
 
 /// Whether the word has this byte.
 fn has_byte(word: &[u8], byte: u8) -> bool {
     word.contains(&byte)
+}
+
+/// Whether the word has one of these.
+fn has_one(word: &[u8], parts: &[&[u8]]) -> bool {
+    for part in parts {
+        if has_part(word, part) {
+            return true;
+        }
+    }
+    false
 }
 
 /// Whether the word has these bytes one after another.

@@ -2,8 +2,8 @@
 //! would mend it.
 ghost use Rattle.std.specs.Prelude.{◌≡◌, ℕ, List, take, OnOk, OnErr};
 ghost use Rattle.explain.specs.Sheets.{Puts};
-ghost use Rattle.explain.specs.Mending.{BreaksMending, Mends, cut_text, line_of, shown_line};
-ghost use Rattle.explain.specs.Mending.{word_line};
+ghost use Rattle.explain.specs.Mending.{BreaksMending, Mends, cut_text, line_of, place_text};
+ghost use Rattle.explain.specs.Mending.{shown_line, word_line};
 
 use crate::advice::{Advice, advise};
 use crate::putting::put_shown;
@@ -108,21 +108,35 @@ fn put_advice<W: Write>(sheet: &mut Sheet, writer: &mut W, advice: &Advice<'_>)
     ensures { (text : List ℕ) × Puts (W.contents writer.old) sheet.old text
         (W.contents writer.new) sheet.new }
 {
-    put_word(sheet, writer, advice.word);
+    put_word(sheet, writer, advice.word, advice.column);
     sheet.put(writer, b"  ");
     sheet.put(writer, advice.sentence.as_bytes());
     sheet.put(writer, b"\n");
 }
 
 /// A word, if there is one, on a line of its own.
-fn put_word<W: Write>(sheet: &mut Sheet, writer: &mut W, word: &[u8])
-    ensures { Puts (W.contents writer.old) sheet.old (word_line word.now)
+fn put_word<W: Write>(sheet: &mut Sheet, writer: &mut W, word: &[u8], column: usize)
+    ensures { Puts (W.contents writer.old) sheet.old (word_line column word.now)
         (W.contents writer.new) sheet.new }
 {
     if word.is_empty() {
         return;
     }
-    sheet.put(writer, b"  here: ");
+    put_place(sheet, writer, column);
     put_cut(sheet, writer, word);
     sheet.put(writer, b"\n");
+}
+
+/// What stands before a word, with its column if there is one to tell.
+fn put_place<W: Write>(sheet: &mut Sheet, writer: &mut W, column: usize)
+    ensures { Puts (W.contents writer.old) sheet.old (place_text column)
+        (W.contents writer.new) sheet.new }
+{
+    if column == 0 {
+        sheet.put(writer, b"  here: ");
+        return;
+    }
+    sheet.put(writer, b"  here, column ");
+    sheet.put_number(writer, column as u64);
+    sheet.put(writer, b": ");
 }

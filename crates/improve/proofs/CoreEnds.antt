@@ -1,4 +1,4 @@
--- A refutation by cores: it shows an optimum, or it is open.
+-- A refutation by cores shows an optimum.
 use Rattle.std.proofs.Common.{◌≡◌, ℕ, ◌<◌, ◌≤◌, List}
 use Rattle.std.proofs.Common.{[], ◌∷◌, Bool, refl, ◌∙◌, subst}
 use Rattle.std.proofs.Common.{ap, arith, length, Ok}
@@ -15,11 +15,11 @@ use Rattle.bound.proofs.Laws.{refutes_cheaper, core_clauses_few}
 use Rattle.cores.specs.Cores.{Core, Counted, AreCounted, no_cores, count_cores, first_relaxation}
 use Rattle.improve_cores.specs.CoreWork.{AreStepsOver}
 use Rattle.improve.specs.Improving.{IsByCores, IsRefutation, IsSolution, EndsWith}
-use Rattle.improve.specs.Improving.{IsAcceptedOver, IsRightFound, IsNewWork, IsOpenRefutation}
+use Rattle.improve.specs.Improving.{IsRightFound}
 use Rattle.improve.specs.Standing.{IsCoreProof}
 use Rattle.std.specs.declared.vec.Vec.{Vec}
 use Rattle.std.specs.declared.alloc.Global.{Global}
-use Rattle.improve.specs.declared.by_cores.ByCores.{ByCores}
+use Rattle.improve_trials.specs.declared.found.ByCores.{ByCores}
 use Rattle.improve.specs.declared.found.Found.TheVariants.{Optimum}
 
 -- no cores are worth nothing
@@ -53,36 +53,3 @@ right_by_cores p h c bits solution r proof costs ends =
       };
       refutation = some_cores p costs c (r.cores).items r.log r.clauses proof;
     }
-
-pub core_proof : (p : Problem) (cores : List Core) (s : Counted) → AreCounted p cores s
-    → (f : Cnf) (log : List LogLine) → f ≡ core_cnf p s → IsInstance p → (c clauses : ℕ) → 0 < c
-    → c ≤ s.weight → clauses ≡ length f.clauses → IsAcceptedOver f.clauses log
-    → IsByCores Five p c cores log clauses
-core_proof p cores s counted f log same h c clauses above worth count accepted =
-    let number : clauses ≡ length (core_cnf p s).clauses =
-    count ∙ ap (λ x. length x.clauses) same in
-    record {
-      profile_is = refl;
-      above_zero = above;
-      leaves = s;
-      are_counted = counted;
-      worth = worth;
-      accepted = subst (λ x. IsAcceptedOver x.clauses log) same accepted;
-      counted = (number, omega (arith, number, core_clauses_few p h cores s counted));
-    }
-
-pub open_refutation : (p : Problem) (cores : Vec Core Global) (s : Counted)
-    → AreCounted p cores.items s → (f : Cnf) (log : List LogLine) → f ≡ core_cnf p s
-    → AreStepsOver f.clauses log → AddsNoEmptyClause log
-    → IsOpenRefutation p (record { cores = cores; log = log })
-open_refutation p cores s counted f log same steps free = record {
-  leaves = s;
-  are_counted = counted;
-  work = record {
-    steps = subst
-        (λ (x : Cnf). AreSteps (start_of x.clauses) (numbered_lines (length x.clauses) log)) same
-        steps.steps;
-    open_end = free;
-  };
-  new = subst (λ (x : Cnf). IsNewWork x.clauses log) same steps.new;
-}

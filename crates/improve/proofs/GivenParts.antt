@@ -29,7 +29,7 @@ use Rattle.cdcl.specs.Solving.{given_to}
 use Rattle.improve.specs.Improving.{first_subset, weaker_among}
 use Rattle.improve.specs.Bounds.{LogSolver, IsUsable, IsOver}
 use Rattle.improve.specs.declared.bounds.Bounds.{Bounds}
-use Rattle.improve.proofs.SubsetSearch.{first_bounds}
+use Rattle.improve_weaker.proofs.Laws.{first_bounds}
 
 last_part : (a b c : List (List Literal)) (n : ℕ) → n ≡ length a + length b
     → drop n (a ++ (b ++ c)) ≡ c

@@ -1,8 +1,6 @@
 mod Told
 mod GivenNumbers
 mod BitLaws
-mod SubsetSearch
-mod SubsetRows
 mod Comparators
 mod FrozenOutputs
 mod OverBounds

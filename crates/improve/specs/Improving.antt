@@ -1,15 +1,13 @@
 -- What the improving search finds.
-use Rattle.std.specs.Prelude.{◌≡◌, ◌+◌, ◌<◌, ◌≤◌, [], ◌∷◌, ◌++◌, if◌then◌else◌, ⊤}
+use Rattle.std.specs.Prelude.{◌≡◌, ◌+◌, ◌<◌, ◌≤◌, [], ◌∷◌, ◌++◌, ⊤}
 use Rattle.std.specs.Prelude.{ℕ, Bool, List, length, map, drop, All}
 use Rattle.std.specs.Prelude.{Option, Some, None, Result, Ok, Err, IfOk, IfSome, OnOk}
 use Rattle.std.specs.List.{flat_map}
 use Rattle.cnf.specs.Literal.{Literal, Assignment}
-use Rattle.cnf.specs.Clause.{is_subset}
 use Rattle.cnf.specs.Bits.{Extends}
 use Rattle.cnf.specs.Problem.{Problem, IsFeasible, cost_under, IsOptimal, IsInconsistent}
 use Rattle.cnf.specs.Refute.{IsRefutedByHints}
 use Rattle.cnf.specs.Lrat.{start_of}
-use Rattle.cnf.specs.declared.limits.TheConstants.{CLAUSE_LIMIT}
 use Rattle.lrat_log.specs.declared.lines.Name.TheVariants.{Formula}
 use Rattle.lrat_log.specs.declared.lines.Hint.TheVariants.{Plain}
 use Rattle.lrat_log.specs.declared.lines.Kind.TheVariants.{Empty}
@@ -19,14 +17,15 @@ use Rattle.lrat_log.specs.Steps.{nothing_exempt, is_later, given_of, learned_cou
 use Rattle.lrat_log.specs.Rebase.{WeakerList, weaker_line}
 use Rattle.adder.specs.declared.cells.Profile.{Profile}
 use Rattle.adder.specs.declared.cells.Profile.TheVariants.{Five}
-use Rattle.cores.specs.Cores.{Core, Counted, AreCounted}
-use Rattle.bound.specs.Bound.{hard_cnf, bound_as, fixed_clauses, comparator_for, core_cnf}
+use Rattle.cores.specs.Cores.{Core}
+use Rattle.bound.specs.Bound.{hard_cnf, bound_as, fixed_clauses, comparator_for}
 use Rattle.cdcl_order.specs.Budgets.{BudgetState, left_of}
 use Rattle.improve.specs.Progress.{Telling}
+pub use Rattle.improve_weaker.specs.Weaker.{first_subset, weaker_among}
 pub use Rattle.improve_cores.specs.CoreWork.{IsAcceptedOver}
 pub use Rattle.improve_cores.specs.Work.{IsSearchWork}
 use Rattle.improve_cores.specs.declared.work.SearchWork.{SearchWork}
-use Rattle.improve.specs.declared.found.CoreRefutation.{CoreRefutation}
+pub use Rattle.improve_trials.specs.Trials.{IsClauseCount, IsByCores, IsCoreRefutation, tried_count}
 use Rattle.improve.specs.declared.found.Work.{Work}
 use Rattle.improve.specs.declared.found.Found.{Found}
 use Rattle.improve.specs.declared.found.Found.TheVariants.{Optimum, Unsat, Best, Nothing}
@@ -55,20 +54,10 @@ IsSolution p bits c =
     (length bits ≡ p.variables)
     × ((t : Assignment) → Extends bits t → IsFeasible p t × (cost_under p t ≡ c))
 
--- from this number on, the number of the first clause that is a subset of c
-abbrev pub first_subset : ℕ → List (List Literal) → List Literal → ℕ
-first_subset n [] c = n
-first_subset n (d ∷ ds) c = if is_subset d c then n else first_subset (n + 1) ds c
-
 abbrev pub but_last : List ℕ → List ℕ
 but_last [] = []
 but_last (c ∷ []) = []
 but_last (c ∷ d ∷ cs) = c ∷ but_last (d ∷ cs)
-
--- the clauses before, each with the number of the first of the last ones that is a subset of it;
--- the last ones have the numbers from `first` on
-abbrev pub weaker_among : ℕ → List (List Literal) → List (List Literal) → WeakerList
-weaker_among first last before = map (λ c. (c, first_subset first last c)) before
 
 -- the comparator clauses of these bounds
 abbrev pub comparators_for : Profile → Problem → List ℕ → List (List Literal)
@@ -132,17 +121,6 @@ pub record IsBoundWork (profile : Profile) (p : Problem) (costs : List ℕ) (c :
   pub begins : BeginsWithWeaker profile p costs c w.bound
   pub new : IsNewBoundWork profile p costs c w.bound
 
--- a refutation by these cores that did not end: steps from their formula, each learned one new
-pub record IsOpenRefutation (p : Problem) (r : CoreRefutation) : Type 0 where
-  pub leaves : Counted
-  pub are_counted : AreCounted p (r.cores).items leaves
-  pub work : IsWorkOver (core_cnf p leaves).clauses r.log
-  pub new : IsNewWork (core_cnf p leaves).clauses r.log
-
--- the number of these clauses, which are few
-abbrev pub IsClauseCount : ℕ → List (List Literal) → Type 0
-IsClauseCount n cs = (n ≡ length cs) × (n < CLAUSE_LIMIT)
-
 -- What was found is right, where these costs were told.
 
 -- the log refutes the formula for the last bound, which has so many clauses
@@ -152,18 +130,7 @@ pub record IsByBounds (profile : Profile) (p : Problem) (costs : List ℕ) (c : 
   pub begins : BeginsWithWeaker profile p costs c log
   pub counted : IsClauseCount clauses (bound_as profile p c).clauses
 
--- the log refutes the formula of the cores, which are worth as much as the solution costs
-pub record IsByCores (profile : Profile) (p : Problem) (c : ℕ) (cores : List Core)
-    (log : List LogLine) (clauses : ℕ) : Type 0 where
-  pub profile_is : profile ≡ Five
-  pub above_zero : 0 < c
-  pub leaves : Counted
-  pub are_counted : AreCounted p cores leaves
-  pub worth : c ≤ leaves.weight
-  pub accepted : IsAcceptedOver (core_cnf p leaves).clauses log
-  pub counted : IsClauseCount clauses (core_cnf p leaves).clauses
-
--- without cores by bounds
+-- by these cores, or without cores by bounds
 abbrev pub IsRefutation : Profile → Problem → List ℕ → ℕ → List Core → List LogLine → ℕ → Type 0
 IsRefutation profile p costs c [] log clauses = IsByBounds profile p costs c log clauses
 IsRefutation profile p costs c (k ∷ ks) log clauses = IsByCores profile p c (k ∷ ks) log clauses
@@ -190,7 +157,7 @@ pub record IsRightBest (profile : Profile) (p : Problem) (costs : List ℕ) (c :
   pub hard : IsHardWork p work
   pub bound : IsBoundWork profile p costs c work
   pub search : IfSome work.search (IsSearchWork p)
-  pub refutation : IfSome work.refutation (IsOpenRefutation p)
+  pub tried : All (IsCoreRefutation p) (work.tried).items
 
 pub record IsRightNothing (p : Problem) (costs : List ℕ) (work : Work) : Type 0 where
   pub none_told : costs ≡ []
@@ -199,7 +166,7 @@ pub record IsRightNothing (p : Problem) (costs : List ℕ) (work : Work) : Type 
   pub hard : IsHardWork p work
   pub no_bound : work.bound ≡ []
   pub no_search : work.search ≡ None
-  pub no_refutation : work.refutation ≡ None
+  pub none_tried : (work.tried).items ≡ []
 
 abbrev pub IsRightFound : Profile → Problem → List ℕ → Found → Type 0
 IsRightFound profile p costs (Optimum c bits log clauses cores) =
@@ -228,19 +195,15 @@ OnWork (Ok (Optimum c bits log clauses cores)) P = ⊤
 OnWork (Ok (Unsat log clauses)) P = ⊤
 OnWork (Err e) P = ⊤
 
--- the learned lines of a search for cores, and of a refutation by cores, where there was one
+-- the learned lines of a search for cores, where there was one
 abbrev pub search_count : Option SearchWork → ℕ
 search_count None = 0
 search_count (Some w) = learned_count w.log
 
-abbrev pub refutation_count : Option CoreRefutation → ℕ
-refutation_count None = 0
-refutation_count (Some r) = learned_count r.log
-
 abbrev pub work_count : Work → ℕ
 work_count w =
     learned_count w.hard + learned_count w.bound + search_count w.search
-    + refutation_count w.refutation
+    + tried_count (w.tried).items
 
 -- the budget before the search over the hard clauses, of which this is left: its one solution and
 -- its learned lines were counted

@@ -16,7 +16,6 @@ ghost use Rattle.improve.specs.Improving.{AreFalling, EndsWith, weaker_among};
 
 use crate::frozen::freeze_compared;
 use crate::solutions::{Solution, price};
-use crate::weaker::pair_with_subsets;
 use adder::cells::Profile;
 use adder::relaxations::{Relaxation, Relaxations};
 use bound::additions::Addition;
@@ -28,6 +27,7 @@ use cdcl::solver::Solver;
 use cdcl::watch::Watch;
 use cnf::limits::NUMBER_LIMIT;
 use cnf::types::{Clause, Instance, Lit};
+use improve_weaker::weaker::pair_with_subsets;
 use lrat_log::lines::{Name, Number};
 use lrat_log::log::Log;
 use lrat_log::rebase::rebase;

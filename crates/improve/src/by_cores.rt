@@ -1,6 +1,6 @@
 //! The way by cores: a core-guided search whose lower bound meets the best solution, and then a
 //! refutation by the cores. Where it does not end within its share of the effort, the search goes
-//! on by bounds.
+//! on by bounds; who wants lower bounds is shown the one that the cores prove.
 ghost use Rattle.std.specs.Prelude.{◌≡◌, ℕ, ◌+◌, ◌<◌, ◌≤◌, ◌^◌, [], None};
 ghost use Rattle.std.specs.Prelude.{IfOk, IfErr, IfSome, OnOk};
 ghost use Rattle.cnf.specs.Literal.{Assignment};
@@ -10,26 +10,29 @@ ghost use Rattle.improve_cores.specs.CoreWork.{IsSearchFor, CountsLearned};
 ghost use Rattle.improve_cores.specs.Events.{AreRightCores};
 ghost use Rattle.improve.specs.Improving.{work_count};
 ghost use Rattle.improve.specs.Standing.{IsStanding, IsEarlyWork, HasNoCores, GoesOn, Fails};
-ghost use Rattle.improve.specs.Standing.{IsCoreProof, AreFeasible, IsAttempt, IsTrial};
-ghost use Rattle.improve.specs.Standing.{lines_of, trial_lines, by_cores_count};
+ghost use Rattle.improve.specs.Standing.{IsCoreProof, AreFeasible, IsAttempt, by_cores_count};
+ghost use Rattle.improve_trials.specs.Trials.{IsShown};
 
-use crate::found::{CoreRefutation, ImproveFault, Work};
+use crate::found::{ImproveFault, Work};
 use crate::progress::Progress;
 use crate::search::tell;
 use crate::solutions::price;
 use crate::standing::Standing;
 use crate::watch::Watch;
+use adder::cells::Profile;
 use cdcl::budget::Budget;
 use cnf::types::Instance;
-use cores::types::Core;
 use improve_cores::counted::Counted;
-use improve_cores::refuting::{self, Refutation};
 use improve_cores::searching::{CoreSearch, Event};
-use lrat_log::log::Log;
+use improve_trials::found::{Attempt, ByCores};
+use improve_trials::rounds::{self, Aim};
 use std::alloc::AllocError;
 
-/// The search for cores learns so many clauses at most, and no more than half of what is left.
+/// The search for cores learns so many clauses at most, and no more than half of what is left,
 const SHARE: u64 = 60_000;
+
+/// or so many, where lower bounds are wanted.
+const LONG_SHARE: u64 = 150_000;
 
 /// So many variables are reserved for each soft clause,
 const RESERVED_EACH: usize = 4;
@@ -40,46 +43,13 @@ const RESERVED: usize = 2_000;
 /// and so many at most.
 const MOST_RESERVED: usize = 65_536;
 
-/// A refutation by cores.
-#[derive(Drop)]
-pub struct ByCores {
-    /// The core lines.
-    pub cores: Vec<Core>,
-    /// It refutes the formula of the cores,
-    pub log: Log,
-    /// which has so many clauses, fewer than 2^28.
-    pub clauses: u64,
-}
-
-/// What came of a refutation by cores.
-#[derive(Drop)]
-pub enum Attempt {
-    /// None was tried.
-    Unmade,
-    /// It has ended.
-    Refuted(ByCores),
-    /// It has not.
-    Open(CoreRefutation),
-    /// It met a solution: the bits satisfy the hard clauses.
-    Model(CoreRefutation, Vec<bool>),
-}
-
-/// A search for a refutation by cores that has ended.
-#[derive(Drop)]
-pub struct Trial {
-    /// How it ended.
-    pub end: refuting::Refuted,
-    /// Its lines, over the formula of the cores,
-    pub log: Log,
-    /// which has so many clauses.
-    pub clauses: u64,
-}
-
-/// Looks for cores that are worth what the best solution costs, and for a refutation by them.
+/// Looks for cores that are worth what the best solution costs, and for a refutation by them. One
+/// is given only in the profile of cores.
 pub fn refute_by_cores<T: Progress, W: Watch>(
     instance: &Instance,
     budget: &mut Budget,
     progress: &mut T,
+    profile: Profile,
     watch: &mut W,
     standing: &mut Standing,
     work: &mut Work,
@@ -92,6 +62,7 @@ pub fn refute_by_cores<T: Progress, W: Watch>(
     ensures work { OnOk result (IsEarlyWork instance.now work.new) }
     ensures proof { IfOk result
         (λ f. IfSome f (IsCoreProof instance.now standing.new.best.cost)) }
+    ensures profile { IfOk result (λ f. IfSome f (λ _. profile ≡ Profile.Five)) }
     ensures goes_on { IfOk result (λ f. GoesOn instance.now
         (T.state progress.old) (T.state progress.new)
         budget.old budget.new standing.old standing.new
@@ -101,12 +72,15 @@ pub fn refute_by_cores<T: Progress, W: Watch>(
         budget.old budget.new standing.old) }
 {
     match search_cores(instance, budget, progress, watch, standing, work)? {
-        Some(counted) => refute(instance, budget, progress, watch, standing, work, counted),
+        Some(counted) => refute(
+            instance, budget, progress, profile, watch, standing, work, counted,
+        ),
         None => Ok(None),
     }
 }
 
-/// Looks for cores that are worth what the best solution costs.
+/// Looks for cores that are worth what the best solution costs, or for any where lower bounds are
+/// wanted.
 fn search_cores<T: Progress, W: Watch>(
     instance: &Instance,
     budget: &mut Budget,
@@ -121,7 +95,6 @@ fn search_cores<T: Progress, W: Watch>(
     requires none { HasNoCores work.old }
     ensures follows { (first : T) → T.follows first progress.old → T.follows first progress.new }
     ensures work { OnOk result (IsEarlyWork instance.now work.new) }
-    ensures none { OnOk result (work.new.refutation ≡ None) }
     ensures cores { IfOk result (λ c. IfSome c (AreRightCores instance.now)) }
     ensures goes_on { OnOk result (GoesOn instance.now
         (T.state progress.old) (T.state progress.new)
@@ -131,13 +104,14 @@ fn search_cores<T: Progress, W: Watch>(
         (T.state progress.old) (T.state progress.new)
         budget.old budget.new standing.old) }
 {
-    let share = SHARE.min(budget.left() / 2);
+    let wants_bounds = watch.wants_bounds();
+    let share = share_of(budget, wants_bounds);
     let Ok(mut search) = CoreSearch::new(instance, share, reserve_of(instance)) else {
         return Ok(None);
     };
     match close_gap(instance, budget, progress, watch, standing, &mut search) {
         Ok(is_closed) => {
-            let counted = take_cores(instance, &search, is_closed);
+            let counted = take_cores(instance, &search, is_closed | wants_bounds);
             keep_search(instance, search, work);
             Ok(counted)
         }
@@ -155,10 +129,15 @@ fn keep_search(instance: &Instance, search: CoreSearch, work: &mut Work)
     requires work { IsEarlyWork instance.now work.old }
     requires none { HasNoCores work.old }
     ensures work { IsEarlyWork instance.now work.new }
-    ensures none { work.new.refutation ≡ None }
     ensures count { work_count work.new ≡ work_count work.old + learned_count search.lines }
 {
     work.search = Some(search.into_work(instance));
+}
+
+/// So many clauses the search for cores may learn.
+fn share_of(budget: &Budget, wants_bounds: bool) -> u64 {
+    let share = if wants_bounds { LONG_SHARE } else { SHARE };
+    share.min(budget.left() / 2)
 }
 
 /// So many variables are reserved to count with.
@@ -169,11 +148,11 @@ fn reserve_of(instance: &Instance) -> u32
     wanted.saturating_add(RESERVED).min(MOST_RESERVED) as u32
 }
 
-/// The cores of a search, if they are worth enough.
-fn take_cores(instance: &Instance, search: &CoreSearch, is_closed: bool) -> Option<Counted>
+/// The cores of a search, if they are wanted.
+fn take_cores(instance: &Instance, search: &CoreSearch, are_wanted: bool) -> Option<Counted>
     ensures { IfSome result (AreRightCores instance.now) }
 {
-    if !is_closed {
+    if !are_wanted {
         return None;
     }
     match search.counted(instance) {
@@ -256,12 +235,12 @@ fn note_model<T: Progress, W: Watch>(
     Ok(())
 }
 
-/// A refutation by cores that are worth as much as the best solution costs. A solution that it
-/// meets is told.
+/// A refutation by these cores. A solution that it meets is told.
 fn refute<T: Progress, W: Watch>(
     instance: &Instance,
     budget: &mut Budget,
     progress: &mut T,
+    profile: Profile,
     watch: &mut W,
     standing: &mut Standing,
     work: &mut Work,
@@ -270,12 +249,12 @@ fn refute<T: Progress, W: Watch>(
     requires failures { (T.state progress.old).failures < 2 ^ 62 }
     requires standing { IsStanding instance.now standing.old }
     requires work { IsEarlyWork instance.now work.old }
-    requires none { work.old.refutation ≡ None }
     requires cores { AreRightCores instance.now counted }
     ensures follows { (first : T) → T.follows first progress.old → T.follows first progress.new }
     ensures work { OnOk result (IsEarlyWork instance.now work.new) }
     ensures proof { IfOk result
         (λ f. IfSome f (IsCoreProof instance.now standing.new.best.cost)) }
+    ensures profile { IfOk result (λ f. IfSome f (λ _. profile ≡ Profile.Five)) }
     ensures goes_on { IfOk result (λ f. GoesOn instance.now
         (T.state progress.old) (T.state progress.new)
         budget.old budget.new standing.old standing.new
@@ -284,101 +263,55 @@ fn refute<T: Progress, W: Watch>(
         (T.state progress.old) (T.state progress.new)
         budget.old budget.new standing.old) }
 {
-    let Ok(attempt) = try_cores(instance, budget, watch, standing.best.cost, counted) else {
+    let aim = Aim {
+        best: standing.best.cost,
+        is_partial: watch.wants_bounds(),
+    };
+    let Ok(attempt) = rounds::refute(instance, aim, counted, &mut work.tried, budget, watch) else {
         return Err(ImproveFault::Memory);
     };
     match attempt {
-        Attempt::Unmade => Ok(None),
-        Attempt::Refuted(by_cores) => Ok(Some(by_cores)),
-        Attempt::Open(refutation) => {
-            work.refutation = Some(refutation);
-            Ok(None)
-        }
-        Attempt::Model(refutation, bits) => {
-            work.refutation = Some(refutation);
+        Attempt::Open => Ok(None),
+        Attempt::Model(bits) => {
             note_model(instance, budget, progress, watch, standing, bits)?;
             Ok(None)
         }
+        Attempt::Refuted(by_cores) => {
+            let best = standing.best.cost;
+            let Ok(proof) = end_refutation(instance, profile, watch, best, work, by_cores) else {
+                return Err(ImproveFault::Memory);
+            };
+            Ok(proof)
+        }
     }
 }
 
-/// Tries to refute by cores that there is a solution that costs less than this one. None is tried
-/// where they are worth less, or where memory is refused before anything was learned.
+/// Shows what no solution costs less than. In the profile of cores a refutation ends the search
+/// where that is what the best solution costs; any other one is part of the work.
 ///
 /// # Errors
 ///
-/// `AllocError` where memory was refused later.
-fn try_cores<W: Watch>(
+/// `AllocError` where memory was refused.
+fn end_refutation<W: Watch>(
     instance: &Instance,
-    budget: &mut Budget,
+    profile: Profile,
     watch: &mut W,
     best: u64,
-    counted: Counted,
-) -> Result<Attempt, AllocError>
-    requires { AreRightCores instance.now counted }
-    ensures attempt { IfOk result (IsAttempt instance.now best) }
-    ensures spends { IfOk result
-        (λ a. budget.new.learned ≡ budget.old.learned + learned_count (lines_of a)) }
-    ensures answers { budget.new.answers ≡ budget.old.answers }
-    ensures limit { budget.new.limit ≡ budget.old.limit }
+    work: &mut Work,
+    by_cores: ByCores,
+) -> Result<Option<ByCores>, AllocError>
+    requires work { IsEarlyWork instance.now work.old }
+    requires shown { IsShown instance.now by_cores }
+    ensures work { OnOk result (IsEarlyWork instance.now work.new) }
+    ensures proof { IfOk result (λ f. IfSome f (IsCoreProof instance.now best)) }
+    ensures profile { IfOk result (λ f. IfSome f (λ _. profile ≡ Profile.Five)) }
+    ensures count { IfOk result (λ f. work_count work.new + by_cores_count f
+        ≡ work_count work.old + learned_count by_cores.log) }
 {
-    let trial = make_trial(instance, budget, watch, best, &counted);
-    let cores = counted.into_cores();
-    match trial {
-        Ok(Some(trial)) => Ok(end_trial(instance, cores, trial)),
-        Ok(None) => Ok(Attempt::Unmade),
-        Err(AllocError) => Err(AllocError),
+    watch.bounded(instance, &by_cores);
+    if profile == Profile::Five && by_cores.worth == best {
+        return Ok(Some(by_cores));
     }
-}
-
-/// Searches for a refutation by cores, where they are worth as much as this solution costs.
-fn make_trial<W: Watch>(
-    instance: &Instance,
-    budget: &mut Budget,
-    watch: &mut W,
-    best: u64,
-    counted: &Counted,
-) -> Result<Option<Trial>, AllocError>
-    requires { AreRightCores instance.now counted.now }
-    ensures trial { IfOk result
-        (λ t. IfSome t (IsTrial instance.now best counted.now.cores.items)) }
-    ensures spends { IfOk result (λ t. budget.new.learned
-        ≡ budget.old.learned + learned_count (trial_lines t)) }
-    ensures answers { budget.new.answers ≡ budget.old.answers }
-    ensures limit { budget.new.limit ≡ budget.old.limit }
-{
-    instance.limits();
-    if best == 0 || counted.counter.weight() < best {
-        return Ok(None);
-    }
-    let Ok(mut refutation) = Refutation::new(instance, counted) else {
-        return Ok(None);
-    };
-    let clauses = refutation.clauses();
-    let share = budget.left() / 2;
-    let end = refutation.search(counted.counter.firsts(), share, budget, watch);
-    let log = refutation.into_log();
-    match end {
-        Ok(end) => Ok(Some(Trial { end, log, clauses })),
-        Err(AllocError) => Err(AllocError),
-    }
-}
-
-/// What a trial with these cores comes to.
-fn end_trial(instance: &Instance, cores: Vec<Core>, trial: Trial) -> Attempt
-    ensures attempt { (best : ℕ) → IsTrial instance.now best cores.items trial
-        → IsAttempt instance.now best result }
-    ensures lines { lines_of result ≡ trial.log }
-{
-    let log = trial.log;
-    let end = trial.end;
-    match end {
-        refuting::Refuted::Yes => Attempt::Refuted(ByCores {
-            cores,
-            log,
-            clauses: trial.clauses,
-        }),
-        refuting::Refuted::Model(bits) => Attempt::Model(CoreRefutation { cores, log }, bits),
-        refuting::Refuted::Open => Attempt::Open(CoreRefutation { cores, log }),
-    }
+    work.tried.push(by_cores.into_refutation())?;
+    Ok(None)
 }

@@ -1,10 +1,11 @@
 // What the search finds.
 use cores::types::Core;
 use improve_cores::work::SearchWork;
+use improve_trials::found::CoreRefutation;
 use lrat_log::log::Log;
 
 /// What the budget was spent on. Each line that was learned cost a unit, and none adds the empty
-/// clause.
+/// clause but those of refutations by cores.
 #[derive(Drop)]
 pub struct Work {
     /// The log over the hard clauses.
@@ -14,17 +15,8 @@ pub struct Work {
     pub bound: Log,
     /// What the search for cores was given and learned, where there was one.
     pub search: Option<SearchWork>,
-    /// A refutation by cores that did not end, where there was one.
-    pub refutation: Option<CoreRefutation>,
-}
-
-/// A refutation by cores that did not end.
-#[derive(Drop)]
-pub struct CoreRefutation {
-    /// The cores.
-    pub cores: Vec<Core>,
-    /// The log over the formula of these cores.
-    pub log: Log,
+    /// Searches for a refutation by cores. Those that have ended show a lower bound.
+    pub tried: Vec<CoreRefutation>,
 }
 
 /// The end of a search. A cost is the sum of the weights of the soft clauses that the bits falsify,

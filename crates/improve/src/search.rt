@@ -13,10 +13,10 @@ ghost use Rattle.improve.specs.Improving.{work_count};
 ghost use Rattle.improve.specs.Progress.{with_told, with_failed};
 ghost use Rattle.improve.specs.Bounds.{IsOver, IsOverHard};
 ghost use Rattle.improve.specs.Standing.{IsStanding, IsEarlyWork, HasNoCores, Ends};
-ghost use Rattle.improve.specs.Standing.{IsCoreProof, AreFeasible, only_hard};
+ghost use Rattle.improve.specs.Standing.{IsCoreProof, AreFeasible, IsOnlyHard};
 
 use crate::bounds::{Bounds, Next};
-use crate::by_cores::{ByCores, refute_by_cores};
+use crate::by_cores::refute_by_cores;
 use crate::found::{Found, ImproveFault, Work};
 use crate::progress::{Progress, ProgressFault};
 use crate::solutions::{Solution, price_polished};
@@ -30,6 +30,7 @@ use cdcl::outcome::Outcome;
 use cdcl::solver::Solver;
 use cnf::types::Instance;
 use improve_cores::frozen::freeze_none;
+use improve_trials::found::ByCores;
 use lrat_log::log::Log;
 use std::alloc::AllocError;
 
@@ -146,13 +147,13 @@ pub fn improve_from<T: Progress, W: Watch>(
 
 /// The work of a search that has met no bound yet. The log is that of the hard clauses.
 fn begin_work(instance: &Instance, hard: Log) -> Work
-    ensures { result ≡ only_hard hard }
+    ensures { IsOnlyHard hard result }
 {
     Work {
         hard,
         bound: Log::new(instance.allocator()),
         search: None,
-        refutation: None,
+        tried: Vec::new(instance.allocator()),
     }
 }
 
@@ -205,7 +206,8 @@ fn lower<T: Progress, W: Watch>(
     go_on(instance, budget, progress, profile, watch, standing, work)
 }
 
-/// Goes on from a solution that was told: in `Profile::Five` first by cores, and then by bounds.
+/// Goes on from a solution that was told: in `Profile::Five`, and where lower bounds are wanted,
+/// first by cores, and then by bounds.
 fn go_on<T: Progress, W: Watch>(
     instance: &Instance,
     budget: &mut Budget,
@@ -224,9 +226,10 @@ fn go_on<T: Progress, W: Watch>(
         (T.state progress.old) (T.state progress.new)
         budget.old budget.new standing (work_count work) }
 {
-    match profile {
-        Profile::Five => lower_by_cores(instance, budget, progress, watch, standing, work),
-        _ => lower_by_bounds(instance, budget, progress, profile, watch, standing, work),
+    if profile == Profile::Five || watch.wants_bounds() {
+        lower_by_cores(instance, budget, progress, profile, watch, standing, work)
+    } else {
+        lower_by_bounds(instance, budget, progress, profile, watch, standing, work)
     }
 }
 
@@ -235,6 +238,7 @@ fn lower_by_cores<T: Progress, W: Watch>(
     instance: &Instance,
     budget: &mut Budget,
     progress: &mut T,
+    profile: Profile,
     watch: &mut W,
     standing: Standing,
     work: Work,
@@ -244,23 +248,16 @@ fn lower_by_cores<T: Progress, W: Watch>(
     requires work { IsEarlyWork instance.now work }
     requires none { HasNoCores work }
     ensures follows { (first : T) → T.follows first progress.old → T.follows first progress.new }
-    ensures ends { Ends Profile.Five instance.now result
+    ensures ends { Ends profile instance.now result
         (T.state progress.old) (T.state progress.new)
         budget.old budget.new standing (work_count work) }
 {
     let mut standing = standing;
     let mut work = work;
-    match refute_by_cores(instance, budget, progress, watch, &mut standing, &mut work)? {
+    let (best, rest) = (&mut standing, &mut work);
+    match refute_by_cores(instance, budget, progress, profile, watch, best, rest)? {
         Some(by_cores) => Ok(conclude_cores(instance, standing.best, by_cores)),
-        None => lower_by_bounds(
-            instance,
-            budget,
-            progress,
-            Profile::Five,
-            watch,
-            standing,
-            work,
-        ),
+        None => lower_by_bounds(instance, budget, progress, profile, watch, standing, work),
     }
 }
 
@@ -484,7 +481,7 @@ fn conclude_spent(
                 hard: work.hard,
                 bound,
                 search: work.search,
-                refutation: work.refutation,
+                tried: work.tried,
             },
         }),
         Err(AllocError) => Err(ImproveFault::Memory),

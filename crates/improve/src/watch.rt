@@ -1,9 +1,11 @@
 // Who looks on while a search runs. Nothing is known of what a watch does: no contract of a search
-// speaks of it, so a search is the same whoever looks on.
+// speaks of it. One that wants lower bounds changes what is looked for, and nothing that is proved.
 ghost use Rattle.improve.specs.Improving.{IsSolution};
+ghost use Rattle.improve.specs.Standing.{IsCoreProof};
 
 use cdcl::watch::SearchReport;
 use cnf::types::Instance;
+use improve_trials::found::ByCores;
 
 /// Looks on while a search runs, and is told how far it has come. It cannot stop the search, and no
 /// failure of it is one of the search.
@@ -11,6 +13,14 @@ pub trait Watch: improve_cores::watch::Watch {
     /// Is shown a solution that is cheaper than those before, and what it costs, below 2^62.
     fn better(&mut self, instance: &Instance, cost: u64, bits: &[bool])
         requires { IsSolution instance.now bits.now cost };
+
+    /// Whether it wants lower bounds that are proved: then cores are looked for in each profile,
+    /// and for longer.
+    fn wants_bounds(&self) -> bool;
+
+    /// Is shown a proof that no solution costs less than `proof.worth`.
+    fn bounded(&mut self, instance: &Instance, proof: &ByCores)
+        requires { IsCoreProof instance.now proof.now.worth proof.now };
 }
 
 /// Looks at nothing.
@@ -27,4 +37,10 @@ impl improve_cores::watch::Watch for Silent {
 
 impl Watch for Silent {
     fn better(&mut self, _instance: &Instance, _cost: u64, _bits: &[bool]) {}
+
+    fn wants_bounds(&self) -> bool {
+        false
+    }
+
+    fn bounded(&mut self, _instance: &Instance, _proof: &ByCores) {}
 }

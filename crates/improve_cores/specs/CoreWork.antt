@@ -71,8 +71,3 @@ pub record CountsLearned (old new : List LogLine) (had left : BudgetState) : Typ
   pub learned : left.learned + learned_count old ≡ had.learned + learned_count new
   pub answers : left.answers ≡ had.answers
   pub limit : left.limit ≡ had.limit
-
--- a refutation by cores that is under way
-pub record RefutationState : Type 0 where
-  pub formula : Cnf
-  pub lines : List LogLine

@@ -1,15 +1,12 @@
--- What a search for cores meets, and how a refutation by cores ends.
+-- What a search for cores meets.
 use Rattle.std.specs.Prelude.{◌≡◌, ⊤}
 use Rattle.cnf.specs.Problem.{Problem}
-use Rattle.lrat_log.specs.Steps.{AddsNoEmptyClause}
 use Rattle.cores.specs.Cores.{AreCounted, first_relaxation}
-use Rattle.improve_cores.specs.CoreWork.{CoreWork, RefutationState, IsModelOf, IsAcceptedOver}
+use Rattle.improve_cores.specs.CoreWork.{CoreWork, IsModelOf}
 use Rattle.improve_cores.specs.declared.searching.Event.{Event}
 use Rattle.improve_cores.specs.declared.searching.Event.TheVariants.{Model, Closed, Over}
 use Rattle.improve_cores.specs.declared.searching.Step.{Step}
 use Rattle.improve_cores.specs.declared.searching.Step.TheVariants.{Model as Met, On, Over as Ended}
-use Rattle.improve_cores.specs.declared.refuting.Refuted.{Refuted}
-use Rattle.improve_cores.specs.declared.refuting.Refuted.TheVariants.{Yes, Model as Bits, Open}
 use Rattle.improve_cores.specs.declared.counted.Counted.{Counted}
 
 -- a model satisfies the formula
@@ -22,12 +19,6 @@ abbrev pub IsStepOf : CoreWork → Step → Type 0
 IsStepOf w (Met bits) = IsModelOf w.formula bits.items
 IsStepOf w On = ⊤
 IsStepOf w Ended = ⊤
-
--- what the end of a refutation says
-abbrev pub IsEndOf : RefutationState → Refuted → Type 0
-IsEndOf r Yes = IsAcceptedOver (r.formula).clauses r.lines
-IsEndOf r (Bits bits) = IsModelOf r.formula bits.items × AddsNoEmptyClause r.lines
-IsEndOf r Open = AddsNoEmptyClause r.lines
 
 -- the cores count to what the counter holds
 abbrev pub AreRightCores : Problem → Counted → Type 0

@@ -1,5 +1,6 @@
 //! Cores as a certificate says them.
-ghost use Rattle.std.specs.Prelude.{◌≡◌, IfOk, IfSome};
+ghost use Rattle.std.specs.Prelude.{◌≡◌, IfOk, IfSome, OnOk};
+ghost use Rattle.cnf.specs.Problem.{Problem};
 ghost use Rattle.improve_cores.specs.Events.{AreRightCores};
 
 use crate::checked::at;
@@ -20,6 +21,45 @@ pub struct Counted {
 }
 
 impl Counted {
+    /// No cores.
+    ///
+    /// # Errors
+    ///
+    /// `AllocError` where memory was refused.
+    pub fn new(instance: &Instance) -> Result<Self, AllocError>
+        ensures { IfOk result (AreRightCores instance.now) }
+    {
+        Ok(Counted {
+            cores: Vec::new(instance.allocator()),
+            counter: Counter::new(instance)?,
+        })
+    }
+
+    /// Counts one core more, and answers whether it is right; one that is not is left out.
+    ///
+    /// # Errors
+    ///
+    /// `AllocError` where memory was refused. The cores are then of no use any more.
+    pub fn add(&mut self, core: Core) -> Result<bool, AllocError>
+        ensures { OnOk result
+            ((p : Problem) → AreRightCores p self.old → AreRightCores p self.new) }
+    {
+        match self.counter.count(&core)? {
+            None => {}
+            Some(_) => return Ok(false),
+        }
+        self.cores.push(core)?;
+        Ok(true)
+    }
+
+    /// The first output of the last core; 0 where there are no cores.
+    pub fn last_first(&self) -> u64 {
+        self.counter
+            .firsts()
+            .last()
+            .map_or(0, |first| u64::from(*first))
+    }
+
     /// The core lines alone.
     pub fn into_cores(self) -> Vec<Core>
         ensures { result ≡ self.cores }
@@ -37,32 +77,30 @@ pub(crate) fn count_found(
 ) -> Result<Option<Counted>, AllocError>
     ensures { IfOk result (λ c. IfSome c (AreRightCores instance.now)) }
 {
-    let alloc = instance.allocator();
-    let mut counter = Counter::new(instance)?;
-    let mut cores = Vec::new(alloc);
-    // By core, the variable before that of its first output.
-    let mut bases: Vec<u64> = Vec::new(alloc);
+    let mut counted = Counted::new(instance)?;
+    // By core, its first output.
+    let mut firsts: Vec<u64> = Vec::new(instance.allocator());
     for core in found {
-        let line = spell_core(core, items, &bases)?;
-        match counter.count(&line)? {
-            None => {}
-            Some(_) => return Ok(None),
+        let line = spell_core(core, items, &firsts)?;
+        if !counted.add(line)? {
+            return Ok(None);
         }
-        let fresh = u64::from(counter.fresh());
-        bases.push(fresh.saturating_sub(line.outputs).saturating_sub(1))?;
-        cores.push(line)?;
+        firsts.push(counted.last_first())?;
     }
-    Ok(Some(Counted { cores, counter }))
+    Ok(Some(counted))
 }
 
-/// The core line of a core, where those before it have these bases.
-fn spell_core(core: &FoundCore, items: &Items, bases: &[u64]) -> Result<Core, AllocError> {
+/// The core line of a core, where those before it have these first outputs.
+fn spell_core(core: &FoundCore, items: &Items, firsts: &[u64]) -> Result<Core, AllocError> {
     let mut inputs = Vec::with_capacity(*core.inputs.allocator(), core.inputs.len())?;
     for variable in &core.inputs {
         let origin = items.origin(*variable);
         let number = match origin.core {
             0 => u64::from(*variable),
-            core => at(bases, core as usize - 1).saturating_add(u64::from(origin.output)),
+            core => {
+                let first = at(firsts, core as usize - 1);
+                first.saturating_add(u64::from(origin.output.saturating_sub(1)))
+            }
         };
         inputs.push(number)?;
     }

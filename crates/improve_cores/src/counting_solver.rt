@@ -16,6 +16,7 @@ ghost use Rattle.improve_cores.specs.Counting.{IsAddable, IsBetween, GivesOnly, 
 ghost use Rattle.improve_cores.specs.Work.{IsSearchWork};
 
 use crate::frozen::freeze_after;
+use crate::trees::literal;
 use crate::work::SearchWork;
 use bound::repeats::has_repeat;
 use cdcl::budget::Budget;
@@ -64,7 +65,7 @@ impl CountingSolver {
     /// # Errors
     ///
     /// `AllocError` where memory was refused.
-    pub(crate) fn of(formula: Formula, free: u32, relaxed: u32) -> Result<Self, AllocError>
+    pub fn of(formula: Formula, free: u32, relaxed: u32) -> Result<Self, AllocError>
         ensures formula { IfOk result (λ w. w.formula ≡ formula) }
         ensures last { IfOk result (λ w. w.last ≡ relaxed) }
         ensures counting { IfOk result (λ w. w.counting ≡ []) }
@@ -129,7 +130,7 @@ impl CountingSolver {
     /// # Errors
     ///
     /// `AllocError` where memory was refused, now or before.
-    pub(crate) fn assume<W: Watch>(
+    pub fn assume<W: Watch>(
         &mut self,
         assumptions: &[Lit],
         share: Share,
@@ -142,6 +143,29 @@ impl CountingSolver {
     {
         let mut none = Passed::new(self.allocator(), 0);
         self.assume_passing(assumptions, share, &mut none, budget, watch)
+    }
+
+    /// As `assume`, under the one assumption that this variable is false; under none where it is no
+    /// variable.
+    ///
+    /// # Errors
+    ///
+    /// `AllocError` where memory was refused, now or before.
+    pub fn assume_false<W: Watch>(
+        &mut self,
+        variable: u32,
+        share: Share,
+        budget: &mut Budget,
+        watch: &mut W,
+    ) -> Result<Assumed, AllocError>
+        ensures clauses { KeepsClauses self.old self.new }
+        ensures answer { IfOk result (IsAnswerOf self.new) }
+        ensures learned { CountsLearned self.old.lines self.new.lines budget.old budget.new }
+    {
+        match literal(variable, true) {
+            Some(lit) => self.assume(&[lit], share, budget, watch),
+            None => self.assume(&[], share, budget, watch),
+        }
     }
 
     /// As `assume`, where assumptions that are false are passed over as long as there is room for
@@ -174,7 +198,7 @@ impl CountingSolver {
     }
 
     /// The lines, once the solver is done with.
-    pub(crate) fn into_log(self) -> Log
+    pub fn into_log(self) -> Log
         ensures log { result ≡ self.lines }
         ensures work { IsWork self }
     {

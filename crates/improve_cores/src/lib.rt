@@ -4,11 +4,10 @@
 
 mod checked;
 pub mod counted;
-mod counting_solver;
+pub mod counting_solver;
 mod found;
 pub mod frozen;
 mod items;
-pub mod refuting;
 pub mod searching;
 mod shortening;
 mod trees;

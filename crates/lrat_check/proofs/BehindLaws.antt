@@ -1,29 +1,29 @@
 -- What follows a head: the formula that it refutes, and the verdict where the certificate ends.
-use Rattle.std.proofs.Common.{◌≡◌, ℕ, ◌+◌, ◌<◌, ◌≤◌, Bool, true, false, List, [], ◌∷◌, ◌++◌, length}
+use Rattle.std.proofs.Common.{◌≡◌, ℕ, ◌+◌, ◌≤◌, Bool, true, false, List, [], ◌++◌}
 use Rattle.std.proofs.Common.{replicate, Result, Ok, Err, refl, sym, ◌∙◌, ap, subst}
 use Rattle.std.proofs.Common.{arith, append_assoc, append-nil}
 use Rattle.std.specs.Prelude.{IfOk, OnOk, zero, suc}
 use Rattle.std.proofs.lemmas.Bool.{le-leb}
 use Rattle.cnf.specs.Formula.{Cnf, IsUnsatisfiable}
+use Rattle.cnf.specs.Literal.{Literal}
 use Rattle.cnf.specs.Lrat.{start_of}
 use Rattle.cnf.specs.Problem.{Problem, cost_under}
-use Rattle.text.specs.Text.{token_lines, tokens_of}
+use Rattle.text.specs.Text.{token_lines}
 use Rattle.adder.specs.declared.cells.Profile.TheVariants.{Five}
 use Rattle.cores.specs.Cores.{Counted}
 use Rattle.bound.specs.Bound.{RefutesCheaper, SaysCheaper, bound_as, core_cnf}
-use Rattle.lrat_check.specs.CoreLines.{IsBehindHead, end_at, end_from}
+use Rattle.lrat_check.specs.CoreLines.{HeadState, end_at}
 use Rattle.lrat_check.specs.Ends.{end_of_head}
 use Rattle.lrat_check.specs.Checks.{CostsAtLeast}
-use Rattle.lrat_check.specs.Heads.{HeadReading, IsEndedHead, IsOpenHead, JudgesBehind}
+use Rattle.lrat_check.specs.Heads.{HeadReading, IsEndedHead, JudgesBehind}
 use Rattle.lrat_check.specs.Heads.{verdict_ended}
 use Rattle.lrat_check.specs.Pieces.{CheckerState}
 use Rattle.lrat_machine.specs.declared.verdicts.Verdict.{Verdict}
 use Rattle.lrat_machine.specs.declared.verdicts.Verdict.TheVariants.{Yes}
 use Rattle.lrat_check.specs.Verdict.{formula_behind, headed_formula, proof_verdict, refuted_formula}
 use Rattle.lrat_check.specs.Verdict.{verdict_behind, verdict_on}
-use Rattle.lrat_check.proofs.HeadLaws.{behind_at}
 use Rattle.lrat_check.proofs.HeadVerdicts.{enough_formula}
-use Rattle.lrat_check.proofs.PieceLaws.{lines_passed_on, tokens-last}
+use Rattle.lrat_check.proofs.PieceLaws.{lines_passed_on}
 use Rattle.lrat_check.proofs.TrueResults.{at_least, not_cheaper}
 use Rattle.lrat_machine.proofs.Laws.{yes_is_sound}
 
@@ -57,59 +57,43 @@ module _ (p : Problem) (cost : ℕ) where
       (not_cheaper Five p cost says (subst (λ g. IsUnsatisfiable g.clauses) is none) u feasible)
   bound_refutes {E} (Err e) is says = tt
 
-  -- the checker has passed over as many lines as the head had
-  pub behind_same : (r : HeadReading) (left : List ℕ) (f : Cnf) (n : ℕ) → n ≡ (r.head).lines
-      → ((first : ℕ) → formula_behind p cost (r.head).some (r.head).counted first ≡ Ok f)
-      → (rest : List ℕ) → rest ≡ r.rest → (more : List ℕ)
-      → proof_verdict f.clauses (((replicate n 10 ++ rest) ++ left) ++ more)
-      ≡ verdict_ended p cost r.head (token_lines ((r.rest ++ left) ++ more))
-  behind_same r left f n lines same rest is more =
-      let regroup : ((replicate n 10 ++ rest) ++ left) ++ more
-      ≡ replicate n 10 ++ ((rest ++ left) ++ more) = simp append_assoc in
-      let count : 1 + n ≡ (r.head).lines + 1 = omega (arith, lines) in
-      ap (proof_verdict f.clauses) regroup
-      ∙ lines_passed_on (start_of f.clauses) 1 n ((rest ++ left) ++ more)
-      ∙ ap (λ k. verdict_on (start_of f.clauses) false k
-      (token_lines ((rest ++ left) ++ more))) count
-      ∙ ap (λ x. verdict_on (start_of f.clauses) false ((r.head).lines + 1)
-      (token_lines ((x ++ left) ++ more))) is
-      ∙ sym (goes_over (r.head).some (r.head).counted ((r.head).lines + 1) ((r.head).lines + 1)
-      (token_lines ((r.rest ++ left) ++ more)) f (same ((r.head).lines + 1)))
+  pub judges_same : (h : HeadState) (f : Cnf)
+      → ((first : ℕ) → formula_behind p cost h.some h.counted first ≡ Ok f)
+      → (lines : List (List (List ℕ)))
+      → verdict_on (start_of f.clauses) false (h.lines + 1) lines ≡ verdict_ended p cost h lines
+  judges_same h f same lines =
+      sym (goes_over h.some h.counted (h.lines + 1) (h.lines + 1) lines f (same (h.lines + 1)))
 
-  -- what its verdict is
-  module _ (r : HeadReading) (left : List ℕ) (c : CheckerState)
-      (j : JudgesBehind p cost r left c) (v : Verdict) where
-    pub behind_verdict : v ≡ proof_verdict (j.formula).clauses j.bytes
-        → v ≡ verdict_ended p cost r.head (token_lines (r.rest ++ left))
-    behind_verdict e =
-        e ∙ ap (proof_verdict (j.formula).clauses) (sym (append-nil j.bytes)) ∙ j.same []
-        ∙ ap (λ x. verdict_ended p cost r.head (token_lines x)) (append-nil (r.rest ++ left))
+  -- what the verdict of a checker of what follows is
+  module _ (r : HeadReading) (c : CheckerState) (j : JudgesBehind p cost r c) where
+    pub behind_same : (more : List ℕ)
+        → proof_verdict (j.formula).clauses ((j.over).bytes ++ more)
+        ≡ verdict_ended p cost r.head (token_lines (r.rest ++ more))
+    behind_same more = (j.over).same more ∙ j.same (token_lines (r.rest ++ more))
 
-    pub behind_sound : (bytes : List ℕ) → v ≡ proof_verdict (j.formula).clauses bytes → v ≡ Yes
-        → CostsAtLeast p cost
-    behind_sound bytes e y = j.refutes (yes_is_sound j.formula bytes v j.is e y)
+    pub behind_sound : (v : Verdict) (bytes : List ℕ)
+        → v ≡ proof_verdict (j.formula).clauses bytes → v ≡ Yes → CostsAtLeast p cost
+    behind_sound v bytes e y = j.refutes (yes_is_sound j.formula bytes v j.is e y)
 
--- where no line feed ends the last line
-module _ (p : Problem) (r : HeadReading) (bytes : List ℕ) (h : IsOpenHead p r bytes)
-    (some : 0 < length r.rest) where
-  pub last_line : end_from r.head (tokens_of r.rest ∷ []) ≡ end_of_head p bytes
-  last_line =
-      ap (end_from r.head) (sym (tokens-last r.rest some ((h.cut).unfinished)))
-      ∙ h.resumes r.rest ∙ ap (end_of_head p) (sym (h.cut).split)
-
-  pub last_ended : IsBehindHead (tokens_of r.rest)
-      → end_at r.head (token_lines (r.rest ++ [])) ≡ end_of_head p bytes
-  last_ended behind =
-      ap (λ x. end_at r.head (token_lines x)) (append-nil r.rest)
-      ∙ ap (end_at r.head) (tokens-last r.rest some ((h.cut).unfinished))
-      ∙ sym (behind_at r.head (tokens_of r.rest) [] behind) ∙ last_line
+-- a checker has passed over as many lines as the head had
+pub passed_over : (r : HeadReading) (formula : List (List Literal)) (n : ℕ) → n ≡ (r.head).lines
+    → (rest : List ℕ) → rest ≡ r.rest → (more : List ℕ)
+    → proof_verdict formula ((replicate n 10 ++ rest) ++ more)
+    ≡ verdict_on (start_of formula) false ((r.head).lines + 1) (token_lines (r.rest ++ more))
+passed_over r formula n lines rest is more =
+    let count : 1 + n ≡ (r.head).lines + 1 = omega (arith, lines) in
+    ap (proof_verdict formula) (append_assoc (replicate n 10) rest more)
+    ∙ lines_passed_on (start_of formula) 1 n (rest ++ more)
+    ∙ ap (λ k. verdict_on (start_of formula) false k (token_lines (rest ++ more))) count
+    ∙ ap (λ x. verdict_on (start_of formula) false ((r.head).lines + 1) (token_lines (x ++ more)))
+    is
 
 -- where nothing comes behind what is left
-pub ended_whole : (p : Problem) (r : HeadReading) (left bytes : List ℕ)
-    → IsEndedHead p r left bytes
-    → end_at r.head (token_lines (r.rest ++ left)) ≡ end_of_head p bytes
-ended_whole p r left bytes e =
-    ap (λ x. end_at r.head (token_lines x)) (sym (append-nil (r.rest ++ left)))
+pub ended_whole : (p : Problem) (h : HeadState) (behind bytes : List ℕ)
+    → IsEndedHead p h behind bytes
+    → end_at h (token_lines behind) ≡ end_of_head p bytes
+ended_whole p h behind bytes e =
+    ap (λ x. end_at h (token_lines x)) (sym (append-nil behind))
     ∙ sym (e.resumes []) ∙ ap (end_of_head p) (append-nil bytes)
 
 -- above 0 the certificate may begin with cores

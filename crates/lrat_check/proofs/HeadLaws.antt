@@ -1,6 +1,6 @@
 -- A head in pieces: what holds after a line more, after a piece, and where it has ended.
-use Rattle.std.proofs.Common.{◌≡◌, ℕ, ◌+◌, ◌≤◌, Bool, false, List, [], ◌∷◌, ◌++◌, length, drop, Ok}
-use Rattle.std.proofs.Common.{refl, sym, ◌∙◌, ap, subst, append_assoc}
+use Rattle.std.proofs.Common.{◌≡◌, ℕ, ◌+◌, ◌<◌, ◌≤◌, false, List, [], ◌∷◌, ◌++◌, length, drop, Ok}
+use Rattle.std.proofs.Common.{refl, sym, ◌∙◌, ap, subst, arith, append_assoc}
 use Rattle.std.specs.Prelude.{◌==◌}
 use Rattle.std.specs.Str.Lines.{strip_carriage_return}
 use Rattle.std.proofs.lemmas.List.{drop-append-le}
@@ -9,17 +9,17 @@ use Rattle.cnf.specs.Problem.{Problem}
 use Rattle.text.specs.Pieces.{HasTaken, IsCut, IsFirstLine}
 use Rattle.text.specs.Text.{IsNoFeed, token_lines, tokens_of}
 use Rattle.text.proofs.Laws.{cut-ended, cut-kept, cut-nothing, taken-on, taken-whole}
-use Rattle.cores.specs.Cores.{Core, Counted, count_core, first_relaxation, no_cores}
+use Rattle.cores.specs.Cores.{Core, count_core, first_relaxation, no_cores}
 use Rattle.lrat_check.specs.declared.core_lines.HeadStep.{HeadStep}
-use Rattle.lrat_check.specs.declared.core_lines.HeadStep.TheVariants.{GoesOn, Fails}
+use Rattle.lrat_check.specs.declared.core_lines.HeadStep.TheVariants.{GoesOn, Ended, Fails}
 use Rattle.lrat_machine.specs.declared.verdicts.Cause.{Cause}
 use Rattle.lrat_check.specs.CoreLines.{CountsOn, HeadState, IsBehindHead, IsHeadOf, ReadsHead}
 use Rattle.lrat_check.specs.CoreLines.{end_at, end_from}
-use Rattle.lrat_check.specs.Ends.{Behind, Faulty, end_of_head, head_end}
-use Rattle.lrat_check.specs.Heads.{HeadReading, IsEndedHead, IsOpenHead}
-use Rattle.lrat_cores.specs.Form.{is_core_word}
+use Rattle.lrat_check.specs.Ends.{Faulty, end_of_head}
+use Rattle.lrat_check.specs.Heads.{EndsWith, HeadReading, IsEndedHead, IsLineLeft, IsOpenHead}
 use Rattle.cores.proofs.Laws.{counted_push}
-use Rattle.lrat_check.proofs.PieceLaws.{tokens-first}
+use Rattle.lrat_check.proofs.EndLaws.{other_first}
+use Rattle.lrat_check.proofs.PieceLaws.{tokens-first, tokens-last}
 
 pub core_counted : (old new : HeadState) (c : Core) → new.from ≡ old.from
     → count_core old.from old.counted c ≡ Ok new.counted → CountsOn old new
@@ -30,11 +30,6 @@ core_counted old new c same e = λ p h. record {
       counted_push (first_relaxation p) (no_cores p) old.counted new.counted h.cores c h.counted
       (subst (λ f. count_core f old.counted c ≡ Ok new.counted) h.from e);
 }
-
-other_first : (from : ℕ) (some : Bool) (s : Counted) (n : ℕ) (t : List ℕ) (ts : List (List ℕ))
-    (more : List (List (List ℕ))) → is_core_word t ≡ false
-    → head_end from some s n ((t ∷ ts) ∷ more) ≡ Behind some s n n ((t ∷ ts) ∷ more)
-other_first from some s n t ts more e = rw e refl
 
 -- the head has ended where a line comes that is behind it
 pub behind_at : (h : HeadState) (ts : List (List ℕ)) (more : List (List (List ℕ)))
@@ -141,7 +136,7 @@ module _ (old mid new : HeadReading) (piece left end after : List ℕ)
       → new.rest ++ drop kept end ≡ mid.rest ++ end → new.head ≡ mid.head
       → IsBehindHead (tokens_of (strip_carriage_return (mid.rest ++ end)))
       → CountsOn mid.head new.head
-      → IsEndedHead p new (drop kept left) (bytes ++ piece)
+      → IsEndedHead p new.head (new.rest ++ drop kept left) (bytes ++ piece)
   taken_ended kept within same head behind counts = record {
     is = counts p mid_open.is;
     resumes = λ more.
@@ -202,3 +197,54 @@ opens p r head empty = record {
   cut = subst (IsCut [] []) (sym empty) cut-nothing;
   resumes = λ more. ap (λ (h : HeadState). end_from h (token_lines more)) head;
 }
+
+-- the bytes behind the head are kept
+pub ended_kept : (p : Problem) (h : HeadState) (behind kept bytes : List ℕ) → kept ≡ behind
+    → IsEndedHead p h behind bytes → IsEndedHead p h kept bytes
+ended_kept p h behind kept bytes same e = subst (λ x. IsEndedHead p h x bytes) (sym same) e
+
+-- where no line feed ends the last line
+module _ (p : Problem) (r : HeadReading) (bytes : List ℕ) (h : IsOpenHead p r bytes) where
+  no_line : r.rest ≡ [] → end_from r.head [] ≡ end_of_head p bytes
+  no_line empty =
+      h.resumes []
+      ∙ ap (end_of_head p) (ap (λ x. h.done ++ x) (sym empty) ∙ sym (h.cut).split)
+
+  last_line : 0 < length r.rest
+      → end_from r.head (tokens_of r.rest ∷ []) ≡ end_of_head p bytes
+  last_line some =
+      ap (end_from r.head) (sym (tokens-last r.rest some ((h.cut).unfinished)))
+      ∙ h.resumes r.rest ∙ ap (end_of_head p) (sym (h.cut).split)
+
+  last_ended : 0 < length r.rest → IsBehindHead (tokens_of r.rest)
+      → end_at r.head (token_lines r.rest) ≡ end_of_head p bytes
+  last_ended some behind =
+      ap (end_at r.head) (tokens-last r.rest some ((h.cut).unfinished))
+      ∙ sym (behind_at r.head (tokens_of r.rest) [] behind) ∙ last_line some
+
+pub ends_with : (old new : HeadReading) (step : HeadStep) → 0 < length old.rest
+    → new.rest ≡ old.rest → ReadsHead old.head (tokens_of old.rest) step new.head
+    → (p : Problem) (bytes : List ℕ) → IsOpenHead p old bytes → EndsWith p step new bytes
+ends_with old new GoesOn some rest j p bytes h = sym (last_line p old bytes h some) ∙ j []
+ends_with old new Ended some rest j p bytes h =
+    sym (last_ended p old bytes h some j.1)
+    ∙ ap (λ (s : HeadState). end_at s (token_lines old.rest)) (sym j.0)
+    ∙ ap (λ x. end_at new.head (token_lines x)) (sym rest)
+ends_with old new (Fails cause) some rest j p bytes h =
+    sym (last_line p old bytes h some) ∙ j.1 [] ∙ ap (λ n. Faulty cause (n + 1)) (sym j.0)
+
+pub ends_without : (r : HeadReading) → r.rest ≡ [] → (p : Problem) (bytes : List ℕ)
+    → IsOpenHead p r bytes → EndsWith p GoesOn r bytes
+ends_without r empty p bytes h = sym (no_line p r bytes h empty)
+
+pub line_left : (old new : HeadReading) (step : HeadStep) → 0 < length old.rest
+    → new.rest ≡ old.rest → ReadsHead old.head (tokens_of old.rest) step new.head
+    → IsLineLeft step old new
+line_left old new GoesOn some rest j = tt
+line_left old new Ended some rest j = (
+  ap (λ (s : HeadState). s.lines) j.0,
+  rest,
+  omega (arith, some, ap (λ (x : List ℕ). length x) rest),
+)
+line_left old new (Fails cause) some rest j =
+    (j.0, rest, omega (arith, some, ap (λ (x : List ℕ). length x) rest))

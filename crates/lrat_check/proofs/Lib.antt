@@ -1,3 +1,4 @@
+pub mod EndLaws
 pub mod HeadVerdicts
 pub mod Checked
 pub mod TrueResults
@@ -9,3 +10,4 @@ pub mod HeadLaws
 pub mod BehindLaws
 pub mod LeftLaws
 pub mod Stops
+pub mod LowerLaws

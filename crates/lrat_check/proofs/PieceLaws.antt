@@ -329,21 +329,21 @@ read_more (Some x) (Some y) (Some z) a b p q = p ∙ ap (λ w. a ++ w) q ∙ sym
 
 -- the verdict on all bytes of the reader, where it was found over the bytes so far and whatever
 -- comes, or at their end
-pub over_all : (o n : Option (List ℕ)) (fed : List ℕ) (v : Verdict) (f : List ℕ → Verdict)
+pub over_all : {A : Type 0} (o n : Option (List ℕ)) (fed : List ℕ) (v : A) (f : List ℕ → A)
     → Consumes o n fed → ((more : List ℕ) → v ≡ f (fed ++ more)) → IfSome o (λ bytes. v ≡ f bytes)
 over_all None n fed v f p h = tt
 over_all (Some x) None fed v f p h = absurd p
 over_all (Some x) (Some y) fed v f p h = h y ∙ ap f (sym p)
 
 -- where another function gives the verdict on the rest
-pub over_rest : (o n : Option (List ℕ)) (fed : List ℕ) (v : Verdict) (f g : List ℕ → Verdict)
+pub over_rest : {A : Type 0} (o n : Option (List ℕ)) (fed : List ℕ) (v : A) (f g : List ℕ → A)
     → Consumes o n fed → ((more : List ℕ) → f (fed ++ more) ≡ g more)
     → IfSome n (λ bytes. v ≡ g bytes) → IfSome o (λ bytes. v ≡ f bytes)
 over_rest None n fed v f g p same h = tt
 over_rest (Some x) None fed v f g p same h = absurd p
 over_rest (Some x) (Some y) fed v f g p same h = h ∙ sym (same y) ∙ ap f (sym p)
 
-pub over_ended : (o n : Option (List ℕ)) (fed : List ℕ) (v : Verdict) (f : List ℕ → Verdict)
+pub over_ended : {A : Type 0} (o n : Option (List ℕ)) (fed : List ℕ) (v : A) (f : List ℕ → A)
     → Consumes o n fed → IsAtEnd n → v ≡ f fed → IfSome o (λ bytes. v ≡ f bytes)
 over_ended None n fed v f p e h = tt
 over_ended (Some x) None fed v f p e h = absurd p

@@ -14,12 +14,14 @@ use Rattle.text.specs.Text.{IsNoFeed, token_lines}
 use Rattle.lrat_machine.specs.Machine.{MachineState, live_in, verdict_after}
 use Rattle.lrat_machine.specs.declared.verdicts.Verdict.{Verdict}
 use Rattle.lrat_machine.specs.declared.verdicts.Verdict.TheVariants.{Yes, No}
-use Rattle.lrat_check.specs.CoreLines.{HeadState, end_from}
-use Rattle.lrat_check.specs.Ends.{end_of_head}
-use Rattle.lrat_check.specs.Heads.{HeadReading, IsEndedHead, IsOpenHead, JudgesBehind}
-use Rattle.lrat_check.specs.Pieces.{CheckerState, IsOpen, ReadingState}
+use Rattle.lrat_machine.specs.declared.verdicts.Cause.{Cause}
+use Rattle.lrat_machine.specs.declared.verdicts.Cause.TheVariants.{CoreForm}
+use Rattle.lrat_check.specs.CoreLines.{HeadState, end_at, end_from}
+use Rattle.lrat_check.specs.Ends.{HeadEnd, Faulty, end_of_head}
+use Rattle.lrat_check.specs.Heads.{EndsInPiece, IsEndedHead}
+use Rattle.lrat_check.specs.Pieces.{IsOpen, ReadingState}
 use Rattle.lrat_check.specs.Stopping.{feeds, Settles, GoesOnFor, ReadsOn, StopsBehind, StopsInTime}
-use Rattle.lrat_check.specs.Verdict.{headed_verdict, proof_verdict, verdict_at, verdict_on}
+use Rattle.lrat_check.specs.Verdict.{proof_verdict, verdict_on}
 use Rattle.lrat_check.proofs.PieceLaws.{read_more}
 
 -- a line that no verdict passes, at once or one line later
@@ -46,15 +48,21 @@ open_unsettled m formula done resumes (v, e) =
     (resumes (10 ∷ 120 ∷ []) ∙ e (10 ∷ 120 ∷ []))
 
 -- a core line without its numbers
-pub head_unsettled : (p : Problem) (cost : ℕ) (h : HeadState) (done : List ℕ)
+abbrev pub TellsFaults : (HeadEnd → Verdict) → Type 0
+TellsFaults f = (cause : Cause) (line : ℕ) → f (Faulty cause line) ≡ No cause line
+
+pub head_unsettled : (p : Problem) (f : HeadEnd → Verdict) → TellsFaults f → (h : HeadState)
+    (done : List ℕ)
     → ((more : List ℕ) → end_from h (token_lines more) ≡ end_of_head p (done ++ more))
-    → Settles (headed_verdict p cost) done → ⊥
-head_unsettled p cost h done resumes (v, e) =
+    → Settles (λ bytes. f (end_of_head p bytes)) done → ⊥
+head_unsettled p f faults h done resumes (v, e) =
     no_next (h.lines + 1) (ap number
-    (ap (verdict_at p cost) (resumes (99 ∷ 111 ∷ 114 ∷ 101 ∷ []))
+    (sym (faults CoreForm (h.lines + 1))
+    ∙ ap f (resumes (99 ∷ 111 ∷ 114 ∷ 101 ∷ []))
     ∙ e (99 ∷ 111 ∷ 114 ∷ 101 ∷ [])
     ∙ sym (e (10 ∷ 99 ∷ 111 ∷ 114 ∷ 101 ∷ []))
-    ∙ sym (ap (verdict_at p cost) (resumes (10 ∷ 99 ∷ 111 ∷ 114 ∷ 101 ∷ [])))))
+    ∙ sym (ap f (resumes (10 ∷ 99 ∷ 111 ∷ 114 ∷ 101 ∷ [])))
+    ∙ faults CoreForm (h.lines + 1 + 1)))
 
 -- line feeds
 pub feeds-append : (x y : List ℕ) → feeds (x ++ y) ≡ feeds x + feeds y
@@ -179,32 +187,36 @@ stops_same f g old new same h = record {
 pub stops_at_once : (f : List ℕ → Verdict) (known : Option (List ℕ)) → StopsInTime f known known
 stops_at_once f known = record { bytes = []; read = Consumes-nil known; in_time = inl refl }
 
-module _ (p : Problem) (cost : ℕ) where
-  -- a piece more of the head
-  pub head_on : (r : HeadReading) (bytes piece : List ℕ) → IsOpenHead p r bytes
-      → length piece ≤ 2 ^ 16 → GoesOnFor (2 ^ 16) (headed_verdict p cost) (bytes ++ piece)
-  head_on r bytes piece o small = record {
-    done = o.done;
-    over = r.rest ++ piece;
-    split = ap (λ x. x ++ piece) (o.cut).split ∙ append_assoc o.done r.rest piece;
-    few = over_few r.rest piece (o.cut).unfinished small;
-    is_open = head_unsettled p cost r.head o.done o.resumes;
-  }
+-- the verdict by what a head comes to
+module _ (p : Problem) (f : HeadEnd → Verdict) (faults : TellsFaults f) where
+  abbrev pub told : List ℕ → Verdict
+  told bytes = f (end_of_head p bytes)
 
-  pub head_stops : (r : HeadReading) (bytes piece : List ℕ) (old new : Option (List ℕ))
-      → IsOpenHead p r bytes → length piece ≤ 2 ^ 16 → Consumes old new (bytes ++ piece)
-      → StopsInTime (headed_verdict p cost) old new
-  head_stops r bytes piece old new o small read = record {
-    bytes = bytes ++ piece;
+  -- a piece more of the head
+  pub head_on : (bytes : List ℕ) → EndsInPiece p bytes → GoesOnFor (2 ^ 16) told bytes
+  head_on bytes e =
+      let o = e.is_open in
+      let rest = (e.left).rest in
+      record {
+        done = o.done;
+        over = rest ++ e.piece;
+        split =
+            e.split ∙ ap (λ x. x ++ e.piece) (o.cut).split ∙ append_assoc o.done rest e.piece;
+        few = over_few rest e.piece (o.cut).unfinished e.small;
+        is_open = head_unsettled p f faults (e.left).head o.done o.resumes;
+      }
+
+  pub head_stops : (bytes : List ℕ) (old new : Option (List ℕ)) → Consumes old new bytes
+      → EndsInPiece p bytes → StopsInTime told old new
+  head_stops bytes old new read e = record {
+    bytes = bytes;
     read = read;
-    in_time = inr (goes_further (headed_verdict p cost) (bytes ++ piece)
-        (head_on r bytes piece o small));
+    in_time = inr (goes_further told bytes (head_on bytes e));
   }
 
   -- the reader behind the head
   pub rest_stops : (bytes : List ℕ) (old mid new : Option (List ℕ)) → Consumes old mid bytes
-      → StopsBehind (headed_verdict p cost) bytes mid new
-      → StopsInTime (headed_verdict p cost) old new
+      → StopsBehind told bytes mid new → StopsInTime told old new
   rest_stops bytes old mid new read b = record {
     bytes = bytes ++ b.bytes;
     read = read_more old mid new bytes b.bytes read b.read;
@@ -212,28 +224,28 @@ module _ (p : Problem) (cost : ℕ) where
   }
 
   pub nothing_behind : (bytes : List ℕ) (known : Option (List ℕ))
-      → GoesOnFor (2 ^ 16) (headed_verdict p cost) bytes
-      → StopsBehind (headed_verdict p cost) bytes known known
+      → GoesOnFor (2 ^ 16) told bytes → StopsBehind told bytes known known
   nothing_behind bytes known h = record {
     bytes = [];
     read = Consumes-nil known;
-    in_time = subst (GoesOnFor (2 ^ 17) (headed_verdict p cost)) (sym (append-nil bytes))
-        (goes_further (headed_verdict p cost) bytes h);
+    in_time = subst (GoesOnFor (2 ^ 17) told) (sym (append-nil bytes)) (goes_further told bytes h);
   }
 
-  module _ (r : HeadReading) (left : List ℕ) (c : CheckerState) (j : JudgesBehind p cost r left c)
-      (head : List ℕ) (t : IsEndedHead p r left head)
-      (h : GoesOnFor (2 ^ 16) (headed_verdict p cost) head) where
+  -- the clauses and the bytes that were judged over them in place of the head
+  module _ (s : HeadState) (after : List ℕ) (formula : List (List Literal)) (before : List ℕ)
+      (same : (more : List ℕ)
+      → proof_verdict formula (before ++ more) ≡ f (end_at s (token_lines (after ++ more))))
+      (head : List ℕ) (t : IsEndedHead p s after head) (h : GoesOnFor (2 ^ 16) told head) where
     abbrev behind : List ℕ → Verdict
-    behind = proof_verdict (j.formula).clauses
+    behind = proof_verdict formula
 
-    same_behind : (u : List ℕ) → headed_verdict p cost (head ++ u) ≡ behind (j.bytes ++ u)
-    same_behind u = ap (verdict_at p cost) (t.resumes u) ∙ sym (j.same u)
+    same_behind : (u : List ℕ) → told (head ++ u) ≡ behind (before ++ u)
+    same_behind u = ap f (t.resumes u) ∙ sym (same u)
 
     -- a line has ended behind the head
-    line_behind : (bytes : List ℕ) (k : ReadsOn behind j.bytes bytes)
-        → Within j.bytes k.front k.done k.rest
-        → GoesOnFor (2 ^ 16) (headed_verdict p cost) (head ++ bytes)
+    line_behind : (bytes : List ℕ) (k : ReadsOn behind before bytes)
+        → Within before k.front k.done k.rest
+        → GoesOnFor (2 ^ 16) told (head ++ bytes)
     line_behind bytes k (u, f, g) = record {
       done = head ++ u;
       over = k.rest ++ k.piece;
@@ -244,9 +256,9 @@ module _ (p : Problem) (cost : ℕ) where
       is_open = λ s. k.is_open (
         s.0,
         λ more.
-            ap (λ x. behind (x ++ more)) g ∙ ap behind (append_assoc j.bytes u more)
+            ap (λ x. behind (x ++ more)) g ∙ ap behind (append_assoc before u more)
             ∙ sym (same_behind (u ++ more))
-            ∙ ap (headed_verdict p cost) (sym (append_assoc head u more)) ∙ s.1 more,
+            ∙ ap told (sym (append_assoc head u more)) ∙ s.1 more,
       );
     }
       where
@@ -254,9 +266,9 @@ module _ (p : Problem) (cost : ℕ) where
         regroup a b c d = simp append_assoc
 
     -- none has
-    no_line_behind : (bytes : List ℕ) (k : ReadsOn behind j.bytes bytes)
-        → Within k.done k.rest j.bytes k.front
-        → GoesOnFor (2 ^ 17) (headed_verdict p cost) (head ++ bytes)
+    no_line_behind : (bytes : List ℕ) (k : ReadsOn behind before bytes)
+        → Within k.done k.rest before k.front
+        → GoesOnFor (2 ^ 17) told (head ++ bytes)
     no_line_behind bytes k (u, f, g) = record {
       done = h.done;
       over = h.over ++ bytes;
@@ -271,25 +283,25 @@ module _ (p : Problem) (cost : ℕ) where
       is_open = h.is_open;
     }
 
-    goes_behind : (bytes : List ℕ) (k : ReadsOn behind j.bytes bytes)
-        → Within j.bytes k.front k.done k.rest ⊎ Within k.done k.rest j.bytes k.front
-        → GoesOnFor (2 ^ 17) (headed_verdict p cost) (head ++ bytes)
+    goes_behind : (bytes : List ℕ) (k : ReadsOn behind before bytes)
+        → Within before k.front k.done k.rest ⊎ Within k.done k.rest before k.front
+        → GoesOnFor (2 ^ 17) told (head ++ bytes)
     goes_behind bytes k (inl w) =
-        goes_further (headed_verdict p cost) (head ++ bytes) (line_behind bytes k w)
+        goes_further told (head ++ bytes) (line_behind bytes k w)
     goes_behind bytes k (inr w) = no_line_behind bytes k w
 
     pub stops_behind : (bytes : List ℕ) (old new : Option (List ℕ)) → Consumes old new bytes
-        → (bytes ≡ []) ⊎ ReadsOn behind j.bytes bytes
-        → StopsBehind (headed_verdict p cost) head old new
+        → (bytes ≡ []) ⊎ ReadsOn behind before bytes
+        → StopsBehind told head old new
     stops_behind bytes old new read (inl none) = record {
       bytes = bytes;
       read = read;
-      in_time = subst (λ x. GoesOnFor (2 ^ 17) (headed_verdict p cost) (head ++ x)) (sym none)
-          (subst (GoesOnFor (2 ^ 17) (headed_verdict p cost)) (sym (append-nil head))
-          (goes_further (headed_verdict p cost) head h));
+      in_time = subst (λ x. GoesOnFor (2 ^ 17) told (head ++ x)) (sym none)
+          (subst (GoesOnFor (2 ^ 17) told) (sym (append-nil head))
+          (goes_further told head h));
     }
     stops_behind bytes old new read (inr k) = record {
       bytes = bytes;
       read = read;
-      in_time = goes_behind bytes k (two_cuts j.bytes k.front k.done k.rest k.cut);
+      in_time = goes_behind bytes k (two_cuts before k.front k.done k.rest k.cut);
     }

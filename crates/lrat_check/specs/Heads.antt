@@ -1,12 +1,21 @@
 -- The head of a certificate, which comes in pieces, and the checker of what follows it.
-use Rattle.std.specs.Prelude.{◌≡◌, ℕ, ◌+◌, ◌<◌, List, ⊤, ◌++◌, length, Option, Some, None}
+use Rattle.std.specs.Prelude.{◌≡◌, ℕ, ◌+◌, ◌<◌, ◌≤◌, ◌^◌, false, List, [], ⊤, ◌++◌, length, Option}
+use Rattle.std.specs.Prelude.{Some, None}
+use Rattle.std.specs.Io.KnownBytes.{Consumes, IsAtEnd}
 use Rattle.cnf.specs.Formula.{Cnf, IsFormula, IsUnsatisfiable}
+use Rattle.cnf.specs.Literal.{Literal}
+use Rattle.cnf.specs.Lrat.{start_of}
 use Rattle.cnf.specs.Problem.{Problem}
 use Rattle.text.specs.Pieces.{IsCut}
 use Rattle.text.specs.Text.{token_lines}
 use Rattle.lrat_check.specs.Checks.{CostsAtLeast}
 use Rattle.lrat_check.specs.CoreLines.{HeadState, IsHeadOf, end_at, end_from}
 use Rattle.lrat_check.specs.Ends.{Faulty, end_of_head}
+use Rattle.lrat_check.specs.declared.core_lines.HeadStep.{HeadStep}
+use Rattle.lrat_check.specs.declared.core_lines.HeadStep.TheVariants.{GoesOn, Ended, Fails}
+use Rattle.lrat_check.specs.declared.head_streams.HeadRead.{HeadRead}
+use Rattle.lrat_check.specs.declared.head_streams.HeadRead.TheVariants.{AtEnd, More}
+use Rattle.lrat_check.specs.declared.head_streams.HeadRead.TheVariants.{Fails as HasFault}
 use Rattle.lrat_check.specs.declared.heads.Head.{Head}
 use Rattle.lrat_check.specs.declared.heads.Taken.{Taken}
 use Rattle.lrat_check.specs.declared.heads.Taken.TheVariants.{All, Ended as HasEnded}
@@ -15,7 +24,7 @@ use Rattle.lrat_machine.specs.declared.verdicts.Cause.TheVariants.{CoreSum}
 use Rattle.lrat_machine.specs.declared.verdicts.Verdict.{Verdict}
 use Rattle.lrat_machine.specs.declared.verdicts.Verdict.TheVariants.{No}
 use Rattle.lrat_check.specs.Pieces.{CheckerState, HasJudged}
-use Rattle.lrat_check.specs.Verdict.{proof_verdict, verdict_at}
+use Rattle.lrat_check.specs.Verdict.{proof_verdict, verdict_at, verdict_on}
 
 -- what the pieces of a head leave
 pub record HeadReading : Type 0 where
@@ -36,16 +45,16 @@ pub record IsOpenHead (p : Problem) (r : HeadReading) (bytes : List ℕ) : Type 
   pub resumes : (more : List ℕ)
       → end_from r.head (token_lines more) ≡ end_of_head p (done ++ more)
 
--- the head has ended before the rest and the bytes that are left
-pub record IsEndedHead (p : Problem) (r : HeadReading) (left bytes : List ℕ) : Type 0 where
-  pub is : IsHeadOf p r.head
-  pub resumes : (more : List ℕ) → end_of_head p (bytes ++ more)
-      ≡ end_at r.head (token_lines ((r.rest ++ left) ++ more))
+-- the head has ended before these bytes, which come last
+pub record IsEndedHead (p : Problem) (h : HeadState) (behind bytes : List ℕ) : Type 0 where
+  pub is : IsHeadOf p h
+  pub resumes : (more : List ℕ)
+      → end_of_head p (bytes ++ more) ≡ end_at h (token_lines (behind ++ more))
 
 -- what is known once these bytes were taken
 abbrev pub Takes : Problem → Taken → HeadReading → List ℕ → Type 0
 Takes p All r bytes = IsOpenHead p r bytes
-Takes p (HasEnded left) r bytes = IsEndedHead p r left.now bytes
+Takes p (HasEnded left) r bytes = IsEndedHead p r.head (r.rest ++ left.now) bytes
 Takes p (HasFailed cause) r bytes =
     (more : List ℕ) → end_of_head p (bytes ++ more) ≡ Faulty cause ((r.head).lines + 1)
 
@@ -61,24 +70,77 @@ IsSomeLeft All = ⊤
 IsSomeLeft (HasEnded left) = 0 < length left.now
 IsSomeLeft (HasFailed cause) = ⊤
 
+-- what the head comes to where nothing follows the bytes
+abbrev pub EndsWith : Problem → HeadStep → HeadReading → List ℕ → Type 0
+EndsWith p GoesOn r bytes = end_of_head p bytes ≡ end_from r.head []
+EndsWith p Ended r bytes = end_of_head p bytes ≡ end_at r.head (token_lines r.rest)
+EndsWith p (Fails cause) r bytes = end_of_head p bytes ≡ Faulty cause ((r.head).lines + 1)
+
+-- the last line is not empty and was not counted, where it is none of the head
+abbrev pub IsLineLeft : HeadStep → HeadReading → HeadReading → Type 0
+IsLineLeft GoesOn old new = ⊤
+IsLineLeft Ended old new =
+    ((new.head).lines ≡ (old.head).lines) × (new.rest ≡ old.rest) × (0 < length new.rest)
+IsLineLeft (Fails cause) old new =
+    ((new.head).lines ≡ (old.head).lines) × (new.rest ≡ old.rest) × (0 < length new.rest)
+
+-- what is known once a reader has given these bytes, and has these left
+abbrev pub LeavesHead : Problem → HeadRead → HeadReading → List ℕ → Option (List ℕ) → Type 0
+LeavesHead p AtEnd r bytes new = IsOpenHead p r bytes × IsAtEnd new
+LeavesHead p More r bytes new = IsEndedHead p r.head r.rest bytes
+LeavesHead p (HasFault cause) r bytes new =
+    (more : List ℕ) → end_of_head p (bytes ++ more) ≡ Faulty cause ((r.head).lines + 1)
+
+-- all but the last piece of the bytes leaves a head that may go on
+pub record EndsInPiece (p : Problem) (bytes : List ℕ) : Type 0 where
+  pub before : List ℕ
+  pub piece : List ℕ
+  pub split : bytes ≡ before ++ piece
+  pub small : length piece ≤ 2 ^ 16
+  pub left : HeadReading
+  pub is_open : IsOpenHead p left before
+
+-- the head was read from what a reader had left to what it has left
+pub record HasReadHead (p : Problem) (how : HeadRead) (r : HeadReading)
+    (old new : Option (List ℕ)) : Type 0 where
+  pub bytes : List ℕ
+  pub read : Consumes old new bytes
+  pub leaves : LeavesHead p how r bytes new
+  pub in_time : EndsInPiece p bytes
+
+-- there is room for what is kept, and for the line that is none of the head
+abbrev pub HasRoom : HeadRead → HeadReading → Type 0
+HasRoom AtEnd r = (r.head).lines + length r.rest < 2 ^ 64
+HasRoom More r = ((r.head).lines + length r.rest < 2 ^ 64) × ((r.head).lines + 1 < 2 ^ 64)
+HasRoom (HasFault cause) r = (r.head).lines + 1 < 2 ^ 64
+
 -- the verdict where the head has ended before these lines, each as its tokens
 abbrev pub verdict_ended : Problem → ℕ → HeadState → List (List (List ℕ)) → Verdict
 verdict_ended p cost h more = verdict_at p cost (end_at h more)
 
--- a checker over a formula that has judged bytes in place of the head, with what follows it
-pub record JudgesBehind (p : Problem) (cost : ℕ) (r : HeadReading) (left : List ℕ)
-    (c : CheckerState) : Type 0 where
+-- a checker over these clauses that has judged bytes in place of the head, and then what is kept
+pub record JudgesOver (formula : List (List Literal)) (r : HeadReading) (c : CheckerState) :
+    Type 0 where
+  pub bytes : List ℕ
+  pub judged : HasJudged c formula bytes
+  pub fed : c.fed ≡ (r.head).lines + length r.rest
+  pub same : (more : List ℕ) → proof_verdict formula (bytes ++ more)
+      ≡ verdict_on (start_of formula) false ((r.head).lines + 1) (token_lines (r.rest ++ more))
+
+-- the same, over a formula whose refutation shows that nothing costs less
+pub record JudgesBehind (p : Problem) (cost : ℕ) (r : HeadReading) (c : CheckerState) :
+    Type 0 where
   pub formula : Cnf
   pub is : IsFormula formula
   pub refutes : IsUnsatisfiable formula.clauses → CostsAtLeast p cost
-  pub bytes : List ℕ
-  pub judged : HasJudged c formula.clauses bytes
-  pub same : (more : List ℕ) → proof_verdict formula.clauses (bytes ++ more)
-      ≡ verdict_ended p cost r.head (token_lines ((r.rest ++ left) ++ more))
+  pub over : JudgesOver formula.clauses r c
+  pub same : (lines : List (List (List ℕ)))
+      → verdict_on (start_of formula.clauses) false ((r.head).lines + 1) lines
+      ≡ verdict_ended p cost r.head lines
 
 -- the checker of what follows the head, or none where the cores are worth too little
-abbrev pub IsBehind : Problem → ℕ → HeadReading → List ℕ → Option CheckerState → Type 0
-IsBehind p cost r left (Some c) = JudgesBehind p cost r left c
-IsBehind p cost r left None =
+abbrev pub IsBehind : Problem → ℕ → HeadReading → Option CheckerState → Type 0
+IsBehind p cost r (Some c) = JudgesBehind p cost r c
+IsBehind p cost r None =
     (more : List (List (List ℕ)))
     → verdict_ended p cost r.head more ≡ No CoreSum ((r.head).lines + 1)

@@ -8,3 +8,4 @@ pub mod Heads
 pub mod CoreFormula
 pub mod Left
 pub mod Stopping
+pub mod Lower

@@ -13,12 +13,12 @@ use Rattle.cnf.specs.Bits.{assignment_of}
 use Rattle.cnf.specs.Lrat.{start_of}
 use Rattle.adder.specs.declared.cells.Profile.{Profile}
 use Rattle.adder.specs.declared.cells.Profile.TheVariants.{One, Five}
-use Rattle.cores.specs.Cores.{Counted, first_relaxation}
+use Rattle.cores.specs.Cores.{Counted}
 use Rattle.bound.specs.Bound.{hard_cnf, bound_as, core_cnf}
 use Rattle.lrat_result.specs.Result.{Said, OptimumFound, Unsatisfiable, Satisfiable, Unknown}
 use Rattle.lrat_result.specs.Result.{Report, report_of}
 use Rattle.lrat_check.specs.Checks.{ChecksAs, takes_cores}
-use Rattle.lrat_check.specs.Ends.{HeadEnd, Behind, Faulty, end_of_head, head_end}
+use Rattle.lrat_check.specs.Ends.{HeadEnd, Behind, Faulty, end_of_head}
 use Rattle.lrat_machine.specs.declared.verdicts.Cause.{Cause}
 use Rattle.lrat_machine.specs.declared.verdicts.Cause.TheVariants.{Text, ResultForm, BitsLength}
 use Rattle.lrat_machine.specs.declared.verdicts.Cause.TheVariants.{NotFeasible, CostWrong}
@@ -55,12 +55,6 @@ verdict_behind p cost some s first n lines = by (formula_behind p cost some s fi
 abbrev pub verdict_at : Problem → ℕ → HeadEnd → Verdict
 verdict_at p cost (Behind some s first n lines) = verdict_behind p cost some s first n lines
 verdict_at p cost (Faulty cause line) = No cause line
-
--- the verdict on the lines from line n on, after the cores that count to s; some says that there
--- was one
-abbrev pub head_verdict : Problem → ℕ → Bool → Counted → ℕ → List (List (List ℕ)) → Verdict
-head_verdict p cost some s n lines =
-    verdict_at p cost (head_end (first_relaxation p) some s n lines)
 
 -- the verdict on a certificate that may begin with cores
 abbrev pub headed_verdict : Problem → ℕ → List ℕ → Verdict

@@ -7,10 +7,12 @@ ghost use Rattle.cnf.specs.Literal.{Literal};
 ghost use Rattle.text.specs.Text.{token_lines};
 ghost use Rattle.lrat_check.specs.CoreLines.{IsHeadOf, end_from};
 ghost use Rattle.lrat_check.specs.Checks.{CostsAtLeast};
-ghost use Rattle.lrat_check.specs.Heads.{IsBehind, IsOpenHead, head_reading, verdict_ended};
+ghost use Rattle.lrat_check.specs.Heads.{IsBehind, IsOpenHead, JudgesOver, head_reading};
+ghost use Rattle.lrat_check.specs.Heads.{verdict_ended};
 ghost use Rattle.lrat_check.specs.Pieces.{HasJudged};
 ghost use Rattle.lrat_check.specs.Verdict.{formula_behind, headed_verdict, verdict_at};
 
+use crate::certificate::judge_whole;
 use crate::core_lines::{CoreLines, HeadStep};
 use crate::heads::Head;
 use crate::pieces::Checker;
@@ -49,28 +51,35 @@ pub(crate) fn formula_behind(
     }
 }
 
-/// The checker of what follows the head, which has judged what is left already; none where the
+/// The checker of what follows the head, which has judged what is kept already; none where the
 /// cores are worth too little.
 pub(crate) fn checker_behind(
     head: &Head,
     instance: &Instance,
     cost: u64,
-    left: &[u8],
 ) -> Result<Option<Checker>, AllocError>
     requires small { cost ≤ 2 ^ 62 }
     requires is { IsHeadOf instance.now head.now.cores }
-    requires room { head.now.cores.lines + length head.now.rest + length left.now < 2 ^ 64 }
-    ensures { IfOk result (λ c. IsBehind instance.now cost (head_reading head.now) left.now c) }
+    requires room { head.now.cores.lines + length head.now.rest < 2 ^ 64 }
+    ensures { IfOk result (λ c. IsBehind instance.now cost (head_reading head.now) c) }
 {
     if falls_short(&head.cores, cost) {
         return Ok(None);
     }
     let formula = formula_behind(&head.cores, instance, cost)?;
     formula.limits();
+    Ok(Some(checker_over(formula, head)?))
+}
+
+/// The checker over this formula, which has judged the lines of the head as lines without a token,
+/// and what is kept.
+pub(crate) fn checker_over(formula: Formula, head: &Head) -> Result<Checker, AllocError>
+    requires { head.now.cores.lines + length head.now.rest < 2 ^ 64 }
+    ensures { IfOk result (λ c. JudgesOver formula.clauses (head_reading head.now) c) }
+{
     let mut checker = Checker::behind(formula, head.cores.lines())?;
     feed_more(&mut checker, head.rest.bytes())?;
-    feed_more(&mut checker, left)?;
-    Ok(Some(checker))
+    Ok(checker)
 }
 
 /// Hands the piece to the checker.
@@ -103,12 +112,9 @@ pub(crate) fn judge_behind(
         (token_lines (head.now.rest ++ left.now))) }
     ensures sound { IfOk result (λ v. v ≡ Verdict.Yes → CostsAtLeast instance.now cost) }
 {
-    match checker_behind(head, instance, cost, left)? {
+    match checker_behind(head, instance, cost)? {
         None => Ok(Verdict::No(Cause::CoreSum, head.cores.lines() + 1)),
-        Some(checker) => match checker.finish() {
-            Ok(verdict) => Ok(verdict),
-            Err(_) => Err(AllocError),
-        },
+        Some(checker) => judge_whole(checker, left),
     }
 }
 
@@ -135,13 +141,9 @@ pub(crate) fn end_head(head: Head, instance: &Instance, cost: u64) -> Result<Ver
     ensures sound { IfOk result (λ v. v ≡ Verdict.Yes → CostsAtLeast instance.now cost) }
 {
     let mut head = head;
-    if head.rest.is_empty() {
-        return Ok(verdict_at_end(&head.cores, instance, cost));
-    }
-    let line = head.cores.lines() + 1;
-    match head.cores.step(head.rest.bytes())? {
-        HeadStep::Ended => judge_behind(&head, instance, cost, &[]),
-        HeadStep::Fails(cause) => Ok(Verdict::No(cause, line)),
+    match head.end()? {
         HeadStep::GoesOn => Ok(verdict_at_end(&head.cores, instance, cost)),
+        HeadStep::Ended => judge_behind(&head, instance, cost, &[]),
+        HeadStep::Fails(cause) => Ok(Verdict::No(cause, head.cores.lines() + 1)),
     }
 }

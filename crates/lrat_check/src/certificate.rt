@@ -1,5 +1,5 @@
 //! Whole certificates over a formula.
-ghost use Rattle.std.specs.Prelude.{◌≡◌, [], IfOk, ◌↔◌, List};
+ghost use Rattle.std.specs.Prelude.{◌≡◌, ℕ, ◌+◌, ◌<◌, ◌^◌, ◌++◌, IfOk, ◌↔◌, List, length};
 ghost use Rattle.cnf.specs.Literal.{Literal};
 ghost use Rattle.cnf.specs.Formula.{IsUnsatisfiable};
 ghost use Rattle.cnf.specs.Lrat.{ProofLine, Accepts};
@@ -37,11 +37,11 @@ pub(crate) fn check_owned(formula: Formula, proof: &[u8]) -> Result<Verdict, All
     judge_whole(Checker::over(formula)?, proof)
 }
 
-/// The verdict of a checker that has read nothing so far.
+/// The verdict on what the checker has judged and these bytes, where nothing follows.
 pub(crate) fn judge_whole(checker: Checker, proof: &[u8]) -> Result<Verdict, AllocError>
-    requires { checker.fed ≡ 0 }
-    ensures { IfOk result (λ v. (formula : List (List Literal)) → HasJudged checker formula []
-        → v ≡ proof_verdict formula proof.now) }
+    requires { checker.fed + length proof.now < 2 ^ 64 }
+    ensures { IfOk result (λ v. (formula : List (List Literal)) (bytes : List ℕ)
+        → HasJudged checker formula bytes → v ≡ proof_verdict formula (bytes ++ proof.now)) }
 {
     let mut checker = checker;
     checker.feed(proof).map_err(|_| AllocError)?;

@@ -74,13 +74,9 @@ fn end_formula(head: Head, instance: &Instance, cost: u64) -> Result<Refuted, Al
         → refuted r ≡ headed_formula instance.now cost bytes) }
 {
     let mut head = head;
-    if head.rest.is_empty() {
-        return formula_of(&head.cores, instance, cost, 0);
-    }
-    let line = head.cores.lines() + 1;
-    match head.cores.step(head.rest.bytes())? {
-        HeadStep::Ended => formula_of(&head.cores, instance, cost, line),
-        HeadStep::Fails(cause) => Ok(Refuted::Nothing(cause, line)),
+    match head.end()? {
         HeadStep::GoesOn => formula_of(&head.cores, instance, cost, 0),
+        HeadStep::Ended => formula_of(&head.cores, instance, cost, head.cores.lines() + 1),
+        HeadStep::Fails(cause) => Ok(Refuted::Nothing(cause, head.cores.lines() + 1)),
     }
 }

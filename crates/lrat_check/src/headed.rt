@@ -9,6 +9,7 @@ ghost use Rattle.lrat_check.specs.Stopping.{GoesOnFor, StopsBehind, StopsInTime}
 ghost use Rattle.lrat_check.specs.Verdict.{headed_verdict};
 
 use crate::behind::{checker_behind, end_head, judge_behind};
+use crate::head_streams::{HeadRead, read_head};
 use crate::heads::{Head, Taken};
 use crate::streams::judge_stream;
 use crate::verdicts::{Cause, CheckFault, Verdict};
@@ -48,30 +49,11 @@ pub(crate) fn check_headed_stream<R: Read>(
         (R.remaining proof.old) (R.remaining proof.new)) }
     ensures sound { IfOk result (λ v. v ≡ Verdict.Yes → CostsAtLeast instance.now cost) }
 {
-    let Ok(new) = Head::new(instance) else {
-        return Err(CheckFault::Memory);
-    };
-    let mut head = new;
-    let mut fed = 0u64;
-    let mut chunk = [0u8; 65536];
-    'pieces: loop {
-        let count = match proof.read(&mut chunk) {
-            Ok(0) => return conclude(head, instance, cost),
-            Ok(count) => count,
-            Err(_) => return Err(CheckFault::Read),
-        };
-        if fed > u64::MAX - count as u64 {
-            return Err(CheckFault::Read);
-        }
-        fed += count as u64;
-        let Ok(taken) = head.take(&chunk[..count]) else {
-            return Err(CheckFault::Memory);
-        };
-        match taken {
-            Taken::All => {}
-            Taken::Ended(left) => return judge_rest(&head, instance, cost, left, proof),
-            Taken::Fails(cause) => return Ok(Verdict::No(cause, head.cores.lines() + 1)),
-        }
+    let (head, how) = read_head(instance, proof)?;
+    match how {
+        HeadRead::AtEnd => conclude(head, instance, cost),
+        HeadRead::More => judge_rest(&head, instance, cost, proof),
+        HeadRead::Fails(cause) => Ok(Verdict::No(cause, head.cores.lines() + 1)),
     }
 }
 
@@ -91,30 +73,27 @@ fn conclude(head: Head, instance: &Instance, cost: u64) -> Result<Verdict, Check
     }
 }
 
-/// The verdict, where the head has ended, on what is left of the last piece and what the reader
-/// still gives.
+/// The verdict, where the head has ended, on what is kept and what the reader still gives.
 fn judge_rest<R: Read>(
     head: &Head,
     instance: &Instance,
     cost: u64,
-    left: &[u8],
     proof: &mut R,
 ) -> Result<Verdict, CheckFault>
     requires small { cost ≤ 2 ^ 62 }
     requires is { IsHeadOf instance.now head.now.cores }
-    requires room { head.now.cores.lines + length head.now.rest + length left.now < 2 ^ 64 }
+    requires room { head.now.cores.lines + length head.now.rest < 2 ^ 64 }
     requires line { head.now.cores.lines + 1 < 2 ^ 64 }
     ensures verdict { IfOk result (λ v. IfSome (R.remaining proof.old) (λ more. v
-        ≡ verdict_ended instance.now cost head.now.cores
-        (token_lines ((head.now.rest ++ left.now) ++ more)))) }
+        ≡ verdict_ended instance.now cost head.now.cores (token_lines (head.now.rest ++ more)))) }
     ensures stops { OnOk result ((bytes : List ℕ)
-        → IsEndedHead instance.now (head_reading head.now) left.now bytes
+        → IsEndedHead instance.now head.now.cores head.now.rest bytes
         → GoesOnFor (2 ^ 16) (headed_verdict instance.now cost) bytes
         → StopsBehind (headed_verdict instance.now cost) bytes
         (R.remaining proof.old) (R.remaining proof.new)) }
     ensures sound { IfOk result (λ v. v ≡ Verdict.Yes → CostsAtLeast instance.now cost) }
 {
-    let Ok(behind) = checker_behind(head, instance, cost, left) else {
+    let Ok(behind) = checker_behind(head, instance, cost) else {
         return Err(CheckFault::Memory);
     };
     match behind {

@@ -7,7 +7,8 @@ ghost use Rattle.std.specs.Str.Lines.{strip_carriage_return};
 ghost use Rattle.text.specs.Text.{tokens_of};
 ghost use Rattle.cnf.specs.Problem.{Problem};
 ghost use Rattle.lrat_check.specs.CoreLines.{CountsOn, ReadsHead};
-ghost use Rattle.lrat_check.specs.Heads.{IsOpenHead, IsSomeLeft, Takes, head_reading, left_length};
+ghost use Rattle.lrat_check.specs.Heads.{EndsWith, IsLineLeft, IsOpenHead, IsSomeLeft, Takes};
+ghost use Rattle.lrat_check.specs.Heads.{head_reading, left_length};
 
 use crate::core_lines::{CoreLines, HeadStep};
 use crate::verdicts::Cause;
@@ -71,6 +72,22 @@ impl Head {
         }
         self.rest.keep(left)?;
         Ok(Taken::All)
+    }
+
+    /// Reads the last line, where nothing follows the pieces and no line feed ends it.
+    pub fn end(&mut self) -> Result<HeadStep, AllocError>
+        requires { self.old.cores.lines + length self.old.rest < 2 ^ 64 }
+        ensures ends { IfOk result (λ step. (p : Problem) (bytes : List ℕ)
+            → IsOpenHead p (head_reading self.old) bytes
+            → EndsWith p step (head_reading self.new) bytes) }
+        ensures counts { IfOk result (λ step. CountsOn self.old.cores self.new.cores) }
+        ensures left { IfOk result
+            (λ step. IsLineLeft step (head_reading self.old) (head_reading self.new)) }
+    {
+        if self.rest.is_empty() {
+            return Ok(HeadStep::GoesOn);
+        }
+        self.cores.step(self.rest.bytes())
     }
 
     /// Reads the line that these bytes and a line feed end. Where the head has ended before it,

@@ -9,7 +9,8 @@ use Rattle.std.proofs.lemmas.List.{get_or-map, ext_get_or, map-set, set-get_or, 
 use Rattle.std.proofs.lemmas.Bool.{cases_eq}
 use Rattle.std.proofs.Math.ListN.{get_or-append}
 use Rattle.std.proofs.Math.Seq.{get_or-append_seam}
-use Rattle.propagate_block.specs.RowLayout.{IsLaid, no_head, row_of, rows_of}
+use Rattle.propagate_block.specs.Rows.{Roomed, room_at}
+use Rattle.propagate_block.specs.RowLayout.{IsLaid, no_head, row_of, rows_of, rooms_of, roomed}
 use Rattle.propagate_block.specs.declared.rows.Head.{Head}
 
 -- two lists of one length that agree at each place
@@ -343,3 +344,37 @@ module _ {A : Type 0} (b b' : List A) (rows : List Head) (used : ℕ) (laid : Is
 pub rows_none : {A : Type 0} (b : List A) (n : ℕ) → rows_of b (replicate n no_head) ≡ replicate n []
 rows_none b zero = refl
 rows_none b (suc n) = ap (λ r. [] ∷ r) (rows_none b n)
+
+-- what callers see of rows that are laid
+pub seen_rows : {A : Type 0} (b : List A) (heads : List Head) (seen : Roomed A)
+    → roomed b heads ≡ seen → rows_of b heads ≡ seen.rows
+seen_rows {A = A} b heads seen e = ap (λ (s : Roomed A). s.rows) e
+
+pub seen_rooms : {A : Type 0} (b : List A) (heads : List Head) (seen : Roomed A)
+    → roomed b heads ≡ seen → rooms_of heads ≡ seen.rooms
+seen_rooms {A = A} b heads seen e = ap (λ (s : Roomed A). s.rooms) e
+
+pub roomed_as : {A : Type 0} (rows rows' : List (List A)) (rooms rooms' : List ℕ) → rows ≡ rows'
+    → rooms ≡ rooms' → (let s : Roomed A = record { rows = rows; rooms = rooms } in s)
+    ≡ record { rows = rows'; rooms = rooms' }
+roomed_as rows rows' rooms rooms' p q = λ i. record { rows = p i; rooms = q i }
+
+-- the room of a row
+pub room_is : (heads : List Head) (i : ℕ) → i < length heads
+    → room_at (rooms_of heads) i ≡ (get_or heads i no_head).room
+room_is heads i li = get_or-map (λ (h : Head). h.room) heads i no_head 0 li
+
+pub rooms_set : (heads : List Head) (i : ℕ) (h : Head)
+    → rooms_of (slice_set heads i h) ≡ slice_set (rooms_of heads) i h.room
+rooms_set heads i h = map-set (λ (x : Head). x.room) heads i h
+
+-- a row whose room stays
+pub rooms_same : (heads : List Head) (i : ℕ) (h : Head) → i < length heads
+    → h.room ≡ (get_or heads i no_head).room → rooms_of (slice_set heads i h) ≡ rooms_of heads
+rooms_same heads i h li e =
+    rooms_set heads i h ∙ ap (slice_set (rooms_of heads) i) (e ∙ sym (room_is heads i li))
+    ∙ set-get_or (rooms_of heads) i 0
+
+pub rooms_none : (n : ℕ) → rooms_of (replicate n no_head) ≡ replicate n 0
+rooms_none zero = refl
+rooms_none (suc n) = ap (λ r. 0 ∷ r) (rooms_none n)

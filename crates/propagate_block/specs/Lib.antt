@@ -2,3 +2,4 @@ pub mod Ownership
 pub mod Block
 pub mod Rows
 pub mod RowLayout
+pub mod Vectors

@@ -2,6 +2,7 @@
 use Rattle.std.specs.Prelude.{ℕ, List, ◌+◌, ◌^◌, ◌<◌, ◌≤◌, ◌≢◌, ◌⊎◌, length, map, slice_range}
 use Rattle.std.specs.Prelude.{get_or}
 use Rattle.propagate_block.specs.declared.rows.Head.{Head}
+use Rattle.propagate_block.specs.Rows.{Roomed}
 
 abbrev pub no_head : Head
 no_head = record { start = 0; length = 0; room = 0 }
@@ -15,6 +16,12 @@ row_of block r = slice_range block r.start (r.start + r.length)
 
 abbrev pub rows_of : {A : Type 0} → List A → List Head → List (List A)
 rows_of block heads = map (row_of block) heads
+
+abbrev pub rooms_of : List Head → List ℕ
+rooms_of heads = map (λ (h : Head). h.room) heads
+
+abbrev pub roomed : {A : Type 0} → List A → List Head → Roomed A
+roomed block heads = record { rows = rows_of block heads; rooms = rooms_of heads }
 
 -- each row lies in the part in use, and no two share a place
 pub record IsLaid {A : Type 0} (block : List A) (heads : List Head) (used : ℕ) : Type 0 where

@@ -3,9 +3,9 @@
 //! An entry is found by two reads, of its row's head and of its place, and the entries of a row lie
 //! side by side. What seldom happens, that a row has no room left, stands apart in `make_room`.
 //! Rows that move leave their old places empty; these are not used again.
-ghost use Rattle.std.specs.Prelude.{◌≡◌, ◌<◌, ◌≤◌, [], ◌∷◌, ◌++◌, length, replicate, take, Some};
-ghost use Rattle.std.specs.Prelude.{slice_get, slice_set, OnOk, OnErr, IfOk, IsTrue};
-ghost use Rattle.propagate_block.specs.Rows.{row_at, with_row};
+ghost use Rattle.std.specs.Prelude.{◌≡◌, ℕ, ◌<◌, ◌≤◌, [], ◌∷◌, ◌++◌, length, replicate, take};
+ghost use Rattle.std.specs.Prelude.{Some, max, slice_get, slice_set, OnOk, OnErr, IfOk, IsTrue};
+ghost use Rattle.propagate_block.specs.Rows.{row_at, with_row, room_at, doubled_room, IsFull};
 
 use crate::block::Block;
 use std::alloc::{AllocError, Global};
@@ -48,24 +48,27 @@ pub struct BlockRows<T> {
 }
 
 impl<T> Model for BlockRows<T> {
-    ghost use Rattle.std.specs.Prelude.{List};
-    ghost use Rattle.propagate_block.specs.RowLayout.{rows_of, IsLaid};
+    ghost use Rattle.propagate_block.specs.Rows.{Roomed};
+    ghost use Rattle.propagate_block.specs.RowLayout.{roomed, IsLaid};
 
-    ghost Value = { List (List T) };
+    ghost Value = { Roomed T };
 
-    ghost view = { λ p. rows_of p.block p.heads.items };
+    ghost view = { λ p. roomed p.block p.heads.items };
 
     ghost invariant = { λ p. IsLaid p.block p.heads.items p.used };
 }
 
 impl<T: Copy> BlockRows<T> {
-    /// So many empty rows.
+    /// So many empty rows, without room.
     ///
     /// # Errors
     ///
     /// `AllocError` where the memory for the heads of the rows was refused.
     pub fn new(alloc: Global, rows: usize) -> Result<Self, AllocError>
-        ensures { IfOk result (λ p. p ≡ replicate rows []) }
+        ensures { IfOk result (λ p. p ≡ record {
+          rows = replicate rows [];
+          rooms = replicate rows 0;
+        }) }
     {
         let block = Block::empty(alloc);
         let heads = Vec::from_elem(alloc, NO_ROW, rows)?;
@@ -78,33 +81,33 @@ impl<T: Copy> BlockRows<T> {
 
     /// The number of rows.
     pub fn rows(&self) -> usize
-        ensures { result ≡ length self.now }
+        ensures { result ≡ length self.now.rows }
     {
         self.heads.len()
     }
 
     /// The number of entries in a row.
     pub fn len(&self, row: usize) -> usize
-        requires { row < length self.now }
-        ensures { result ≡ length (row_at self.now row) }
+        requires { row < length self.now.rows }
+        ensures { result ≡ length (row_at self.now.rows row) }
     {
         self.heads[row].length as usize
     }
 
-    /// How many entries a row can have before it moves. Only a bound is proved of it, since the
-    /// room is no part of what rows are.
+    /// How many entries a row can have before it moves.
     pub fn room(&self, row: usize) -> usize
-        requires { row < length self.now }
-        ensures { length (row_at self.now row) ≤ result }
+        requires { row < length self.now.rows }
+        ensures room { result ≡ room_at self.now.rooms row }
+        ensures within { length (row_at self.now.rows row) ≤ result }
     {
         self.heads[row].room as usize
     }
 
     /// The entry at place `i` of a row.
     pub fn get(&self, row: usize, i: usize) -> T
-        requires row { row < length self.now }
-        requires place { i < length (row_at self.now row) }
-        ensures { slice_get (row_at self.now row) i ≡ Some result }
+        requires row { row < length self.now.rows }
+        requires place { i < length (row_at self.now.rows row) }
+        ensures { slice_get (row_at self.now.rows row) i ≡ Some result }
     {
         let start = self.heads[row].start;
         self.block.get(start + i)
@@ -114,14 +117,16 @@ impl<T: Copy> BlockRows<T> {
     ///
     /// # Errors
     ///
-    /// `AllocError` where a growth was refused; for a row of 2^32 - 1 entries it always is. All
-    /// rows are then as they were.
+    /// `AllocError` where the row has no room and a growth was refused; for a row of 2^32 - 1
+    /// entries it always is. All rows are then as they were.
     #[inline]
     pub fn push(&mut self, row: usize, entry: T) -> Result<(), AllocError>
-        requires { row < length self.old }
-        ensures ok { OnOk result (self.new ≡ with_row self.old row
-            (row_at self.old row ++ entry ∷ [])) }
-        ensures err { OnErr result (self.new ≡ self.old) }
+        requires { row < length self.old.rows }
+        ensures ok { OnOk result (self.new.rows ≡ with_row self.old.rows row
+            (row_at self.old.rows row ++ entry ∷ [])) }
+        ensures err { OnErr result (self.new.rows ≡ self.old.rows) }
+        ensures full { OnErr result (IsFull self.old row) }
+        ensures rooms { ¬ IsFull self.old row → self.new.rooms ≡ self.old.rooms }
     {
         if self.put(row, &entry) {
             return Ok(());
@@ -136,9 +141,11 @@ impl<T: Copy> BlockRows<T> {
 
     /// Writes an entry at place `i` of a row.
     pub fn set(&mut self, row: usize, i: usize, entry: T)
-        requires row { row < length self.old }
-        requires place { i < length (row_at self.old row) }
-        ensures { self.new ≡ with_row self.old row (slice_set (row_at self.old row) i entry) }
+        requires row { row < length self.old.rows }
+        requires place { i < length (row_at self.old.rows row) }
+        ensures rows { self.new.rows
+            ≡ with_row self.old.rows row (slice_set (row_at self.old.rows row) i entry) }
+        ensures rooms { self.new.rooms ≡ self.old.rooms }
     {
         let start = self.heads[row].start;
         self.block.set(start + i, entry);
@@ -146,9 +153,11 @@ impl<T: Copy> BlockRows<T> {
 
     /// Keeps the first `len` entries of a row.
     pub fn truncate(&mut self, row: usize, len: usize)
-        requires row { row < length self.old }
-        requires shorter { len ≤ length (row_at self.old row) }
-        ensures { self.new ≡ with_row self.old row (take len (row_at self.old row)) }
+        requires row { row < length self.old.rows }
+        requires shorter { len ≤ length (row_at self.old.rows row) }
+        ensures rows { self.new.rows
+            ≡ with_row self.old.rows row (take len (row_at self.old.rows row)) }
+        ensures rooms { self.new.rooms ≡ self.old.rooms }
     {
         if len < self.heads[row].length as usize {
             self.heads[row].length = len as u32;
@@ -161,9 +170,11 @@ impl<T: Copy> BlockRows<T> {
     ///
     /// # Errors
     ///
-    /// `AllocError` where a growth was refused.
+    /// `AllocError` where a growth was refused. Some rows may have got their room then.
     pub fn make_rooms(&mut self, rooms: &[u32], fill: &T) -> Result<(), AllocError>
-        ensures { self.new ≡ self.old }
+        ensures rows { self.new.rows ≡ self.old.rows }
+        ensures rooms { OnOk result ((i : ℕ) → i < length self.old.rows
+            → room_at self.new.rooms i ≡ max (room_at self.old.rooms i) (room_at rooms.now i)) }
     {
         let mut count = self.used;
         for room in rooms {
@@ -173,7 +184,9 @@ impl<T: Copy> BlockRows<T> {
             self.grow(count.saturating_add(count / 8), fill)?;
         }
         for row in 0..self.rows().min(rooms.len()) {
-            self.move_row(row, rooms[row]);
+            if self.room(row) < rooms[row] as usize {
+                self.give_room(row, rooms[row], fill)?;
+            }
         }
         Ok(())
     }
@@ -181,10 +194,12 @@ impl<T: Copy> BlockRows<T> {
     /// Adds the entry where its row has room, and says whether it had.
     #[inline]
     fn put(&mut self, row: usize, entry: &T) -> bool
-        requires { row < length self.old }
-        ensures added { IsTrue result → self.new
-            ≡ with_row self.old row (row_at self.old row ++ entry.now ∷ []) }
-        ensures full { ¬ IsTrue result → self.new ≡ self.old }
+        requires { row < length self.old.rows }
+        ensures added { IsTrue result → self.new ≡ record self.old {
+          rows = with_row self.old.rows row (row_at self.old.rows row ++ entry.now ∷ []);
+        } }
+        ensures full { ¬ IsTrue result → IsFull self.old row }
+        ensures same { ¬ IsTrue result → self.new ≡ self.old }
     {
         let Head {
             start,
@@ -199,34 +214,58 @@ impl<T: Copy> BlockRows<T> {
         true
     }
 
-    /// Gives a row twice its room, in a larger block where this one has none left: half as large
-    /// again, or by that room if it is more. A row seldom needs it, so it stands apart from the
-    /// loop that pushes.
+    /// Gives a row twice its room. A row seldom needs it, so it stands apart from the loop that
+    /// pushes.
     ///
     /// # Errors
     ///
-    /// `AllocError` where a growth was refused.
+    /// `AllocError` where a growth was refused. All is then as it was.
     #[cold]
     #[inline(never)]
     pub fn make_room(&mut self, row: usize, fill: &T) -> Result<(), AllocError>
-        requires { row < length self.old }
-        ensures { self.new ≡ self.old }
+        requires { row < length self.old.rows }
+        ensures ok { OnOk result (self.new ≡ record self.old {
+          rooms = slice_set self.old.rooms row (doubled_room (room_at self.old.rooms row));
+        }) }
+        ensures err { OnErr result (self.new ≡ self.old) }
     {
         let room = self.heads[row].room.saturating_mul(2).max(FIRST_ROOM);
+        self.give_room(row, room, fill)
+    }
+
+    /// Gives a row so much room, in a larger block where this one has none left: half as large
+    /// again, or by that room if it is more.
+    ///
+    /// # Errors
+    ///
+    /// `AllocError` where a growth was refused. All is then as it was.
+    fn give_room(&mut self, row: usize, room: u32, fill: &T) -> Result<(), AllocError>
+        requires { row < length self.old.rows }
+        ensures ok { OnOk result (self.new ≡ record self.old {
+          rooms = slice_set self.old.rooms row room;
+        }) }
+        ensures err { OnErr result (self.new ≡ self.old) }
+    {
         let len = self.block.len();
         if room as usize > len - self.used {
             let more = (len / 2).max(room as usize);
             self.grow(len.saturating_add(more), fill)?;
         }
-        self.move_row(row, room);
-        Ok(())
+        if self.move_row(row, room) {
+            Ok(())
+        } else {
+            Err(AllocError)
+        }
     }
 
     /// Moves a row to the end of what is in use, where it gets `room` places. Where the block has
-    /// not so many left, or the row more entries, all stays as it is.
-    fn move_row(&mut self, row: usize, room: u32)
-        requires { row < length self.old }
-        ensures { self.new ≡ self.old }
+    /// not so many left, or the row more entries, it says no, and all stays as it is.
+    fn move_row(&mut self, row: usize, room: u32) -> bool
+        requires { row < length self.old.rows }
+        ensures moved { IsTrue result → self.new ≡ record self.old {
+          rooms = slice_set self.old.rooms row room;
+        } }
+        ensures same { ¬ IsTrue result → self.new ≡ self.old }
     {
         let Head {
             start,
@@ -235,7 +274,7 @@ impl<T: Copy> BlockRows<T> {
         } = self.heads[row];
         let to = self.used;
         if room < length || room as usize > self.block.len() - to {
-            return;
+            return false;
         }
         self.block.copy_within(start, to, length as usize);
         self.heads[row] = Head {
@@ -244,6 +283,7 @@ impl<T: Copy> BlockRows<T> {
             room,
         };
         self.used = to + room as usize;
+        true
     }
 
     /// Moves all rows, each to the same places, to a block of `count` places.

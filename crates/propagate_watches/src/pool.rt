@@ -43,7 +43,7 @@ impl Model for WatchPool {
 
     ghost Value = { List (List Entry) };
 
-    ghost view = { λ p. p.rows };
+    ghost view = { λ p. p.rows.rows };
 }
 
 impl WatchPool {

@@ -52,13 +52,13 @@ use Rattle.report.proofs.ResultTexts.{optimum_text, satisfiable_text, falls_to, 
 -- the accepted log, spelled with the ids from the formula's number of clauses on
 module _ (cs : List (List Literal)) (n : ℕ) (log : List LogLine) (a : IsAcceptedOver cs log)
     (k : IsClauseCount n cs) where
-  accepted_at : Accepts cs (numbered_lines n log)
+  pub accepted_at : Accepts cs (numbered_lines n log)
   accepted_at = subst (λ m. Accepts cs (numbered_lines m log)) (sym k.0) a
 
   proof_over : IsTextOf (text_of n log) (numbered_lines n log) → IsProofOver cs (text_of n log)
   proof_over s = (numbered_lines n log, s, accepted_at)
 
-  room : HasRoom n log
+  pub room : HasRoom n log
   room = (
     k.1,
     λ lt. subst (λ m. HasSmallIds m log) (sym k.0)
@@ -241,7 +241,7 @@ module _ (profile : Profile) (text : Option (List ℕ)) (p : Problem)
                 record { no_proof = refl; none_left = s.spent; hard = f.hard; learned = s.learned };
             bound = subst (λ z. IsBoundWork profile p z c work) f.told.1 f.bound;
             search = f.search;
-            refutation = f.refutation;
+            tried = f.tried;
           };
           needed = λ n. absurd n;
           no_proof = λ n. refl;
@@ -261,7 +261,7 @@ module _ (profile : Profile) (text : Option (List ℕ)) (p : Problem)
                 record { no_proof = refl; none_left = s.spent; hard = f.hard; learned = s.learned };
             no_bound = f.no_bound;
             no_search = f.no_search;
-            no_refutation = f.no_refutation;
+            none_tried = f.none_tried;
           };
           needed = λ n. absurd n;
           no_proof = λ n. refl;

@@ -7,3 +7,4 @@ pub mod ResultTexts
 pub mod Answered
 pub mod Ends
 mod BestTexts
+mod LowerTexts

@@ -2,6 +2,9 @@
 use Rattle.std.specs.Prelude.{ℕ}
 use Rattle.wcnf.specs.declared.faults.FaultKind.{FaultKind}
 use Rattle.wcnf.specs.declared.faults.FaultKind.TheVariants.{Memory as MemoryKind, Read as ReadKind}
+use Rattle.lrat_check.specs.declared.lower.LowerVerdict.{LowerVerdict}
+use Rattle.lrat_check.specs.declared.lower.LowerVerdict.TheVariants.{AtLeast, NoSolution}
+use Rattle.lrat_check.specs.declared.lower.LowerVerdict.TheVariants.{No as NotShown}
 use Rattle.lrat_check.specs.declared.verdicts.Verdict.{Verdict}
 use Rattle.lrat_check.specs.declared.verdicts.Verdict.TheVariants.{Yes, No}
 use Rattle.report.specs.declared.fault.RunFault.{RunFault}
@@ -19,6 +22,12 @@ code_of_status (Unknown work) = 0
 abbrev pub code_of_verdict : Verdict → ℕ
 code_of_verdict Yes = 0
 code_of_verdict (No cause line) = 1
+
+-- 1 where nothing is shown
+abbrev pub code_of_lower : LowerVerdict → ℕ
+code_of_lower (AtLeast lower) = 0
+code_of_lower NoSolution = 0
+code_of_lower (NotShown cause line) = 1
 
 -- 2 for a faulty text, and 3 for all else
 abbrev pub code_of_kind : FaultKind → ℕ

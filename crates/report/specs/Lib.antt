@@ -7,3 +7,4 @@ pub mod Heading
 pub mod Answering
 pub mod Running
 pub mod Best
+pub mod Lower

@@ -1,5 +1,5 @@
 -- The lines that the program prints.
-use Rattle.std.specs.Prelude.{ℕ, List, ◌++◌}
+use Rattle.std.specs.Prelude.{ℕ, ◌-◌, List, ◌++◌}
 use Rattle.std.specs.Fmt.{decimal}
 use lib.Chars.{codes}
 use Rattle.lrat_check.specs.declared.verdicts.Cause.{Cause}
@@ -11,6 +11,9 @@ use Rattle.lrat_check.specs.declared.verdicts.Cause.TheVariants.{HintAfterConfli
 use Rattle.lrat_check.specs.declared.verdicts.Cause.TheVariants.{Candidates, NoEmptyClause}
 use Rattle.lrat_check.specs.declared.verdicts.Cause.TheVariants.{TrailingLine, ClauseForm}
 use Rattle.lrat_check.specs.declared.verdicts.Cause.TheVariants.{CoreForm, CoreWeight, CoreSum}
+use Rattle.lrat_check.specs.declared.lower.LowerVerdict.{LowerVerdict}
+use Rattle.lrat_check.specs.declared.lower.LowerVerdict.TheVariants.{AtLeast, NoSolution}
+use Rattle.lrat_check.specs.declared.lower.LowerVerdict.TheVariants.{No as NotShown}
 use Rattle.lrat_check.specs.declared.verdicts.Verdict.{Verdict}
 use Rattle.lrat_check.specs.declared.verdicts.Verdict.TheVariants.{Yes, No}
 
@@ -43,3 +46,13 @@ no_text cause = codes "NO " ++ cause_name cause ++ codes " "
 abbrev pub verdict_text : Verdict → List ℕ
 verdict_text Yes = codes "YES\n"
 verdict_text (No cause line) = no_text cause ++ (decimal line ++ codes "\n")
+
+-- the line on what a certificate proves by itself
+abbrev pub lower_text : LowerVerdict → List ℕ
+lower_text (AtLeast lower) = codes "at least " ++ (decimal lower ++ codes "\n")
+lower_text NoSolution = codes "no solution\n"
+lower_text (NotShown cause line) = no_text cause ++ (decimal line ++ codes "\n")
+
+-- by how much a solution costs more than what is needed at least
+abbrev pub gap_text : ℕ → ℕ → List ℕ
+gap_text cost lower = codes "gap " ++ (decimal (cost - lower) ++ codes "\n")

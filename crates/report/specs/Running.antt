@@ -29,7 +29,7 @@ use Rattle.improve.specs.declared.found.ImproveFault.{ImproveFault}
 use Rattle.improve.specs.declared.found.ImproveFault.TheVariants.{Memory as SearchMemory, Progress}
 use Rattle.improve.specs.Improving.{AreFalling, EndsWith, IsCostOfSome, IsSolution}
 use Rattle.improve.specs.Improving.{IsHardWork, IsBoundWork, IsRightFound, OnWork, work_count}
-use Rattle.improve.specs.Improving.{IsOpenRefutation, IsSearchWork}
+use Rattle.improve.specs.Improving.{IsCoreRefutation, IsSearchWork}
 use Rattle.report.specs.Told.{cost_lines}
 use Rattle.report.specs.declared.status.Status.{Status}
 use Rattle.report.specs.declared.status.Status.TheVariants.{OptimumFound, Unsatisfiable}
@@ -75,7 +75,7 @@ pub record IsTrueSatisfiable (profile : Profile) (p : Problem) (costs : List ℕ
   pub spent : IsSpentOn p proved work old new
   pub bound : IsBoundWork profile p costs c work
   pub search : IfSome work.search (IsSearchWork p)
-  pub refutation : IfSome work.refutation (IsOpenRefutation p)
+  pub tried : All (IsCoreRefutation p) (work.tried).items
 
 -- no solution was met
 pub record IsTrueUnknown (p : Problem) (proved : List ℕ) (work : Work) (old new : BudgetState)
@@ -85,7 +85,7 @@ pub record IsTrueUnknown (p : Problem) (proved : List ℕ) (work : Work) (old ne
   pub spent : IsSpentOn p proved work old new
   pub no_bound : work.bound ≡ []
   pub no_search : work.search ≡ None
-  pub no_refutation : work.refutation ≡ None
+  pub none_tried : (work.tried).items ≡ []
 
 -- what the status and the result say is so
 abbrev pub IsTrueAnswer : Profile → Problem → List ℕ → Status → Said → List ℕ

@@ -62,7 +62,7 @@ pub fn write_answer<O: Write, P: Write>(
 
 /// Writes the cores and then the log as a certificate whose formula has so many clauses, and
 /// flushes.
-fn deliver_headed<P: Write>(
+pub(crate) fn deliver_headed<P: Write>(
     cores: &[Core],
     log: &Log,
     clauses: u64,

@@ -6,6 +6,7 @@ mod answering;
 pub mod best;
 pub mod fault;
 mod heading;
+pub mod lower;
 pub mod options;
 pub mod printing;
 pub mod running;

@@ -15,69 +15,76 @@ pub const MOST_COST: u64 = NUMBER_LIMIT - 1;
 pub const MOST_CONFLICTS: u64 = NUMBER_LIMIT;
 
 const SOLVE_NOTES: &str = "\
-Prints a line 'o COST' for each solution that is better than all before, as soon as it is known,
-then one line 's STATUS', and for a solution a line 'v' with a digit 0 or 1 for each variable.
+Prints a line 'o COST' for each solution that is better than all before it, as
+soon as it is known; then one line 's STATUS'; and, if there is a solution, a
+line 'v' with a digit 0 or 1 for each variable.
 
 Statuses:
-  30  s OPTIMUM FOUND    the bits are a solution of the last cost, and none is cheaper
+  30  s OPTIMUM FOUND    the bits cost the last COST, and nothing is cheaper
   20  s UNSATISFIABLE    no assignment satisfies the hard clauses
-  10  s SATISFIABLE      the effort ran out; the bits are a solution, maybe not the cheapest
-   0  s UNKNOWN          the effort ran out before a solution was met
-   1  NO, and the fault of the RESULT of --from
-   2  the FILE or the command line is faulty
-   3  a file cannot be opened, read or written, or memory is refused
+  10  s SATISFIABLE      the effort ran out; the bits cost the last COST
+   0  s UNKNOWN          the effort ran out before any solution was told
+   1  NO and its fault   the RESULT of --from is not right for FILE
+   2  FILE or the command line is faulty
+   3  a file cannot be opened, read or written, or memory ran out
 
-A text without any clause has an optimum of cost 0, and standard error gets 'warning: no clause was
-read'.
+If FILE has no clause at all, the optimum costs 0, and 'warning: no clause was
+read' is written to standard error.
 
---conflicts N bounds the effort: each learned clause and each solution costs one unit. A million
-units take a minute or more. What was learned stays in memory for the certificate, also without
---proof: 4 bytes for each literal and hint of a line, mostly 1 to 2 KB for each conflict. The same N
-gives the same answer on each machine, whatever its speed.
+--conflicts N limits the effort: each learned clause and each solution that is
+told costs one unit. A million units take a minute or more. What was learned
+stays in memory for the certificate, even without --proof: 4 bytes for each
+literal and hint of a line, mostly 1 to 2 KB for each conflict. The same N gives
+the same answer on every machine, whatever its speed.
 
-The certificate proves OPTIMUM FOUND and UNSATISFIABLE to whoever checks it, and is written before
-the 's' line. For the other two none is. Without --proof it is dropped.
+The certificate proves OPTIMUM FOUND and UNSATISFIABLE to anyone who checks it,
+and is written before the 's' line. The other statuses have none. Without
+--proof it is dropped.
 
---profile 5 finds most optima; check wants the profile that the certificate was made in. After
+--profile 5 finds the most optima; check needs the profile that the certificate
+was made in. WMAX_PROFILE is the profile of solve, check and encode where no
+--profile is given:
 
   export WMAX_PROFILE=5
 
-each command takes it where it is given no --profile. --best PATH keeps the best solution, so that a
-run can be stopped at any moment; --from begins with a solution, so that it goes on. --progress
-tells meanwhile how far it is. A script that stops at errors writes
+With --best PATH a run can be stopped at any moment, and the same command goes
+on from the solution in PATH. --progress shows how far it is. In a script that
+stops at errors, write
 
   wmax solve a.wcnf > a.result || [ $? = 30 ]
 
 Example:
   wmax solve --profile 5 --proof a.lrat --best a.best a.wcnf > a.result
-  wmax solve --profile 5 --proof a.lrat --best a.best --from a.best a.wcnf > a.result
 
 Faults:
-  error: line N: FirstToken  line N of FILE begins with neither 'h', a weight nor 'c'
+  error: line N: FirstToken  line N begins with neither 'h', a weight nor 'c'
   error: line N: Weight      a weight that is no number from 1 on: 0, 01, 1.5
   error: line N: Literal     a word that is no literal: x, +1, 01
   error: line N: NoZero      the clause on line N has no 0 at its end
-  error: line N: AfterZero   something stands behind the 0 of the clause
-  error: line N: OldForm     a line 'p' that is not the first one
-  error: Read                FILE cannot be opened or read
-  error: Memory              memory was refused
+  error: line N: AfterZero   something follows the 0 of the clause
+  error: line N: OldForm     a line 'p' behind a clause or another one
+  error: Read                FILE, RESULT or PATH cannot be opened or read
+  error: Memory              memory ran out
   error: Output              standard output cannot be written
-  error: ProofOutput         the certificate cannot be written, or is FILE or RESULT
+  error: ProofOutput         the certificate cannot be written, or is an input
 docs/FAULTS.md and the manual page have the others.";
 
 const CHECK_NOTES: &str = "\
-OPTIMUM FOUND is checked against the formula for 'cheaper than the last o line', or that of the
-core lines where PROOF begins with some; UNSATISFIABLE against the hard clauses. A result that says
-SATISFIABLE or UNKNOWN claims nothing that a certificate shows: NO.
+Prints YES, or NO with the first fault and its line. OPTIMUM FOUND is checked
+against the formula for 'cheaper than the last o line', or, if PROOF begins with
+core lines, against the formula of these cores; UNSATISFIABLE is checked against
+the hard clauses. SATISFIABLE and UNKNOWN claim nothing that a certificate could
+show: NO.
 
 Statuses:
    0  YES: the result is true
-   1  NO, the first fault, and the line of the text, result or certificate that it stands on
+   1  NO, the first fault, and the line of FILE, RESULT or PROOF that has it
    2  the command line is faulty
-   3  a file cannot be opened or read, the verdict cannot be written, or memory is refused
+   3  a file cannot be read, the verdict not be written, or memory ran out
 
-Give the profile that the certificate was made in, here or by WMAX_PROFILE: in another one it is
-mostly refused, as with NO DeadId 1, NO IdOrder 1 or NO LineForm 1. --profile any tries each.
+Give the profile that the certificate was made in, here or by WMAX_PROFILE. In
+another one it is mostly refused, as with NO DeadId 1, NO IdOrder 1 or NO
+LineForm 1. --profile any tries them all.
 
 Example:
   wmax check --profile 5 a.wcnf a.result a.lrat
@@ -88,69 +95,101 @@ Faults:
   NO BitsLength N           line N has too few or too many bits
   NO NotFeasible N          the bits on line N break a hard clause
   NO CostWrong N            the bits do not cost what line N says
-  NO StatusWithoutProof N   bits and cost are right, but nothing says that none is cheaper
+  NO StatusWithoutProof N   the status claims nothing that PROOF could show
   NO DeadId N               line N of PROOF names a clause that is not there
-  NO HintNotUnit N          a clause that line N of PROOF names does not serve there
-  NO NoConflict N           the clauses that line N of PROOF names do not suffice
+  NO HintNotUnit N          a clause that line N of PROOF names is not unit
+  NO NoConflict N           the clauses named on line N of PROOF do not suffice
   NO NoEmptyClause 0        PROOF ends too soon
-  NO CoreForm N             line N of PROOF begins with 'core' and is no core line, or one too many
-  NO CoreWeight N           the core on line N is worth nothing, or more than its inputs have left
-  NO CoreSum N              the cores before line N are worth less than the solution costs
+  NO CoreForm N             line N of PROOF is no core line, or one too many
+  NO CoreWeight N           the core on line N is worth 0, or more than is left
+  NO CoreSum N              the cores before line N are worth less than the cost
+docs/FAULTS.md and the manual page have the others.";
+
+const LOWER_NOTES: &str = "\
+Prints 'at least L' if PROOF begins with core lines and checks: no solution of
+FILE costs less than the cores are worth together. So the certificate of an
+optimum proved by cores gives that optimum. Prints 'no solution' if PROOF has no
+core lines and refutes the hard clauses, as one of UNSATISFIABLE does. Any other
+certificate proves nothing without its RESULT: NO, the first fault and its line.
+
+Statuses:
+   0  at least L, or no solution
+   1  NO, the first fault, and the line of FILE or PROOF that it stands on
+   2  the command line is faulty
+   3  a file cannot be read, the answer not be written, or memory ran out
+
+Example:
+  wmax solve --lower a.bound --best a.best a.wcnf
+  wmax lower a.wcnf a.bound
+
+Faults:
+  NO Text N           line N of FILE is faulty: wmax explain says how
+  NO DeadId N         line N of PROOF names a clause that is not there
+  NO NoConflict N     the clauses named on line N of PROOF do not suffice
+  NO NoEmptyClause 0  PROOF ends too soon
+  NO CoreForm N       line N of PROOF is no core line, or one too many
+  NO CoreWeight N     the core on line N is worth 0, or more than is left
 docs/FAULTS.md and the manual page have the others.";
 
 const EXPLAIN_NOTES: &str = "\
-Prints the cost, then each soft clause that the bits give up, heaviest first, with its line and the
-comment above it, and what is paid so far; then each hard clause that the bits break, and the names
-of true variables. Without RESULT: how many variables, hard and soft clauses FILE has, and the sum
-of the weights. Of a faulty FILE it also shows the line and the word, and says what would mend it:
-in '-2 -1 0', for instance, the 'h' or the weight at the beginning is missing.
+With RESULT: prints its cost; each soft clause that its bits give up, heaviest
+first, with its line, the comment above it, and the sum so far; each hard clause
+that they break; and the names of true variables. Without RESULT: the numbers of
+variables, hard and soft clauses in FILE, and the sum of the weights. If FILE is
+faulty: the line, the word, and how to correct it. With PROOF, if RESULT is
+right: also what wmax lower says of it, and as gap by how much RESULT is above.
 
 Statuses:
-   0  the bits are a solution of just the cost that the result says, or it has none
-   1  they are not, or NO ResultForm: the result cannot be read
-   2  the FILE or the command line is faulty
-   3  a file cannot be opened or read, the output cannot be written, or memory is refused
+   0  the bits are a solution of the cost that RESULT states, or it has no bits
+   1  they are not; NO ResultForm: RESULT cannot be read; NO: see wmax lower
+   2  FILE or the command line is faulty
+   3  a file cannot be read, the output not be written, or memory ran out
 
 Example:
   wmax explain a.wcnf a.result
+  wmax explain a.wcnf a.best a.bound
   wmax explain a.wcnf
 
 Faults:
-  error: line N: NoZero  the clause on line N of FILE has no 0 at its end, and so on
+  error: line N: NoZero  the clause on line N of FILE has no 0 at its end
   NO ResultForm N        line N of RESULT cannot stand there
   error: Read            a file cannot be opened or read
-  error: Memory          memory was refused
+  error: Memory          memory ran out
   error: Output          standard output cannot be written
-'wmax solve --help' has more of those of FILE; docs/FAULTS.md and the manual page have all.";
+'wmax solve --help' has more faults of FILE.
+docs/FAULTS.md and the manual page have all.";
 
 const ENCODE_NOTES: &str = "\
-A certificate for cost COST without core lines refutes this formula. Another LRAT checker takes it,
-and a SAT solver that writes LRAT can make one. Where a certificate begins with core lines, its
-other lines refute the formula that --proof prints.
+The formula is satisfiable exactly when some solution costs less than COST. So a
+certificate for the optimum COST refutes it, unless it has core lines; then its
+other lines refute the formula that --proof prints. Other LRAT checkers can take
+formula and certificate, and a SAT solver that writes LRAT can make one.
 
 Statuses:
    0  the formula is written
-   2  the FILE, a core line of CERTIFICATE or the command line is faulty
-   3  a file cannot be opened or read, the formula cannot be written, or memory is refused
+   2  FILE, a core line of CERTIFICATE or the command line is faulty
+   3  a file cannot be read, the formula not be written, or memory ran out
 
 Example:
   wmax encode --profile 5 --proof a.lrat a.wcnf 3 > a.cnf
   grep -v '^core' a.lrat > b.lrat  # refutes a.cnf
 
 Faults:
-  error: line N: NoZero      the clause on line N of FILE has no 0 at its end, and so on
-  error: line N: CoreForm    line N of CERTIFICATE is no core line, or one too many
-  error: line N: CoreWeight  the core on line N is worth nothing, or more than its inputs have left
+  error: line N: NoZero      the clause on line N of FILE has no 0 at its end
+  error: line N: CoreForm    line N is no core line, or one too many
+  error: line N: CoreWeight  the core on line N is worth 0, or more than is left
   error: line N: CoreSum     the cores before line N are worth less than COST
   error: Read                a file cannot be opened or read
-  error: Memory              memory was refused
+  error: Memory              memory ran out
   error: Output              standard output cannot be written
-'wmax solve --help' has more of those of FILE; docs/FAULTS.md and the manual page have all.";
+'wmax solve --help' has more faults of FILE.
+docs/FAULTS.md and the manual page have all.";
 
 const NOTES: &str = "\
-Statuses: solve 30, 20, 10, 0, 1; check and explain 0, 1; encode 0; each 2 and 3 for faults. 'wmax
-COMMAND --help' says what they mean. FILE may be /dev/stdin, or a pipe such as <(zcat a.wcnf.gz).
-WMAX_PROFILE in the environment is the profile of each command that is given no --profile.
+Statuses: solve 30, 20, 10, 0, 1; check, lower and explain 0, 1; encode 0; each
+2 and 3 for faults. 'wmax COMMAND --help' says what they mean. FILE may be
+/dev/stdin or a pipe such as <(zcat a.wcnf.gz). The variable WMAX_PROFILE of the
+environment is the profile of solve, check and encode without --profile.
 
 Example:
   wmax solve --profile 5 --proof a.lrat a.wcnf > a.result
@@ -159,6 +198,72 @@ Example:
 
 /// What `--version` prints after the name.
 const VERSION: &str = "1.0.0";
+
+// The help of options stands on lines of its own, ten columns from the left, and is broken by hand:
+// `clap` breaks no line.
+const PROFILE_HELP: &str = "\
+How 'cheaper' is encoded; by default as WMAX_PROFILE says, else 1.
+1: all weights are added column by column;
+2: as 1, without variables for soft clauses of one literal;
+3: weights are added in pairs, light ones first;
+4: sums of weights along a tree that follows the hard clauses;
+5: cores first, which begin the certificate, then as 4; it finds the
+most optima.
+check needs the profile that the certificate was made in";
+
+const PROFILE_OR_ANY_HELP: &str = "\
+The profile that the certificate was made in; by default as
+WMAX_PROFILE says, else 1. any tries 5, 4, 3, 2, 1 until one says YES;
+otherwise it prints NO with the fault that is furthest down. PROOF is
+read again for each, so it cannot be a pipe then";
+
+const CONFLICTS_HELP: &str = "\
+The effort: at most N learned clauses and solutions together. Time and
+memory grow with it. The same N always gives
+the same answer";
+
+const PROOF_HELP: &str = "\
+Where the LRAT certificate goes. PATH is created or emptied before the
+search and written at its end. It cannot be FILE or RESULT";
+
+const BEST_HELP: &str = "\
+Keeps the best solution in PATH, as a whole result at every moment. If
+PATH has a solution of FILE already, the search begins with it, and
+replaces it by one that is no dearer. A result without a solution and
+an empty file are replaced. Anything else in PATH is refused, and so
+is a PATH that cannot be written or is FILE or the certificate. PATH
+says OPTIMUM FOUND once this run has proved it";
+
+const LOWER_HELP: &str = "\
+Keeps the best lower bound that cores prove in PATH, as a certificate
+for wmax lower that is whole at every moment. PATH is made with the
+first bound: there is none if the optimum is 0, or without a solution.
+Every profile looks for cores then, and for longer; only profile 5
+ends once a bound meets the cost. If PATH has a bound for FILE, only a
+better one replaces it. Anything else in PATH is refused, and so is a
+PATH that cannot be written, or that the run uses otherwise. Texts are
+first written to PATH.part, here and for --best";
+
+const FROM_HELP: &str = "\
+Begins with the solution in RESULT, perhaps one of another solver. Its
+cost or a lower one is the first o line, which takes one unit of the
+effort. If RESULT is not right for FILE, the fault that check would
+report is printed, and there is no search. A RESULT without a solution
+(UNKNOWN, UNSATISFIABLE) is passed over. If --best has a cheaper
+solution, the search begins with that one";
+
+const PROGRESS_HELP: &str = "\
+Shows on standard error how far the search is: a line at each better
+solution and at the end, and at most one a second in between.
+'at least L' is what the cores found so far are worth (profile 5, or
+with --lower). It need not be proved yet: see --lower. The gap is the
+difference as a share of the cost. MB is the memory in use. A terminal
+shows only the last line";
+
+const CERTIFICATE_HELP: &str = "\
+With --profile 5: prints the formula that the lines of CERTIFICATE
+after its core lines refute, if they show that nothing costs less than
+COST";
 
 /// A file that has to be named.
 fn make_path<'a>(alloc: Global, id: &'a str, help: &'a str) -> Arg<'a> {
@@ -184,14 +289,7 @@ fn make_profile<'a>(alloc: Global) -> Arg<'a> {
         .value_name("1|2|3|4|5")
         .value_parser(ValueParser::Names(&PROFILES))
         .hide_possible_values(true)
-        .help(
-            "How 'cheaper' is encoded; by default as WMAX_PROFILE says, else 1. 1 adds \
-             all weights column by column; 2 as 1, and spends no variable on soft clauses of one \
-             literal; 3 adds weights in pairs, light ones first; 4 has sums of weights along a \
-             tree that follows the hard clauses; 5, which finds most optima, looks for cores \
-             first, whose lines then begin the certificate, and goes on as 4. check wants the one \
-             that the certificate was made in",
-        )
+        .help(PROFILE_HELP)
 }
 
 /// As `make_profile`, or each in turn.
@@ -201,11 +299,7 @@ fn make_profile_or_any<'a>(alloc: Global) -> Arg<'a> {
         .value_name("1|2|3|4|5|any")
         .value_parser(ValueParser::Names(&PROFILES_OR_ANY))
         .hide_possible_values(true)
-        .help(
-            "The profile that the certificate was made in; by default as WMAX_PROFILE says, else \
-             1. any tries 5, 4, 3, 2, 1 until one says YES; else NO with the fault that stands \
-             furthest down. PROOF is read anew for each, so it cannot be a pipe then",
-        )
+        .help(PROFILE_OR_ANY_HELP)
 }
 
 /// The profile of this name, a digit from 1 to 5.
@@ -229,48 +323,35 @@ fn make_solve<'a>(alloc: Global) -> Result<Command<'a>, Error> {
         .value_name("N")
         .value_parser(ValueParser::unsigned(0, MOST_CONFLICTS))
         .default_value("1000000000")
-        .help(
-            "The effort: at most N conflicts and solutions together. Time and memory grow with it; \
-             the same N always gives the same answer",
-        );
+        .help(CONFLICTS_HELP);
     let proof = Arg::new(alloc, "proof")
         .long("proof")
         .value_name("PATH")
-        .help(
-            "Where the LRAT certificate goes: created or emptied at once, written at the end. \
-             FILE itself is refused",
-        );
-    let best = Arg::new(alloc, "best").long("best").value_name("PATH").help(
-        "Where the best solution is kept: at each moment a whole result text, which each better \
-             solution replaces. A solution of FILE that stands there already is replaced only by a \
-             better one; any other file, and one that cannot be written, is refused, and so are \
-             FILE and the certificate",
-    );
+        .help(PROOF_HELP);
+    let best = Arg::new(alloc, "best")
+        .long("best")
+        .value_name("PATH")
+        .help(BEST_HELP);
+    let lower = Arg::new(alloc, "lower")
+        .long("lower")
+        .value_name("PATH")
+        .help(LOWER_HELP);
     let from = Arg::new(alloc, "from")
         .long("from")
         .value_name("RESULT")
-        .help(
-            "The search begins with the solution of this result, as --best kept it or another \
-             solver printed it: its cost, or a cheaper one, is the first o line, unless the effort \
-             is 0. A RESULT that is not right for FILE is refused with the fault that check \
-             reports; one that says UNKNOWN or UNSATISFIABLE has no solution, and the search \
-             begins without one. It may be the PATH of --best",
-        );
+        .help(FROM_HELP);
     let progress = Arg::new(alloc, "progress")
         .long("progress")
         .action(ArgAction::SetTrue)
-        .help(
-            "Tells on standard error how far the search is: a line at each better solution and at \
-             the end, and at most one a second between. 'at least L' is what the cores found so \
-             far are worth in profile 5, not yet proved by a certificate; the gap is the \
-             difference as a share of the cost. On a terminal a single line is overwritten",
-        );
+        .help(PROGRESS_HELP);
     let command = Command::new(alloc, "solve")
-        .about("Finds a solution of least cost, and a certificate that nothing is cheaper")
+        .about("Finds a solution of least cost, and proves that nothing is cheaper")
         .after_help(SOLVE_NOTES)
+        .next_line_help(true)
         .arg(conflicts)?
         .arg(proof)?
         .arg(best)?
+        .arg(lower)?
         .arg(from)?
         .arg(progress)?
         .arg(make_profile(alloc))?
@@ -281,11 +362,9 @@ fn make_solve<'a>(alloc: Global) -> Result<Command<'a>, Error> {
 /// `wmax check`.
 fn make_check<'a>(alloc: Global) -> Result<Command<'a>, Error> {
     let command = Command::new(alloc, "check")
-        .about(
-            "Checks a result and its LRAT certificate, and prints YES, or NO with the first fault \
-             and its line",
-        )
+        .about("Checks a result and the certificate that proves it")
         .after_help(CHECK_NOTES)
+        .next_line_help(true)
         .arg(make_path(alloc, "FILE", "The instance, a WCNF text"))?
         .arg(make_path(
             alloc,
@@ -297,19 +376,33 @@ fn make_check<'a>(alloc: Global) -> Result<Command<'a>, Error> {
     Ok(command)
 }
 
+/// `wmax lower`.
+fn make_lower<'a>(alloc: Global) -> Result<Command<'a>, Error> {
+    let command = Command::new(alloc, "lower")
+        .about(
+            "Prints the lower bound that an LRAT certificate proves by itself",
+        )
+        .after_help(LOWER_NOTES)
+        .arg(make_path(alloc, "FILE", "The instance, a WCNF text"))?
+        .arg(make_path(alloc, "PROOF", "The certificate, LRAT as text"))?;
+    Ok(command)
+}
+
 /// `wmax explain`.
 fn make_explain<'a>(alloc: Global) -> Result<Command<'a>, Error> {
     let command = Command::new(alloc, "explain")
-        .about(
-            "Prints what a result costs, what is given up for it, and what it breaks; without a \
-             result, the size of the instance",
-        )
+        .about("Says what a result gives up and breaks, or how large an instance is")
         .after_help(EXPLAIN_NOTES)
         .arg(make_path(alloc, "FILE", "The instance, a WCNF text"))?
         .arg(
             Arg::new(alloc, "RESULT")
                 .action(ArgAction::Set)
                 .help("The result, as a solver printed it: o, s and v lines"),
+        )?
+        .arg(
+            Arg::new(alloc, "PROOF")
+                .action(ArgAction::Set)
+                .help("A certificate of a lower bound, as solve --lower keeps it"),
         )?;
     Ok(command)
 }
@@ -320,20 +413,15 @@ fn make_encode<'a>(alloc: Global) -> Result<Command<'a>, Error> {
         .required(true)
         .action(ArgAction::Set)
         .value_parser(ValueParser::unsigned(0, MOST_COST))
-        .help("The bound: the formula says 'cost below COST'");
+        .help("The bound: the formula says 'cheaper than COST'");
     let proof = Arg::new(alloc, "proof")
         .long("proof")
         .value_name("CERTIFICATE")
-        .help(
-            "Prints the formula that the lines of CERTIFICATE behind its core lines refute, where \
-             it shows that nothing costs less than COST. With --profile 5 alone",
-        );
+        .help(CERTIFICATE_HELP);
     let command = Command::new(alloc, "encode")
-        .about(
-            "Prints a formula as DIMACS CNF that is satisfiable exactly when some solution costs \
-             less than COST; with --proof, the formula that CERTIFICATE refutes",
-        )
+        .about("Prints the formula that a certificate refutes, as DIMACS CNF")
         .after_help(ENCODE_NOTES)
+        .next_line_help(true)
         .arg(make_path(alloc, "FILE", "The instance, a WCNF text"))?
         .arg(cost)?
         .arg(proof)?
@@ -351,6 +439,7 @@ pub fn make_command<'a>(alloc: Global) -> Result<Command<'a>, Error> {
         .disable_help_subcommand(true)
         .subcommand(make_solve(alloc)?)?
         .subcommand(make_check(alloc)?)?
+        .subcommand(make_lower(alloc)?)?
         .subcommand(make_explain(alloc)?)?
         .subcommand(make_encode(alloc)?)?;
     Ok(command)

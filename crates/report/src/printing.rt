@@ -3,10 +3,11 @@ ghost use Rattle.std.specs.Prelude.{◌≡◌, ◌++◌, OnOk, OnErr, IfErr, IsO
 ghost use Rattle.std.specs.Fmt.{decimal};
 ghost use Rattle.std.specs.Io.KnownBytes.{Appends, Keeps};
 ghost use Rattle.text.specs.Writing.{AppendsPart};
-ghost use Rattle.report.specs.Codes.{code_of_verdict, code_of_fault};
-ghost use Rattle.report.specs.Printing.{no_text, verdict_text};
+ghost use Rattle.report.specs.Codes.{code_of_verdict, code_of_fault, code_of_lower};
+ghost use Rattle.report.specs.Printing.{gap_text, lower_text, no_text, verdict_text};
 
 use crate::fault::RunFault;
+use lrat_check::lower::LowerVerdict;
 use lrat_check::verdicts::{Cause, Verdict};
 use std::io::Write;
 use text::output::{Block, WriteFault, write_piece};
@@ -28,6 +29,39 @@ pub fn print_verdict<W: Write>(verdict: &Verdict, writer: &mut W) -> Result<(), 
         Verdict::Yes => write_piece(writer, b"YES\n"),
         Verdict::No(cause, line) => print_numbered(spell_no(*cause), *line, writer),
     }
+}
+
+/// Writes the line on what a certificate proves by itself: `at least` and the bound, `no solution`,
+/// or as `print_verdict` does.
+///
+/// # Errors
+///
+/// `WriteFault` where the writer failed. It has then a beginning of the line.
+pub fn print_lower<W: Write>(verdict: &LowerVerdict, writer: &mut W) -> Result<(), WriteFault>
+    ensures ok { OnOk result (Appends (W.contents writer.old) (W.contents writer.new)
+        (lower_text verdict.now)) }
+    ensures fault { OnErr result (AppendsPart (W.contents writer.old) (W.contents writer.new)
+        (lower_text verdict.now)) }
+{
+    match verdict {
+        LowerVerdict::AtLeast(lower) => print_numbered(b"at least ", *lower, writer),
+        LowerVerdict::NoSolution => write_piece(writer, b"no solution\n"),
+        LowerVerdict::No(fault, line) => print_numbered(spell_no(*fault), *line, writer),
+    }
+}
+
+/// Prints by how much a solution of this cost is above what is needed at least.
+///
+/// # Errors
+///
+/// `WriteFault` where the writer failed. It has then a beginning of the line.
+pub fn print_gap<W: Write>(cost: u64, lower: u64, writer: &mut W) -> Result<(), WriteFault>
+    ensures ok { OnOk result (Appends (W.contents writer.old) (W.contents writer.new)
+        (gap_text cost lower)) }
+    ensures fault { OnErr result (AppendsPart (W.contents writer.old) (W.contents writer.new)
+        (gap_text cost lower)) }
+{
+    print_numbered(b"gap ", cost.saturating_sub(lower), writer)
 }
 
 /// Writes the words, the number and a line feed.
@@ -102,6 +136,16 @@ pub fn verdict_code(verdict: &Verdict) -> u8
     match verdict {
         Verdict::Yes => 0,
         Verdict::No(_, _) => 1,
+    }
+}
+
+/// The exit status of what a certificate proves by itself: 1 where that is nothing.
+pub fn lower_code(verdict: &LowerVerdict) -> u8
+    ensures { result ≡ code_of_lower verdict.now }
+{
+    match verdict {
+        LowerVerdict::AtLeast(_) | LowerVerdict::NoSolution => 0,
+        LowerVerdict::No(..) => 1,
     }
 }
 

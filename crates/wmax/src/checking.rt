@@ -18,7 +18,7 @@ use std::io::{self, Read, Write};
 use std::rt::{Env, Files};
 
 /// What is said of a certificate that cannot be read more than once.
-const NO_FILE: &str = "error: check --profile any takes a regular file as PROOF, and no pipe";
+const NO_FILE: &str = "error: check --profile any needs a regular file as PROOF, not a pipe";
 
 /// The files are opened in their order before any is read, and read in their order. The certificate
 /// is judged while it is read, so none of it is kept but the clauses that are live.

@@ -17,7 +17,7 @@ use std::rt::{Env, Files};
 use wcnf::reading::read_from;
 
 /// What is said of a `--proof` in another profile.
-const NO_CORES: &str = "error: encode takes --proof with --profile 5 alone";
+const NO_CORES: &str = "error: encode takes --proof only with --profile 5";
 
 /// The formula for 'cost below COST', or with `--proof` that of the core lines of the certificate,
 /// which is opened after FILE and before any of it is read.

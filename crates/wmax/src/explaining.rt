@@ -1,21 +1,25 @@
-//! `wmax explain`: what there is of an instance, or what a result comes to.
+//! `wmax explain`: what there is of an instance, or what a result comes to, and how much less a
+//! solution could cost.
 use crate::checking::show;
 use crate::files::{UNREADABLE, read_file};
+use crate::lower_bounds::verdict_of;
 use crate::standard_error::Messages;
 use clap::ArgMatches;
 use explain::explaining::{ExplainFault, write_explanation};
+use explain::judging::{Judgement, judge};
 use explain::mending::write_mending;
 use explain::summary::write_summary;
+use lrat_check::lower::LowerVerdict;
 use lrat_check::verdicts::{Cause, Verdict};
 use report::fault::RunFault;
-use report::printing::{deliver, fault_code, print_fault};
+use report::printing::{deliver, fault_code, lower_code, print_fault, print_gap, print_lower};
 use std::fs::File;
-use std::io::{self, Write};
+use std::io::{self, Read, Write};
 use std::rt::Files;
 use wcnf::faults::ReadFault;
 
-/// FILE, and RESULT if it is named, are opened, then read in their order. Of a faulty FILE the line
-/// is shown, and what would mend it.
+/// FILE, and RESULT and PROOF if they are named, are opened, then read in their order. Of a faulty
+/// FILE the line is shown, and what would mend it.
 pub fn explain<R: Files + AllocGlobal + Print, E: Write>(
     rt: &R,
     messages: &mut Messages<'_, E>,
@@ -30,9 +34,36 @@ pub fn explain<R: Files + AllocGlobal + Print, E: Write>(
         return explain_instance(rt, messages, &text);
     };
     let mut answer = File::open(rt, answer).map_err(|_| UNREADABLE)?;
+    let Some(proof) = matches.get_str("PROOF") else {
+        let text = read_file(rt, &mut text)?;
+        let answer = read_file(rt, &mut answer)?;
+        return explain_result(rt, messages, &text, &answer);
+    };
+    let mut proof = File::open(rt, proof).map_err(|_| UNREADABLE)?;
     let text = read_file(rt, &mut text)?;
     let answer = read_file(rt, &mut answer)?;
-    explain_result(rt, messages, &text, &answer)
+    match explain_result(rt, messages, &text, &answer)? {
+        0 => explain_bound(rt, &text, &answer, &mut proof),
+        status => Ok(status),
+    }
+}
+
+/// Prints what the certificate proves by itself, and how far the result is from that.
+fn explain_bound<R: AllocGlobal + Print, P: Read>(
+    rt: &R,
+    text: &[u8],
+    answer: &[u8],
+    proof: &mut P,
+) -> Result<u8, RunFault> {
+    let verdict = verdict_of(rt, text, proof)?;
+    let mut out = io::writer(rt);
+    deliver(print_lower(&verdict, &mut out), &mut out)?;
+    if let LowerVerdict::AtLeast(lower) = verdict {
+        if let Ok(Judgement::Right(cost)) = judge(rt.alloc(), text, answer) {
+            deliver(print_gap(cost, lower, &mut out), &mut out)?;
+        }
+    }
+    Ok(lower_code(&verdict))
 }
 
 /// Prints how much there is of an instance.

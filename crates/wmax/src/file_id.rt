@@ -38,43 +38,52 @@ pub fn find_path_id<R: Files>(rt: &R, path: &str) -> Option<FileId> {
     }
 }
 
-/// Whether the path is that of one of these files, or of what is no regular file.
+/// Whether the path is that of one of these files, of a symbolic link, or of what is no regular file.
 pub fn is_taken<R: Files>(rt: &R, path: &str, others: &[FileId]) -> bool {
-    match fs::metadata(rt, path) {
+    match fs::symlink_metadata(rt, path) {
         Ok(data) => !data.is_file() || others.contains(&file_id_of(&data)),
         Err(_) => false,
     }
 }
 
-/// Opens or creates the file, and empties it. One of the others is refused before anything is
-/// emptied: the open files are compared and not their paths, so no renaming in between makes a
-/// difference. What is no regular file, as a pipe, has nothing to empty. None where the file cannot
-/// be opened, looked at or emptied, or is refused.
-pub fn open_empty<R: Files>(rt: &R, path: &str, others: &[FileId]) -> Option<R::File> {
+/// Opens or creates the file, and leaves in it what it has. One of the others is refused: the open
+/// files are compared and not their paths, so no renaming in between makes a difference. None where
+/// the file cannot be opened or looked at, or is refused.
+fn open_kept<R: Files>(rt: &R, path: &str, others: &[FileId]) -> Option<R::File> {
     let mut options = OpenOptions::new();
     options.write(true).create(true);
     let Ok(file) = options.open(rt, path) else {
         return None;
     };
-    let Ok(data) = file.metadata() else {
-        return None;
-    };
-    if others.contains(&file_id_of(&data)) {
-        return None;
-    }
-    if data.is_file() && file.set_len(0).is_err() {
+    let there = find_file_id(&file)?;
+    if others.contains(&there) {
         return None;
     }
     Some(file)
 }
 
-/// Opens or creates the file that the certificate goes to, and empties it.
+/// Empties the file; whether it could. What is no regular file, as a pipe, has nothing to empty.
+pub fn empty<F: OpenFile>(file: &F) -> bool {
+    match file.metadata() {
+        Ok(data) => !data.is_file() || file.set_len(0).is_ok(),
+        Err(_) => false,
+    }
+}
+
+/// Opens or creates the file, and empties it. None where it cannot be opened, looked at or emptied,
+/// or is one of the others: that one stays as it is.
+pub fn open_empty<R: Files>(rt: &R, path: &str, others: &[FileId]) -> Option<R::File> {
+    let file = open_kept(rt, path, others)?;
+    if empty(&file) { Some(file) } else { None }
+}
+
+/// Opens or creates the file that the certificate goes to, and leaves in it what it has.
 ///
 /// # Errors
 ///
-/// `ProofOutput` where it cannot be opened, looked at or emptied, or is one of those that are read.
+/// `ProofOutput` where it cannot be opened or looked at, or is one of those that are read.
 pub fn open_proof<R: Files>(rt: &R, path: &str, read: [FileId; 2]) -> Result<R::File, RunFault> {
-    match open_empty(rt, path, &read) {
+    match open_kept(rt, path, &read) {
         Some(file) => Ok(file),
         None => Err(RunFault::ProofOutput),
     }

@@ -1,72 +1,23 @@
-//! The file of `--best`: at each moment a whole result text. A text is written beside it and then
-//! renamed over it, so that whoever kills the program finds the text before or the one after. A
-//! solution that an earlier run left there stays until this run has a better one.
+//! The file of `--best`: at each moment a whole result text. A solution that an earlier run left
+//! there stays until this run has one that is as cheap. What it says of an optimum does not stay
+//! then: only this run's own words do, which it has proved.
 ghost use Rattle.std.specs.Prelude.{IfOk};
 ghost use Rattle.improve.specs.Improving.{IsSolution};
 ghost use Rattle.report.specs.Best.{IsFound};
 ghost use Rattle.wmax.specs.Keeper.{IsLeft};
 
-use crate::file_id::{FileId, is_taken, open_empty};
+use crate::file_id::FileId;
 use crate::standard_error::Messages;
+use crate::whole_file::{WholeFile, WholePaths};
 use explain::explaining::ExplainFault;
 use explain::judging::{Judgement, judge};
 use improve::found::Found;
 use report::best::{write_best, write_found, write_unknown};
 use report::fault::RunFault;
-use std::alloc::{AllocError, Global};
-use std::fs::{self, File};
+use std::alloc::Global;
 use std::io::Write;
 use std::rt::Files;
-use wcnf::faults::{FaultKind, ReadFault};
-use wcnf::output::WriteFault;
 use wcnf::types::Instance;
-use wcnf::whole::read_all;
-
-/// What stands behind the path in the name of the file that is renamed.
-const ENDING: &str = ".part";
-
-/// The files of `--best`.
-#[derive(Drop)]
-pub struct BestPaths<'a> {
-    /// The path that was named.
-    path: &'a str,
-    /// Where a text is written before it is whole.
-    part: String,
-}
-
-impl<'a> BestPaths<'a> {
-    /// The files for this path.
-    pub fn new(alloc: Global, path: &'a str) -> Result<Self, AllocError> {
-        let mut part = String::with_capacity(alloc, path.len() + ENDING.len())?;
-        part.push_str(path)?;
-        part.push_str(ENDING)?;
-        Ok(BestPaths { path, part })
-    }
-
-    /// Whether one of the two is one of the others, or no regular file: a device would be replaced
-    /// by a file.
-    pub fn are_taken<R: Files>(&self, rt: &R, others: &[FileId]) -> bool {
-        is_taken(rt, self.path, others) || is_taken(rt, &self.part, others)
-    }
-
-    /// What an earlier run left; nothing where there is no file.
-    ///
-    /// # Errors
-    ///
-    /// `Read` where there is a file that cannot be read; `Memory`.
-    pub fn read_earlier<R: Files + AllocGlobal>(&self, rt: &R) -> Result<Vec<u8>, RunFault> {
-        if fs::metadata(rt, self.path).is_err() {
-            return Ok(Vec::new(rt.alloc()));
-        }
-        let Ok(mut file) = File::open(rt, self.path) else {
-            return Err(RunFault::Read(ReadFault {
-                kind: FaultKind::Read,
-                line: 0,
-            }));
-        };
-        Ok(read_all(rt.alloc(), &mut file)?)
-    }
-}
 
 /// Judges what an earlier run left, by the text of the instance. What is no result is wrong.
 ///
@@ -85,21 +36,14 @@ pub fn judge_left(alloc: Global, text: &[u8], left: &[u8]) -> Result<Judgement, 
     }
 }
 
-/// Keeps the best solution in a file, or nowhere. What cannot be written is told once and changes
-/// nothing else; the next text is tried again.
+/// Keeps the best solution in a file, or nowhere.
 #[derive(Drop)]
 pub struct Keeper<'a, R: Files> {
-    /// Where files are.
-    rt: &'a R,
-    /// The files; without them nothing is kept.
-    paths: Option<BestPaths<'a>>,
-    /// What is not written into, also where it was linked to the name since.
-    others: [FileId; 2],
+    /// The file; without it nothing is kept.
+    file: Option<WholeFile<'a, R>>,
     /// What the solution of an earlier run costs that stands there, below 2^62; none where none
-    /// does. It is replaced by a cheaper one, or by the same cost as an optimum.
+    /// does. It is replaced by one that is not dearer.
     earlier: Option<u64>,
-    /// Whether a failure was told.
-    is_told: bool,
 }
 
 impl<'a, R: Files> Keeper<'a, R> {
@@ -107,98 +51,43 @@ impl<'a, R: Files> Keeper<'a, R> {
     /// where nothing can be written.
     pub fn start(
         rt: &'a R,
-        paths: Option<BestPaths<'a>>,
+        paths: Option<WholePaths<'a>>,
         others: [FileId; 2],
         earlier: Option<u64>,
     ) -> Option<Self> {
-        let keeper = Keeper {
-            rt,
-            paths,
-            others,
-            earlier,
-            is_told: false,
+        let Some(paths) = paths else {
+            return Some(Keeper {
+                file: None,
+                earlier,
+            });
         };
-        if keeper.can_write() {
-            Some(keeper)
-        } else {
-            None
-        }
-    }
-
-    /// Writes a first text, which is put in its place or taken away again.
-    fn can_write(&self) -> bool {
-        let Some(paths) = &self.paths else {
-            return true;
-        };
-        let Some(mut file) = open_empty(self.rt, &paths.part, &self.others) else {
-            return false;
-        };
-        let is_written = write_unknown(&mut file).is_ok();
-        let is_free = self.earlier.is_none();
-        if is_written && is_free && fs::rename(self.rt, &paths.part, paths.path).is_ok() {
-            return true;
-        }
-        let is_removed = fs::remove_file(self.rt, &paths.part).is_ok();
-        is_written && !is_free && is_removed
-    }
-
-    /// The file of the next text, empty; none where there is none to write.
-    fn begin<E: Write>(&mut self, messages: &mut Messages<'_, E>) -> Option<R::File> {
-        let Some(paths) = &self.paths else {
+        let file = WholeFile::new(rt, paths, others);
+        if !can_write(&file, earlier.is_none()) {
             return None;
-        };
-        let file = open_empty(self.rt, &paths.part, &self.others);
-        if file.is_none() {
-            self.fail(messages);
         }
-        file
+        Some(Keeper {
+            file: Some(file),
+            earlier,
+        })
     }
 
-    /// Puts the text that was written in its place; a broken one is taken away.
-    fn end<E: Write>(&mut self, written: Result<(), WriteFault>, messages: &mut Messages<'_, E>) {
-        let Some(paths) = &self.paths else {
-            return;
-        };
-        if written.is_ok() && fs::rename(self.rt, &paths.part, paths.path).is_ok() {
-            return;
-        }
-        let _ = fs::remove_file(self.rt, &paths.part);
-        self.fail(messages);
-    }
-
-    /// Tells the first failure.
-    fn fail<E: Write>(&mut self, messages: &mut Messages<'_, E>) {
-        if self.is_told {
-            return;
-        }
-        self.is_told = true;
-        if let Some(paths) = &self.paths {
-            let path = paths.path;
-            let _ = writeln!(messages.below(), "warning: {path} cannot be written");
-        }
-    }
-
-    /// Whether a solution of this cost is cheaper than that of an earlier run.
-    fn is_cheaper(&self, cost: u64) -> bool {
+    /// Whether a solution of this cost is not dearer than that of an earlier run.
+    fn is_as_cheap(&self, cost: u64) -> bool {
         match self.earlier {
-            Some(earlier) => cost < earlier,
+            Some(earlier) => cost <= earlier,
             None => true,
         }
     }
 
-    /// Whether what was found is better than the solution of an earlier run.
-    fn is_better(&self, found: &Found) -> bool {
-        let Some(earlier) = self.earlier else {
-            return true;
-        };
+    /// Whether what was found is not worse than the solution of an earlier run.
+    fn is_as_good(&self, found: &Found) -> bool {
         match found {
-            Found::Optimum { cost, .. } => *cost <= earlier,
-            Found::Best { cost, .. } => *cost < earlier,
-            Found::Unsat { .. } | Found::Nothing { .. } => false,
+            Found::Optimum { cost, .. } | Found::Best { cost, .. } => self.is_as_cheap(*cost),
+            Found::Unsat { .. } | Found::Nothing { .. } => self.earlier.is_none(),
         }
     }
 
-    /// Keeps a better solution, where that of an earlier run is not as cheap.
+    /// Keeps a better solution, where that of an earlier run is not cheaper.
     pub fn better<E: Write>(
         &mut self,
         instance: &Instance,
@@ -208,16 +97,19 @@ impl<'a, R: Files> Keeper<'a, R> {
     )
         requires { IsSolution instance.now bits.now cost }
     {
-        if !self.is_cheaper(cost) {
+        if !self.is_as_cheap(cost) {
             return;
         }
-        if let Some(mut file) = self.begin(messages) {
-            let written = write_best(instance, cost, bits, &mut file);
-            self.end(written, messages);
+        let Some(file) = &mut self.file else {
+            return;
+        };
+        if let Some(mut part) = file.begin(messages) {
+            let written = write_best(instance, cost, bits, &mut part);
+            file.end(written, messages);
         }
     }
 
-    /// Keeps what was found, where it is better than what an earlier run left.
+    /// Keeps what was found, where it is not worse than what an earlier run left.
     pub fn ended<E: Write>(
         &mut self,
         instance: &Instance,
@@ -226,12 +118,29 @@ impl<'a, R: Files> Keeper<'a, R> {
     )
         requires { IsFound instance.now found.now }
     {
-        if !self.is_better(found) {
+        if !self.is_as_good(found) {
             return;
         }
-        if let Some(mut file) = self.begin(messages) {
-            let written = write_found(instance, found, &mut file);
-            self.end(written, messages);
+        let Some(file) = &mut self.file else {
+            return;
+        };
+        if let Some(mut part) = file.begin(messages) {
+            let written = write_found(instance, found, &mut part);
+            file.end(written, messages);
         }
     }
+}
+
+/// Writes a first text, which is put in its place, where that is free, or taken away again. Whether
+/// it could.
+fn can_write<R: Files>(file: &WholeFile<'_, R>, is_free: bool) -> bool {
+    let Some(mut part) = file.try_begin() else {
+        return false;
+    };
+    let is_written = write_unknown(&mut part).is_ok();
+    if is_written && is_free && file.try_end() {
+        return true;
+    }
+    let is_removed = file.try_drop();
+    is_written && !is_free && is_removed
 }

@@ -2,23 +2,27 @@
 //! libraries.
 #![tactic(auto)]
 
+mod bounding;
 mod checking;
 mod encoding;
 mod explaining;
 mod file_id;
 mod files;
 mod keeper;
+mod lower_bounds;
 mod onlooker;
 mod profiles;
 mod progress;
 mod solving;
 mod standard_error;
+mod whole_file;
 
 use checking::check;
 use clap::error::ErrorKind;
 use clap::{ArgMatches, Error};
 use encoding::encode;
 use explaining::explain;
+use lower_bounds::lower;
 use report::fault::RunFault;
 use report::options;
 use report::printing::{fault_code, print_fault};
@@ -49,7 +53,7 @@ fn tell_words<E: Write>(messages: &mut Messages<'_, E>, kind: io::ErrorKind) -> 
     }
     let _ = writeln!(
         messages.below(),
-        "error: a word of the command line is not UTF-8"
+        "error: the command line has a word that is not UTF-8"
     );
     2
 }
@@ -126,6 +130,10 @@ fn run_matches<R: Files + AllocGlobal + Print + Env + Clock, E: Write>(
         }
         Some(("check", found)) => {
             let outcome = check(rt, messages, found);
+            tell(messages, outcome)
+        }
+        Some(("lower", found)) => {
+            let outcome = lower(rt, found);
             tell(messages, outcome)
         }
         Some(("explain", found)) => {

@@ -1,23 +1,28 @@
-//! Who looks on while a run goes, for `--best` and `--progress`.
+//! Who looks on while a run goes, for `--best`, `--lower` and `--progress`.
+use crate::bounding::Bounder;
 use crate::keeper::Keeper;
 use crate::progress::Meter;
 use crate::standard_error::Messages;
 use cdcl::watch::SearchReport;
 use improve::found::Found;
 use improve::watch::Watch;
+use improve_trials::found::ByCores;
 use report::best::Keep;
 use std::io::Write;
 use std::rt::{Clock, Files};
 use wcnf::types::Instance;
 
-/// Keeps the best solution, tells how far the run is, both or neither.
+/// Keeps the best solution and the best lower bound, and tells how far the run is: all of it, some
+/// or nothing.
 #[derive(Drop)]
 pub struct Onlooker<'a, 'b, R: Files + Clock, E: Write> {
     /// What keeps the best solution.
     pub keeper: Keeper<'a, R>,
+    /// What keeps the best lower bound.
+    pub bounder: Bounder<'a, R>,
     /// What tells how far the run is, if it is to be told.
     pub meter: Option<Meter<'a, R>>,
-    /// Where both tell something.
+    /// Where all of them tell something.
     pub messages: &'a mut Messages<'b, E>,
 }
 
@@ -47,13 +52,20 @@ impl<'a, 'b, R: Files + Clock + AllocGlobal, E: Write> Watch for Onlooker<'a, 'b
         }
         self.messages.give_way();
     }
+
+    fn wants_bounds(&self) -> bool {
+        self.bounder.has_file()
+    }
+
+    fn bounded(&mut self, instance: &Instance, proof: &ByCores) {
+        self.bounder.bounded(instance, proof, self.messages);
+    }
 }
 
 impl<'a, 'b, R: Files + Clock + AllocGlobal, E: Write> Keep for Onlooker<'a, 'b, R, E> {
     fn searched(&mut self, found: &Found) {
         if let Some(meter) = &mut self.meter {
-            let is_proved = matches!(found, Found::Optimum { .. } | Found::Unsat { .. });
-            meter.searched(is_proved, self.messages);
+            meter.searched(found, self.messages);
         }
         self.messages.give_way();
     }

@@ -56,7 +56,7 @@ pub fn refuse_profile<E: Write>(
         NoProfile::Named => {
             let _ = writeln!(
                 messages.below(),
-                "error: {VARIABLE} names no profile from 1 to 5"
+                "error: {VARIABLE} is not a profile from 1 to 5"
             );
             Ok(2)
         }

@@ -2,9 +2,11 @@
 //! end of the search, and that the certificate is being written.
 use crate::standard_error::Messages;
 use cdcl::watch::SearchReport;
+use improve::found::Found;
 use std::alloc::AllocError;
+use std::fs;
 use std::io::Write;
-use std::rt::Clock;
+use std::rt::{Clock, Files};
 use std::time::{Duration, Instant};
 
 /// The clock is read after so many conflicts, and at each better solution.
@@ -13,10 +15,13 @@ const LOOK: u64 = 16;
 /// No line comes sooner after another than so many seconds, but at a better solution.
 const PAUSE: u64 = 1;
 
+/// Where the system says what memory the process holds.
+const STATUS: &str = "/proc/self/status";
+
 /// How far a run is.
 #[derive(Drop)]
 pub struct Meter<'a, R: Clock> {
-    /// The clock.
+    /// The clock, and where files are.
     rt: &'a R,
     /// When the run began.
     start: Instant,
@@ -26,8 +31,6 @@ pub struct Meter<'a, R: Clock> {
     limit: u64,
     /// What was told last of the search.
     report: SearchReport,
-    /// How many conflicts there were at the last line.
-    told_conflicts: u64,
     /// How often the solvers before this one started over.
     restarts: u64,
     /// How many propagations they made.
@@ -36,13 +39,15 @@ pub struct Meter<'a, R: Clock> {
     solutions: u64,
     /// What the best of them costs, below 2^62; none where there is none.
     cost: Option<u64>,
+    /// Whether it is proved that there is none.
+    is_refuted: bool,
     /// What the cores found so far are worth together, below 2^62; none where none was found.
     lower: Option<u64>,
     /// Whether a certificate goes to a file.
     has_proof: bool,
 }
 
-impl<'a, R: Clock + AllocGlobal> Meter<'a, R> {
+impl<'a, R: Clock + Files + AllocGlobal> Meter<'a, R> {
     /// A run begins; none where the clock cannot be read.
     pub fn start(rt: &'a R, limit: u64, has_proof: bool) -> Option<Self> {
         let Ok(start) = Instant::now(rt) else {
@@ -59,11 +64,11 @@ impl<'a, R: Clock + AllocGlobal> Meter<'a, R> {
                 learned: 0,
                 restarts: 0,
             },
-            told_conflicts: 0,
             restarts: 0,
             propagations: 0,
             solutions: 0,
             cost: None,
+            is_refuted: false,
             lower: None,
             has_proof,
         })
@@ -102,17 +107,26 @@ impl<'a, R: Clock + AllocGlobal> Meter<'a, R> {
         self.lower = Some(lower);
     }
 
-    /// The search has ended: it tells how far it came, where it has gone on since the last line,
-    /// and that what it has proved is being written.
-    pub fn searched<E: Write>(&mut self, is_proved: bool, messages: &mut Messages<'_, E>) {
+    /// The search has ended: it tells how far it came, and that the certificate is being written, if
+    /// one is.
+    pub fn searched<E: Write>(&mut self, found: &Found, messages: &mut Messages<'_, E>) {
         let Ok(now) = Instant::now(self.rt) else {
             return;
         };
-        if self.report.conflicts != self.told_conflicts {
-            self.tell(now, messages);
-        }
-        if is_proved && self.has_proof {
+        self.note_proved(found);
+        self.tell(now, messages);
+        if self.has_proof && matches!(found, Found::Optimum { .. } | Found::Unsat { .. }) {
             self.tell_writing(now, messages);
+        }
+    }
+
+    /// Takes note of what the search has proved. A lower bound is told only where there was one
+    /// before.
+    fn note_proved(&mut self, found: &Found) {
+        match found {
+            Found::Optimum { cost, .. } if self.lower.is_some() => self.lower = Some(*cost),
+            Found::Unsat { .. } => self.is_refuted = true,
+            _ => {}
         }
     }
 
@@ -133,7 +147,6 @@ impl<'a, R: Clock + AllocGlobal> Meter<'a, R> {
     /// Tells how far the search is; where memory for the line is refused, nothing.
     fn tell<E: Write>(&mut self, now: Instant, messages: &mut Messages<'_, E>) {
         self.told = now;
-        self.told_conflicts = self.report.conflicts;
         let (start, end) = messages.edges();
         if let Ok(line) = self.spell(now, start, end) {
             messages.show(line.as_str());
@@ -146,9 +159,10 @@ impl<'a, R: Clock + AllocGlobal> Meter<'a, R> {
         let report = &self.report;
         let cost = self.spell_cost()?;
         let pace = self.spell_pace(age)?;
+        let memory = self.spell_memory()?;
         let spent = self.spell_spent()?;
         format!(in self.rt.alloc();
-            "{start}{}.{} s, {cost}, {pace}, {} learned, {} restarts, {spent}{end}",
+            "{start}{}.{} s, {cost}, {pace}, {} learned, {} restarts, {memory}{spent}{end}",
             age.as_secs(),
             age.subsec_millis() / 100,
             report.learned,
@@ -160,6 +174,7 @@ impl<'a, R: Clock + AllocGlobal> Meter<'a, R> {
     fn spell_cost(&self) -> Result<String, AllocError> {
         let alloc = self.rt.alloc();
         match (self.cost, self.lower) {
+            _ if self.is_refuted => format!(in alloc; "no solution"),
             (None, None) => format!(in alloc; "no solution yet"),
             (None, Some(lower)) => format!(in alloc; "no solution yet, at least {lower}"),
             (Some(cost), None) => format!(in alloc; "cost {cost}"),
@@ -182,18 +197,51 @@ impl<'a, R: Clock + AllocGlobal> Meter<'a, R> {
         format!(in self.rt.alloc(); "{conflicts} conflicts, {pace}/s, {propagations} propagations")
     }
 
+    /// How much memory the process holds, where the system says it.
+    fn spell_memory(&self) -> Result<String, AllocError> {
+        let alloc = self.rt.alloc();
+        let Ok(status) = fs::read_to_string(self.rt, STATUS) else {
+            return format!(in alloc; "");
+        };
+        match resident_of(&status) {
+            Some(size) => format!(in alloc; "{} MB, ", size.saturating_mul(1024) / 1_000_000),
+            None => format!(in alloc; ""),
+        }
+    }
+
     /// How much of the effort is spent, in hundredths of a percent.
     fn spell_spent(&self) -> Result<String, AllocError> {
         let spent = self.report.conflicts.saturating_add(self.solutions);
-        let part = spent.saturating_mul(10_000) / self.limit.max(1);
+        let part = share_of(spent, self.limit);
         format!(in self.rt.alloc(); "{}.{:02} % spent", part / 100, part % 100)
     }
 }
 
-/// By how much the cost is above what is needed at least, in hundredths of a percent of the cost.
+/// The memory that the process holds, in units of 1024 bytes, by this text of the system.
+fn resident_of(status: &str) -> Option<u64> {
+    for line in status.lines() {
+        if let Some(size) = line.strip_prefix("VmRSS:") {
+            return size.trim_end_matches("kB").trim().parse::<u64>().ok();
+        }
+    }
+    None
+}
+
+/// The share in hundredths of a percent, rounded down. All of nothing is spent from the start.
+fn share_of(spent: u64, limit: u64) -> u64 {
+    if limit == 0 {
+        return 10_000;
+    }
+    spent.saturating_mul(10_000) / limit
+}
+
+/// By how much the cost is above what is needed at least, in hundredths of a percent of the cost,
+/// rounded up: it is 0 only where they are the same.
 fn gap_of(cost: u64, lower: u64) -> u64 {
     let above = u128::from(cost.saturating_sub(lower));
-    let gap = above.saturating_mul(10_000) / u128::from(cost.max(1));
+    let gap = above
+        .saturating_mul(10_000)
+        .div_ceil(u128::from(cost.max(1)));
     gap.min(10_000) as u64
 }
 

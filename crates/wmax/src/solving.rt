@@ -1,17 +1,21 @@
 //! `wmax solve`: a result and its certificate.
 use crate::checking::show;
-use crate::file_id::{FileId, find_file_id, find_path_id, open_proof};
-use crate::files::{UNREADABLE, read_file};
-use crate::keeper::{BestPaths, Keeper, judge_left};
+use crate::file_id::{FileId, empty, find_file_id, find_path_id, open_proof};
+use crate::files::{UNREADABLE, read_file, refuse_file};
+use crate::bounding::{Bounder, LowerPaths};
+use crate::keeper::{Keeper, judge_left};
 use crate::onlooker::Onlooker;
 use crate::profiles::{choose_profile, refuse_profile};
 use crate::progress::Meter;
 use crate::standard_error::Messages;
+use crate::whole_file::WholePaths;
 use adder::cells::Profile;
 use cdcl::budget::Budget;
 use clap::ArgMatches;
 use explain::judging::{Judgement, read_bits};
 use lrat_check::checking::check_as;
+use lrat_check::lower::{LowerVerdict, check_lower};
+use lrat_check::verdicts::Cause;
 use report::fault::RunFault;
 use report::options::MOST_CONFLICTS;
 use report::running::run_from;
@@ -28,19 +32,33 @@ struct Search<'a> {
     /// The effort.
     budget: Budget,
     /// Where it begins, if it has such a solution.
-    start: Option<Vec<bool>>,
+    start: Option<Start>,
     /// Where the best solution is kept, if it is to be kept.
     best: Option<&'a str>,
+    /// Where the best lower bound is kept, if it is to be kept,
+    lower: Option<&'a str>,
+    /// and what is known of that.
+    bounds: Option<LowerPaths<'a>>,
     /// Whether it is to be told how far the run is.
     is_told: bool,
     /// Whether there is a file for the certificate.
     has_proof: bool,
 }
 
+/// A solution with which a search begins.
+#[derive(Drop)]
+struct Start {
+    /// What it costs.
+    cost: u64,
+    /// Its bits.
+    bits: Vec<bool>,
+}
+
 /// FILE is opened, then RESULT, if the search begins with one: that is judged by FILE, all of which
-/// is in memory then. Then the PATH of the best solution is looked at, then that of the certificate
-/// is created or emptied, then what is left of FILE is read. Without a PATH the certificate is
-/// dropped.
+/// is in memory then. Then the file of the best solution is looked at, and the search begins with
+/// what stands there, if that is cheaper. Then the file of the certificate is opened or created,
+/// then that of the best solution is written, then that of the certificate is emptied, and what is
+/// left of FILE is read. Without a file the certificate is dropped.
 pub fn solve<R: Files + AllocGlobal + Print + Env + Clock, E: Write>(
     rt: &R,
     messages: &mut Messages<'_, E>,
@@ -61,6 +79,8 @@ pub fn solve<R: Files + AllocGlobal + Print + Env + Clock, E: Write>(
         budget: Budget::new(limit.min(MOST_CONFLICTS)),
         start: None,
         best: matches.get_str("best"),
+        lower: matches.get_str("lower"),
+        bounds: None,
         is_told: matches.get_flag("progress"),
         has_proof: matches.contains_id("proof"),
     };
@@ -72,7 +92,7 @@ pub fn solve<R: Files + AllocGlobal + Print + Env + Clock, E: Write>(
             let Some(here) = find_file_id(&text) else {
                 return Err(UNREADABLE);
             };
-            solve_proved(rt, messages, search, &mut text, proof, [here, here])
+            solve_bounded(rt, messages, search, &mut text, proof, [here, here])
         }
     }
 }
@@ -87,30 +107,145 @@ fn solve_from<R: Files + AllocGlobal + Print + Clock, E: Write>(
     from: &str,
     proof: Option<&str>,
 ) -> Result<u8, RunFault> {
-    let mut from = File::open(rt, from).map_err(|_| UNREADABLE)?;
-    let (Some(here), Some(there)) = (find_file_id(text), find_file_id(&from)) else {
+    let Ok(mut result) = File::open(rt, from) else {
+        return Ok(refuse_file(messages, "--from", from));
+    };
+    let (Some(here), Some(there)) = (find_file_id(text), find_file_id(&result)) else {
         return Err(UNREADABLE);
     };
     let text = read_file(rt, text)?;
-    let said = read_file(rt, &mut from)?;
+    let said = match read_file(rt, &mut result) {
+        Ok(said) => said,
+        Err(RunFault::Read(_)) => return Ok(refuse_file(messages, "--from", from)),
+        Err(fault) => return Err(fault),
+    };
     match judge_left(rt.alloc(), &text, &said)? {
         Judgement::Unknown | Judgement::Unsatisfiable => {}
-        Judgement::Right(_) => search.start = read_start(rt.alloc(), &said)?,
+        Judgement::Right(cost) => search.start = read_start(rt.alloc(), &said, cost)?,
         Judgement::Wrong => {
             let verdict = check_as(rt.alloc(), &text, &said, &[], Profile::One);
             return show(rt, &verdict.map_err(|_| RunFault::Memory)?);
         }
     }
     let mut text = text.as_slice();
-    solve_proved(rt, messages, search, &mut text, proof, [here, there])
+    solve_bounded(rt, messages, search, &mut text, proof, [here, there])
 }
 
-/// The bits of a result, with which a search begins.
-fn read_start(alloc: Global, said: &[u8]) -> Result<Option<Vec<bool>>, RunFault> {
+/// The solution of a result, with which a search begins; it costs this.
+fn read_start(alloc: Global, said: &[u8], cost: u64) -> Result<Option<Start>, RunFault> {
     match read_bits(alloc, said) {
-        Ok(start) => Ok(start),
+        Ok(Some(bits)) => Ok(Some(Start { cost, bits })),
+        Ok(None) => Ok(None),
         Err(_) => Err(RunFault::Memory),
     }
+}
+
+/// The bits with which a search begins.
+fn bits_of(start: Option<Start>) -> Option<Vec<bool>> {
+    match start {
+        Some(start) => Some(start.bits),
+        None => None,
+    }
+}
+
+/// Whether this cost is less than that of the solution with which the search begins, if it has one.
+fn is_cheaper(cost: u64, start: &Option<Start>) -> bool {
+    match start {
+        Some(start) => cost < start.cost,
+        None => true,
+    }
+}
+
+/// Solves, where `--lower` may name none of the other files. Where it has something already, that
+/// is judged by FILE first, all of which is in memory then.
+fn solve_bounded<'a, R: Files + AllocGlobal + Print + Clock, E: Write, T: Read>(
+    rt: &'a R,
+    messages: &'a mut Messages<'_, E>,
+    mut search: Search<'a>,
+    text: &mut T,
+    proof: Option<&str>,
+    read: [FileId; 2],
+) -> Result<u8, RunFault> {
+    let Some(path) = search.lower else {
+        return solve_proved(rt, messages, search, text, proof, read);
+    };
+    let Ok(paths) = WholePaths::new(rt.alloc(), path) else {
+        return Err(RunFault::Memory);
+    };
+    if are_named(rt, &paths, &[proof, search.best], read) {
+        return Ok(refuse_lower(messages, Refusal::Taken));
+    }
+    let left = match paths.read_earlier(rt) {
+        Ok(left) => left,
+        Err(RunFault::Read(_)) => return Ok(refuse_file(messages, "--lower", path)),
+        Err(fault) => return Err(fault),
+    };
+    if left.is_empty() {
+        search.bounds = Some(LowerPaths {
+            paths,
+            lower: 0,
+            is_free: true,
+        });
+        return solve_proved(rt, messages, search, text, proof, read);
+    }
+    let text = read_file(rt, text)?;
+    let Some(lower) = judge_bound(rt.alloc(), &text, &left)? else {
+        return Ok(refuse_lower(messages, Refusal::Other));
+    };
+    search.bounds = Some(LowerPaths {
+        paths,
+        lower,
+        is_free: false,
+    });
+    let mut text = text.as_slice();
+    solve_proved(rt, messages, search, &mut text, proof, read)
+}
+
+/// Whether these paths are those of a file that is read, of one that has one of these names, or of
+/// what is no regular file.
+fn are_named<R: Files>(
+    rt: &R,
+    paths: &WholePaths<'_>,
+    names: &[Option<&str>],
+    read: [FileId; 2],
+) -> bool {
+    let mut taken = paths.are_taken(rt, &read);
+    for name in names.iter().flatten() {
+        taken |= paths.meets(name);
+        if let Some(there) = find_path_id(rt, name) {
+            taken |= paths.are_taken(rt, &[there]);
+        }
+    }
+    taken
+}
+
+/// The lower bound that an earlier run left for this text: 0 where the text is faulty, which the
+/// search tells; none where it proves nothing.
+fn judge_bound(alloc: Global, text: &[u8], left: &[u8]) -> Result<Option<u64>, RunFault> {
+    match check_lower(alloc, text, left) {
+        Ok(LowerVerdict::AtLeast(lower)) => Ok(Some(lower)),
+        Ok(LowerVerdict::NoSolution) => Ok(Some(u64::MAX)),
+        Ok(LowerVerdict::No(Cause::Text, _)) => Ok(Some(0)),
+        Ok(LowerVerdict::No(..)) => Ok(None),
+        Err(_) => Err(RunFault::Memory),
+    }
+}
+
+/// Tells why there is no run with this `--lower`; the exit status.
+fn refuse_lower<E: Write>(messages: &mut Messages<'_, E>, refusal: Refusal) -> u8 {
+    let (why, status) = match refusal {
+        Refusal::Taken => (
+            "names another file of the run, or something other than a regular file",
+            2,
+        ),
+        Refusal::Other => (
+            "names a file that is not a certificate of a lower bound for FILE",
+            2,
+        ),
+        Refusal::Unwritable => ("cannot be written", 3),
+    };
+    let _ = writeln!(messages.below(), "error: --lower {why}");
+    status
 }
 
 /// Solves, where `--best` may name none of the files that are read and not the certificate. Where
@@ -119,7 +254,7 @@ fn read_start(alloc: Global, said: &[u8]) -> Result<Option<Vec<bool>>, RunFault>
 fn solve_proved<'a, R: Files + AllocGlobal + Print + Clock, E: Write, T: Read>(
     rt: &'a R,
     messages: &'a mut Messages<'_, E>,
-    search: Search<'a>,
+    mut search: Search<'a>,
     text: &mut T,
     proof: Option<&str>,
     read: [FileId; 2],
@@ -127,111 +262,210 @@ fn solve_proved<'a, R: Files + AllocGlobal + Print + Clock, E: Write, T: Read>(
     let Some(path) = search.best else {
         return solve_into(rt, messages, search, text, proof, read, None);
     };
-    let [here, _] = read;
-    let paths = BestPaths::new(rt.alloc(), path).map_err(|_| RunFault::Memory)?;
+    let [here, result] = read;
     let there = match proof {
         Some(proof) => find_path_id(rt, proof).unwrap_or(here),
         None => here,
     };
-    if paths.are_taken(rt, &[here, there]) {
-        return Ok(refuse_best(messages, TAKEN, 2));
+    let mut kept = Kept::new(rt.alloc(), path)?;
+    if kept.paths.are_taken(rt, &[here, there]) || kept.paths.is_part_taken(rt, &[result]) {
+        return Ok(refuse_best(messages, Refusal::Taken));
     }
-    let left = paths.read_earlier(rt)?;
-    let mut kept = Kept {
-        paths,
-        earlier: None,
+    let left = match kept.paths.read_earlier(rt) {
+        Ok(left) => left,
+        Err(RunFault::Read(_)) => return Ok(refuse_file(messages, "--best", path)),
+        Err(fault) => return Err(fault),
     };
     if left.is_empty() {
         return solve_into(rt, messages, search, text, proof, read, Some(kept));
     }
-    let bytes = read_file(rt, text)?;
-    match judge_left(rt.alloc(), &bytes, &left)? {
-        Judgement::Unknown | Judgement::Unsatisfiable => {}
-        Judgement::Right(cost) => kept.earlier = Some(cost),
-        Judgement::Wrong => return Ok(refuse_best(messages, OTHER, 2)),
+    let text = read_file(rt, text)?;
+    if !take_earlier(rt.alloc(), &mut search, &mut kept, &text, &left)? {
+        return Ok(refuse_best(messages, Refusal::Other));
     }
-    let mut text = bytes.as_slice();
+    let mut text = text.as_slice();
     solve_into(rt, messages, search, &mut text, proof, read, Some(kept))
+}
+
+/// Takes note of the solution that an earlier run left, which this text of FILE judges: the search
+/// begins with it, unless it has a cheaper one. False where something else would be lost.
+fn take_earlier(
+    alloc: Global,
+    search: &mut Search<'_>,
+    kept: &mut Kept<'_>,
+    text: &[u8],
+    left: &[u8],
+) -> Result<bool, RunFault> {
+    match judge_left(alloc, text, left)? {
+        Judgement::Unknown | Judgement::Unsatisfiable => Ok(true),
+        Judgement::Right(cost) => {
+            kept.earlier = Some(cost);
+            if is_cheaper(cost, &search.start) {
+                search.start = read_start(alloc, left, cost)?;
+            }
+            Ok(true)
+        }
+        Judgement::Wrong => Ok(false),
+    }
 }
 
 /// Where the best solution is kept.
 #[derive(Drop)]
 struct Kept<'a> {
     /// The files.
-    paths: BestPaths<'a>,
+    paths: WholePaths<'a>,
     /// What the solution of an earlier run costs that stands there, below 2^62; none where none
     /// does.
     earlier: Option<u64>,
 }
 
+impl<'a> Kept<'a> {
+    /// The files of this path, of which nothing is known yet.
+    fn new(alloc: Global, path: &'a str) -> Result<Self, RunFault> {
+        let Ok(paths) = WholePaths::new(alloc, path) else {
+            return Err(RunFault::Memory);
+        };
+        Ok(Kept {
+            paths,
+            earlier: None,
+        })
+    }
+}
+
 /// Solves, with the certificate in the file of this name, which may be none of those that are read.
+/// It is emptied once all else that is to be written can be.
 fn solve_into<'a, R: Files + AllocGlobal + Print + Clock, E: Write, T: Read>(
     rt: &'a R,
     messages: &'a mut Messages<'_, E>,
-    search: Search<'a>,
+    mut search: Search<'a>,
     text: &mut T,
     proof: Option<&str>,
     read: [FileId; 2],
     kept: Option<Kept<'a>>,
 ) -> Result<u8, RunFault> {
     let [here, _] = read;
+    let bounds = search.bounds.take();
     let Some(proof) = proof else {
-        let mut dropped = io::sink();
-        return solve_kept(rt, messages, search, text, &mut dropped, [here, here], kept);
+        let keepers = match start_keepers(rt, kept, search.best, bounds, [here, here]) {
+            Ok(keepers) => keepers,
+            Err(refused) => return Ok(refuse(messages, refused)),
+        };
+        return solve_over(rt, messages, search, text, &mut io::sink(), keepers);
     };
     let mut proof = open_proof(rt, proof, read)?;
     let Some(there) = find_file_id(&proof) else {
         return Err(RunFault::ProofOutput);
     };
-    solve_kept(rt, messages, search, text, &mut proof, [here, there], kept)
-}
-
-/// Solves with a certificate. That the files of `--best` are none of the others is looked at once
-/// more, now that the certificate has a file.
-fn solve_kept<'a, R: Files + AllocGlobal + Print + Clock, E: Write, T: Read, P: Write>(
-    rt: &'a R,
-    messages: &'a mut Messages<'_, E>,
-    search: Search<'a>,
-    text: &mut T,
-    proof: &mut P,
-    others: [FileId; 2],
-    kept: Option<Kept<'a>>,
-) -> Result<u8, RunFault> {
-    let Some(Kept { paths, earlier }) = kept else {
-        let keeper = Keeper::start(rt, None, others, None);
-        return solve_over(rt, messages, search, text, proof, keeper);
+    let keepers = match start_keepers(rt, kept, search.best, bounds, [here, there]) {
+        Ok(keepers) => keepers,
+        Err(refused) => return Ok(refuse(messages, refused)),
     };
-    if paths.are_taken(rt, &others) {
-        return Ok(refuse_best(messages, TAKEN, 2));
+    if !empty(&proof) {
+        return Err(RunFault::ProofOutput);
     }
-    let keeper = Keeper::start(rt, Some(paths), others, earlier);
-    solve_over(rt, messages, search, text, proof, keeper)
+    solve_over(rt, messages, search, text, &mut proof, keepers)
 }
 
-/// What is said of a `--best` that the run uses otherwise, or that is a device.
-const TAKEN: &str = "names FILE, the certificate or no regular file";
+/// What keeps the best solution, and the best lower bound.
+#[derive(Drop)]
+struct Keepers<'a, R: Files> {
+    /// What keeps the best solution.
+    keeper: Keeper<'a, R>,
+    /// What keeps the best lower bound.
+    bounder: Bounder<'a, R>,
+}
 
-/// What is said of a `--best` that would be lost.
-const OTHER: &str = "names a file that has no solution of FILE at the cost that it tells";
+/// Which option there is no run with, and why.
+#[derive(Clone, Copy, Drop)]
+enum Refused {
+    /// `--best`.
+    Best(Refusal),
+    /// `--lower`.
+    Lower(Refusal),
+}
+
+/// Tells why there is no run with this option; the exit status.
+fn refuse<E: Write>(messages: &mut Messages<'_, E>, refused: Refused) -> u8 {
+    match refused {
+        Refused::Best(why) => refuse_best(messages, why),
+        Refused::Lower(why) => refuse_lower(messages, why),
+    }
+}
+
+/// What keeps the best solution and the best lower bound, each of which can be written. Once that of
+/// the best solution is there, whatever its name is, the other one cannot be the same file.
+fn start_keepers<'a, R: Files>(
+    rt: &'a R,
+    kept: Option<Kept<'a>>,
+    best: Option<&str>,
+    bounds: Option<LowerPaths<'a>>,
+    others: [FileId; 2],
+) -> Result<Keepers<'a, R>, Refused> {
+    let keeper = start_keeper(rt, kept, others).map_err(Refused::Best)?;
+    if let Some(bounds) = &bounds {
+        if are_named(rt, &bounds.paths, &[best], others) {
+            return Err(Refused::Lower(Refusal::Taken));
+        }
+    }
+    let Some(bounder) = Bounder::start(rt, bounds, others) else {
+        return Err(Refused::Lower(Refusal::Unwritable));
+    };
+    Ok(Keepers { keeper, bounder })
+}
+
+/// What keeps the best solution. That its files are none of the others is looked at once more, now
+/// that the certificate has a file.
+fn start_keeper<'a, R: Files>(
+    rt: &'a R,
+    kept: Option<Kept<'a>>,
+    others: [FileId; 2],
+) -> Result<Keeper<'a, R>, Refusal> {
+    let started = match kept {
+        Some(Kept { paths, earlier }) => {
+            if paths.are_taken(rt, &others) {
+                return Err(Refusal::Taken);
+            }
+            Keeper::start(rt, Some(paths), others, earlier)
+        }
+        None => Keeper::start(rt, None, others, None),
+    };
+    started.ok_or(Refusal::Unwritable)
+}
+
+/// Why there is no run with a `--best`.
+#[derive(Clone, Copy, Drop)]
+enum Refusal {
+    /// The run uses the file otherwise, or it is a device.
+    Taken,
+    /// It has what would be lost.
+    Other,
+    /// It cannot be written.
+    Unwritable,
+}
 
 /// Tells why there is no run with this `--best`; the exit status.
-fn refuse_best<E: Write>(messages: &mut Messages<'_, E>, why: &str, status: u8) -> u8 {
+fn refuse_best<E: Write>(messages: &mut Messages<'_, E>, refusal: Refusal) -> u8 {
+    let (why, status) = match refusal {
+        Refusal::Taken => (
+            "names FILE, the certificate, or something other than a regular file",
+            2,
+        ),
+        Refusal::Other => ("names a file that is not a correct result for FILE", 2),
+        Refusal::Unwritable => ("cannot be written", 3),
+    };
     let _ = writeln!(messages.below(), "error: --best {why}");
     status
 }
 
-/// Solves, where the file of `--best` can be written.
+/// Solves, with what is to be written at hand.
 fn solve_over<'a, R: Files + AllocGlobal + Print + Clock, E: Write, T: Read, P: Write>(
     rt: &'a R,
     messages: &'a mut Messages<'_, E>,
     search: Search<'_>,
     text: &mut T,
     proof: &mut P,
-    keeper: Option<Keeper<'a, R>>,
+    keepers: Keepers<'a, R>,
 ) -> Result<u8, RunFault> {
-    let Some(keeper) = keeper else {
-        return Ok(refuse_best(messages, "cannot be written", 3));
-    };
     let Search {
         profile,
         mut budget,
@@ -245,8 +479,10 @@ fn solve_over<'a, R: Files + AllocGlobal + Print + Clock, E: Write, T: Read, P: 
     } else {
         None
     };
+    let Keepers { keeper, bounder } = keepers;
     let mut onlooker = Onlooker {
         keeper,
+        bounder,
         meter,
         messages,
     };
@@ -254,7 +490,7 @@ fn solve_over<'a, R: Files + AllocGlobal + Print + Clock, E: Write, T: Read, P: 
     let status = run_from(
         rt.alloc(),
         text,
-        start,
+        bits_of(start),
         &mut budget,
         &mut out,
         proof,

@@ -1,17 +1,20 @@
 -- The three clauses of a definition, one after another.
-use Rattle.std.proofs.Common.{◌≡◌, ◌+◌, [], ◌∷◌, ◌++◌, length, Some, refl, ◌∙◌, ap}
+use Rattle.std.proofs.Common.{◌≡◌, ◌+◌, [], ◌∷◌, ◌++◌, length, Some, inl, refl, ◌∙◌, ap}
 use Rattle.std.proofs.lemmas.Result.{MatchResult-from_err}
 use Rattle.cnf.specs.Literal.{negation}
 use Rattle.clauses.specs.Slots.{Slots}
 use Rattle.eliminate_pairs.specs.Pairs.{stage_of, whole_clause, Stage, FitNames}
-use Rattle.eliminate_pairs.proofs.Defining.{whole_is, side_is, defined_is, kept_log, keeps_as}
+use Rattle.eliminate_pairs.proofs.Defining.{whole_is, side_is, defined_is, kept_log}
 use Rattle.eliminate_pairs.proofs.Defining.{fit_added, few_additions}
 use Rattle.eliminate_pairs.proofs.Staging.{with_whole, with_side, whole_right, left_right}
 use Rattle.eliminate_pairs.proofs.Staging.{right_right}
+use Rattle.eliminate_pairs.proofs.Leading.{breaks_at, breaks_first, breaks_second, defines_often}
+use Rattle.eliminate_pairs.proofs.Leading.{move_as}
 use Rattle.eliminate_pairs.proofs.Meetings.{shares}
 use Rattle.eliminate_pairs.proofs.pairs.define.Given.{Over}
 use Rattle.eliminate_pairs.proofs.pairs.define.Goals as goal
 use Rattle.eliminate_pairs.proofs.pairs.define.Goals.{In_ok-whole, In_ok-left_side}
+use Rattle.eliminate_pairs.proofs.pairs.define.Goals.{In_ok-right_side}
 
 -- the names with the first clause, and the stage with it
 whole_fits : (g : Over) (c : In_ok-whole g)
@@ -88,10 +91,11 @@ returns-in_err-left_side-clause-moves g c =
     stage_of c.args.vars c.args.store.now.slots c.args.names.now
     (g.S.Sink.lines c.args.sink.now) in
     let one = whole_stage g (goal.at.returns-in_err-left_side-clause-moves g c).In_ok-whole in
-    kept_log s (with_whole s a b) (g.S.Sink.lines c.add_side.new.sink)
-    (c.in_err-left_side.ensures.err ∙ ap (λ (x : Stage). x.lines) one)
+    let is = c.in_err-left_side.ensures.err ∙ ap (λ (x : Stage). x.lines) one in
+    breaks_first s (g.S.Sink.lines c.add_side.new.sink) a b c.requires.often is
+    (kept_log s (with_whole s a b) (g.S.Sink.lines c.add_side.new.sink) is
     (λ ground k. whole_right ground s a b (shares a b s.slots c.requires.often) c.requires.room
-    (few_additions s.lines c.is_short.ensures) k))
+    (few_additions s.lines c.is_short.ensures) k)))
 
 pub returns-in_err-right_side-clause-moves : goal.returns-in_err-right_side-clause-moves
 returns-in_err-right_side-clause-moves g c =
@@ -102,11 +106,29 @@ returns-in_err-right_side-clause-moves g c =
     stage_of c.args.vars c.args.store.now.slots c.args.names.now
     (g.S.Sink.lines c.args.sink.now) in
     let two = left_stage g (goal.at.returns-in_err-right_side-clause-moves g c).In_ok-left_side in
-    kept_log s (with_side (with_whole s a b) (length s.slots) a)
-    (g.S.Sink.lines c.add_side-2.new.sink) (c.in_err-right_side.ensures.err
-    ∙ ap (λ (x : Stage). x.lines) two)
+    let is = c.in_err-right_side.ensures.err ∙ ap (λ (x : Stage). x.lines) two in
+    breaks_second s (g.S.Sink.lines c.add_side-2.new.sink) a b (length s.slots) c.requires.often is
+    (kept_log s (with_side (with_whole s a b) (length s.slots) a)
+    (g.S.Sink.lines c.add_side-2.new.sink) is
     (λ ground k. left_right ground s a b (shares a b s.slots c.requires.often) c.requires.room
-    (few_additions s.lines c.is_short.ensures) k))
+    (few_additions s.lines c.is_short.ensures) k)))
+
+pub returns-in_err-whole-clause-moves : goal.returns-in_err-whole-clause-moves
+returns-in_err-whole-clause-moves g c =
+    MatchResult-from_err _ _ _ c.from_residual-in_err-whole.ensures.0 (λ _.
+    let s : Stage =
+    stage_of c.args.vars c.args.store.now.slots c.args.names.now
+    (g.S.Sink.lines c.args.sink.now) in
+    breaks_at s (g.S.Sink.lines c.add.new.sink) c.in_err-whole.ensures.err
+    (kept_log s s (g.S.Sink.lines c.add.new.sink) c.in_err-whole.ensures.err (λ ground k. k)))
+
+pub returns-in_err-lits-clause-moves : goal.returns-in_err-lits-clause-moves
+returns-in_err-lits-clause-moves g c =
+    MatchResult-from_err _ _ _ c.from_residual.ensures.0 (λ _.
+    let s : Stage =
+    stage_of c.args.vars c.args.store.now.slots c.args.names.now
+    (g.S.Sink.lines c.args.sink.now) in
+    breaks_at s s.lines refl (kept_log s s s.lines refl (λ ground k. k)))
 
 pub returns-clause-defined : goal.returns-clause-defined
 returns-clause-defined g c =
@@ -125,6 +147,27 @@ returns-clause-defined g c =
     c.in_ok-right_side.ensures.reference in
     record { whole = d.0; left_side = d.1; right_side = d.2; two = c.requires.often.two }
 
+-- the stage with all three
+right_stage : (g : Over) (c : In_ok-right_side g)
+    → stage_of (c.args.vars + 1) c.add_side-2.new.store.slots c.add_side-2.new.names
+    (g.S.Sink.lines c.add_side-2.new.sink)
+    ≡ with_side (with_side (with_whole (stage_of c.args.vars c.args.store.now.slots c.args.names.now
+    (g.S.Sink.lines c.args.sink.now)) c.args.left c.args.right)
+    (length c.args.store.now.slots) c.args.left) (length c.args.store.now.slots) c.args.right
+right_stage g c =
+    let s : Stage =
+    stage_of c.args.vars c.args.store.now.slots c.args.names.now
+    (g.S.Sink.lines c.args.sink.now) in
+    let left = (goal.at.In_ok-right_side g c).In_ok-left_side in
+    side_is (c.args.vars + 1) c.add_side.new.store.slots c.add_side-2.new.store.slots
+    c.add_side.new.names c.add_side-2.new.names (g.S.Sink.lines c.add_side.new.sink)
+    (g.S.Sink.lines c.add_side-2.new.sink)
+    (with_side (with_whole s c.args.left c.args.right) (length s.slots) c.args.left)
+    c.in_ok-whole.whole (length s.slots) c.args.right (left_fits g left).counted
+    c.in_ok-right_side.ensures.slots
+    c.in_ok-right_side.ensures.names c.in_ok-right_side.ensures.lines (left_stage g left)
+    c.in_ok-whole.ensures.reference
+
 pub returns-clause-moves : goal.returns-clause-moves
 returns-clause-moves g c =
     let v = c.args.vars in
@@ -132,17 +175,11 @@ returns-clause-moves g c =
     let b = c.args.right in
     let s : Stage =
     stage_of v c.args.store.now.slots c.args.names.now (g.S.Sink.lines c.args.sink.now) in
-    let left = (goal.at.returns-clause-moves g c).In_ok-left_side in
-    let three =
-    side_is (v + 1) c.add_side.new.store.slots c.add_side-2.new.store.slots c.add_side.new.names
-    c.add_side-2.new.names (g.S.Sink.lines c.add_side.new.sink)
-    (g.S.Sink.lines c.add_side-2.new.sink) (with_side (with_whole s a b) (length s.slots) a)
-    c.in_ok-whole.whole (length s.slots) b (left_fits g left).counted
-    c.in_ok-right_side.ensures.slots
-    c.in_ok-right_side.ensures.names c.in_ok-right_side.ensures.lines (left_stage g left)
-    c.in_ok-whole.ensures.reference in
-    keeps_as s (with_side (with_side (with_whole s a b) (length s.slots) a) (length s.slots) b)
+    move_as s (with_side (with_side (with_whole s a b) (length s.slots) a) (length s.slots) b)
     (stage_of (v + 1) c.add_side-2.new.store.slots c.add_side-2.new.names
-    (g.S.Sink.lines c.add_side-2.new.sink)) three
-    (λ ground k. right_right ground s a b (shares a b s.slots c.requires.often) c.requires.room
-    (few_additions s.lines c.is_short.ensures) k)
+    (g.S.Sink.lines c.add_side-2.new.sink))
+    (right_stage g (goal.at.returns-clause-moves g c).In_ok-right_side) (record {
+      keeps = λ ground k. right_right ground s a b (shares a b s.slots c.requires.often)
+          c.requires.room (few_additions s.lines c.is_short.ensures) k;
+      pair = inl (defines_often s a b (length s.slots) (length s.slots) c.requires.often);
+    })

@@ -3,13 +3,21 @@ use Rattle.std.proofs.Common.{◌+◌, ap, arith}
 use Rattle.std.proofs.lemmas.Result.{MatchResult-from_err}
 use Rattle.clauses.specs.Slots.{StoreState}
 use Rattle.eliminate_pairs.specs.Pairs.{stage_of, Stage}
-use Rattle.eliminate_pairs.proofs.Defining.{replaces_on, replaces_same, leaves_on, leaves_now}
+use Rattle.eliminate_pairs.proofs.Defining.{replaces_none, replaces_on, replaces_same}
+use Rattle.eliminate_pairs.proofs.Defining.{leaves_on, leaves_now}
 use Rattle.eliminate_pairs.proofs.pairs.define_counted.Goals as goal
 use Rattle.eliminate_pairs.proofs.pairs.define_counted.Goals.{
   in-Some+in_ok-find+then-found-fewest+in_ok-last,
 }
 use Rattle.eliminate_pairs.proofs.pairs.define_counted.Goals.{in-Some+in_ok-find+else-found-fewest}
 use Rattle.eliminate_pairs.proofs.pairs.define_counted.Goals.{in_default}
+
+pub loop-k-init : goal.loop-k-init
+loop-k-init g c = replaces_none _ _ _ _ _ c.requires.room c.requires.fit
+
+pub returns-in_err-table : goal.returns-in_err-table
+returns-in_err-table g c = MatchResult-from_err _ _ _ c.from_residual.ensures.0
+    (λ _. leaves_now _ _ _ _ _ _ (replaces_none _ _ _ _ _ c.requires.room c.requires.fit))
 
 pub returns-in_err-find : goal.returns-in_err-find
 returns-in_err-find g c = MatchResult-from_err _ _ _ c.from_residual-in_err-find.ensures.0

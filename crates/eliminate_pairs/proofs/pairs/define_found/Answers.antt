@@ -1,10 +1,11 @@
 -- Clause after clause gets the variable.
-use Rattle.std.proofs.Common.{ap, sym, subst, arith, ℕ}
+use Rattle.std.proofs.Common.{◌+◌, ap, sym, subst, arith, ℕ}
 use Rattle.std.proofs.lemmas.Result.{MatchResult-from_err}
 use Rattle.clauses.specs.Slots.{StoreState}
 use Rattle.eliminate_pairs.specs.declared.pairs.Fresh.{Fresh}
-use Rattle.eliminate_pairs.specs.Pairs.{stage_of, Stage, IsStage, Keeps}
-use Rattle.eliminate_pairs.proofs.Defining.{defines_same}
+use Rattle.eliminate_pairs.specs.Pairs.{stage_of, Stage, IsStage, Keeps, LeadsTo}
+use Rattle.eliminate_pairs.proofs.Defining.{defines_same, replaces_none}
+use Rattle.eliminate_pairs.proofs.Leading.{leads_by, leads_here, leads_on}
 use Rattle.eliminate_pairs.proofs.pairs.define_found.Goals as goal
 use Rattle.eliminate_pairs.proofs.pairs.define_found.Goals.{in-Some+then-has_pair+in_ok-new}
 use Rattle.eliminate_pairs.proofs.pairs.define_found.Goals.{in-Some+else-has_pair, in_default}
@@ -21,20 +22,40 @@ loop-k-init g c =
       keeps =
           subst (λ (v : ℕ). Keeps s (stage_of v c.define.new.store.slots c.define.new.names
           (L c.define.new.sink))) (sym c.in_ok-definition.ensures.variable)
-          c.in_ok-definition.ensures.moves;
+          c.in_ok-definition.ensures.moves.keeps;
+      moves =
+          subst (λ (v : ℕ). LeadsTo s (stage_of v c.define.new.store.slots c.define.new.names
+          (L c.define.new.sink))) (sym c.in_ok-definition.ensures.variable)
+          (leads_by s (stage_of (c.args.vars + 1) c.define.new.store.slots c.define.new.names
+          (L c.define.new.sink)) c.in_ok-definition.ensures.moves);
     }
+
+pub returns-then-not-stand_often-clause-passes : goal.returns-then-not-stand_often-clause-passes
+returns-then-not-stand_often-clause-passes g c =
+    replaces_none c.args.vars (c.args.vars + 1) _ _ _ (omega arith) c.requires.fit
 
 pub returns-in_err-definition-clause-passes : goal.returns-in_err-definition-clause-passes
 returns-in_err-definition-clause-passes g c =
     MatchResult-from_err _ _ _ c.from_residual.ensures.0 (λ _. record {
-      log = c.in_err-definition.ensures.moves;
+      log = c.in_err-definition.ensures.moves.log;
+      moves =
+          let s : Stage =
+          stage_of c.args.vars c.args.store.now.slots c.args.names.now
+          (g.S.Sink.lines c.args.sink.now) in
+          (s, leads_here s, c.in_err-definition.ensures.moves);
       rests = λ rare. absurd (rare _ _ (c.stand_often.ensures c.if-not-stand_often.false));
     })
 
 pub returns-in_err-new-clause-passes : goal.returns-in_err-new-clause-passes
 returns-in_err-new-clause-passes g c =
     MatchResult-from_err _ _ _ c.from_residual-in_err-new.ensures.0 (λ _. record {
-      log = λ ground k. c.in_err-new.ensures.moves ground (c.loop-k.invariant.keeps ground k);
+      log = λ ground k. c.in_err-new.ensures.moves.log ground (c.loop-k.invariant.keeps ground k);
+      moves = (
+        stage_of c.in_ok-definition.definition.variable c.loop-k.store.slots c.loop-k.names
+            (g.S.Sink.lines c.loop-k.sink),
+        c.loop-k.invariant.moves,
+        c.in_err-new.ensures.moves,
+      );
       rests = λ rare. absurd (rare _ _ (c.stand_often.ensures c.if-not-stand_often.false));
     })
 
@@ -55,7 +76,16 @@ loop-k-preserved g c =
             variable = was.variable;
             defined = w.in_ok-new.ensures.defined;
             fit = w.in_ok-new.ensures.fit;
-            keeps = λ ground k. w.in_ok-new.ensures.moves ground (was.keeps ground k);
+            keeps = λ ground k. w.in_ok-new.ensures.moves.keeps ground (was.keeps ground k);
+            moves =
+                leads_on s
+                (stage_of d.variable c.loop-k.store.slots c.loop-k.names (L c.loop-k.sink))
+                (stage_of d.variable w.replace.new.store.slots w.replace.new.names
+                (L w.replace.new.sink)) was.moves
+                (leads_by
+                (stage_of d.variable c.loop-k.store.slots c.loop-k.names (L c.loop-k.sink))
+                (stage_of d.variable w.replace.new.store.slots w.replace.new.names
+                (L w.replace.new.sink)) w.in_ok-new.ensures.moves);
           })
       | in-Some+else-has_pair w ↦
           defines_same s c.args.vars d c.loop-k.store.slots c.match-found_at.store.slots
@@ -75,5 +105,10 @@ returns-clause-passes g c = record {
   keeps = λ ground k. subst (λ (v : ℕ). IsStage ground
       (stage_of v c.loop-k.store.slots c.loop-k.names (g.S.Sink.lines c.loop-k.sink)))
       c.loop-k.invariant.variable (c.loop-k.invariant.keeps ground k);
+  moves = subst (λ (v : ℕ). LeadsTo
+      (stage_of c.args.vars c.args.store.now.slots c.args.names.now
+      (g.S.Sink.lines c.args.sink.now))
+      (stage_of v c.loop-k.store.slots c.loop-k.names (g.S.Sink.lines c.loop-k.sink)))
+      c.loop-k.invariant.variable c.loop-k.invariant.moves;
   rests = λ rare. absurd (rare _ _ (c.stand_often.ensures c.if-not-stand_often.false));
 }

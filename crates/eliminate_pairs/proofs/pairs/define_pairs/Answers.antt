@@ -1,9 +1,12 @@
 -- Count after count, each over what the one before left.
 use Rattle.std.proofs.Common.{arith}
 use Rattle.std.proofs.lemmas.Result.{MatchResult-from_err}
-use Rattle.eliminate_pairs.proofs.Defining.{replaces_on, leaves_on}
+use Rattle.eliminate_pairs.proofs.Defining.{replaces_none, replaces_on, leaves_on}
 use Rattle.eliminate_pairs.proofs.Together.{replaces_together}
 use Rattle.eliminate_pairs.proofs.pairs.define_pairs.Goals as goal
+
+pub loop-round-init : goal.loop-round-init
+loop-round-init g c = replaces_none _ _ _ _ _ c.requires.room c.requires.fit
 
 pub loop-round-preserved : goal.loop-round-preserved
 loop-round-preserved g c =

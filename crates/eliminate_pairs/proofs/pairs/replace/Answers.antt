@@ -1,18 +1,20 @@
 -- A clause with the variable comes, and the clause with the pair goes.
 use Rattle.std.proofs.Common.{◌≡◌, ◌+◌, ◌<◌, ◌^◌, length, Some, None, slice_set, refl, sym, ◌∙◌, ap}
-use Rattle.std.proofs.Common.{subst, arith}
+use Rattle.std.proofs.Common.{inr, subst, arith}
 use Rattle.std.proofs.lemmas.Result.{MatchResult-from_err}
 use Rattle.clauses.specs.Slots.{Slots, clause_at}
 use Rattle.lrat_log.specs.Steps.{added_count}
 use Rattle.eliminate_pairs.specs.Pairs.{stage_of, replaced, IsDefined, Stage, FitNames}
 use Rattle.clauses.proofs.Laws.{clause_kept, live_within}
-use Rattle.eliminate_pairs.proofs.Defining.{replaced_is, is_deleted, kept_log, keeps_as}
+use Rattle.eliminate_pairs.proofs.Defining.{replaced_is, is_deleted, kept_log}
 use Rattle.eliminate_pairs.proofs.Defining.{fit_added, fit_deleted, few_additions, name_stays}
+use Rattle.eliminate_pairs.proofs.Leading.{breaks_after, breaks_at, defines_none, move_as}
 use Rattle.eliminate_pairs.proofs.Staging.{with_replaced, deleted_stage, replaced_right, gone_right}
+use Rattle.eliminate_pairs.proofs.Staging.{replaced_line_of}
 use Rattle.eliminate_pairs.proofs.Staging.{defined_after, replaced-is_line, delete-is_line}
 use Rattle.eliminate_pairs.proofs.pairs.replace.Given.{Over}
 use Rattle.eliminate_pairs.proofs.pairs.replace.Goals as goal
-use Rattle.eliminate_pairs.proofs.pairs.replace.Goals.{After-lits, In_ok-new}
+use Rattle.eliminate_pairs.proofs.pairs.replace.Goals.{After-lits, In_ok-new, In_ok-delete}
 
 -- the clause with the pair has a name
 within : (g : Over) (c : After-lits g) → c.args.reference < length c.args.store.now.slots
@@ -89,7 +91,22 @@ returns-in_err-new-clause-moves g c =
     MatchResult-from_err _ _ _ c.from_residual-in_err-new.ensures.0 (λ _.
     let s : Stage = stage_of c.args.definition.now.variable c.args.store.now.slots c.args.names.now
     (g.S.Sink.lines c.args.sink.now) in
-    kept_log s s (g.S.Sink.lines c.add.new.sink) c.in_err-new.ensures.err (λ ground k. k))
+    breaks_at s (g.S.Sink.lines c.add.new.sink) c.in_err-new.ensures.err
+    (kept_log s s (g.S.Sink.lines c.add.new.sink) c.in_err-new.ensures.err (λ ground k. k)))
+
+pub returns-in_err-lits-clause-moves : goal.returns-in_err-lits-clause-moves
+returns-in_err-lits-clause-moves g c =
+    MatchResult-from_err _ _ _ c.from_residual.ensures.0 (λ _.
+    let s : Stage = stage_of c.args.definition.now.variable c.args.store.now.slots c.args.names.now
+    (g.S.Sink.lines c.args.sink.now) in
+    breaks_at s s.lines refl (kept_log s s s.lines refl (λ ground k. k)))
+
+pub returns-in_err-hints-clause-moves : goal.returns-in_err-hints-clause-moves
+returns-in_err-hints-clause-moves g c =
+    MatchResult-from_err _ _ _ c.from_residual-in_err-hints.ensures.0 (λ _.
+    let s : Stage = stage_of c.args.definition.now.variable c.args.store.now.slots c.args.names.now
+    (g.S.Sink.lines c.args.sink.now) in
+    breaks_at s s.lines refl (kept_log s s s.lines refl (λ ground k. k)))
 
 pub returns-in_err-delete-clause-moves : goal.returns-in_err-delete-clause-moves
 returns-in_err-delete-clause-moves g c =
@@ -101,10 +118,12 @@ returns-in_err-delete-clause-moves g c =
     (g.S.Sink.lines c.args.sink.now) in
     let small : added_count s.lines + 3 < 2 ^ 62 = few_additions s.lines c.is_short.ensures in
     let one = stage g (goal.at.returns-in_err-delete-clause-moves g c).In_ok-new in
-    kept_log s (with_replaced s d c.args.reference clause) (g.S.Sink.lines c.delete.new.sink)
-    (c.in_err-delete.ensures.err ∙ ap (λ (x : Stage). x.lines) one)
+    let is = c.in_err-delete.ensures.err ∙ ap (λ (x : Stage). x.lines) one in
+    breaks_after s (g.S.Sink.lines c.delete.new.sink)
+    (replaced_line_of s d c.args.reference clause) is refl
+    (kept_log s (with_replaced s d c.args.reference clause) (g.S.Sink.lines c.delete.new.sink) is
     (λ ground k. replaced_right ground s d c.args.reference clause c.requires.defined c.lits.ensures
-    (c.requires.pair clause c.lits.ensures) c.requires.small (omega arith) k))
+    (c.requires.pair clause c.lits.ensures) c.requires.small (omega arith) k)))
 
 pub returns-clause-defined : goal.returns-clause-defined
 returns-clause-defined g c =
@@ -124,6 +143,20 @@ returns-clause-fit g c =
     (fits g (goal.at.returns-clause-fit g c).In_ok-new) c.in_ok-delete.ensures.slots
     c.in_ok-delete.ensures.lines
 
+-- the stage without the one that goes
+left : (g : Over) (c : In_ok-delete g)
+    → stage_of c.args.definition.now.variable c.delete.new.store.slots c.add.new.names
+    (g.S.Sink.lines c.delete.new.sink)
+    ≡ deleted_stage (with_replaced (stage_of c.args.definition.now.variable
+    c.args.store.now.slots c.args.names.now (g.S.Sink.lines c.args.sink.now))
+    c.args.definition.now c.args.reference c.lits.result.now) c.args.reference
+left g c =
+    is_deleted c.args.definition.now.variable c.add.new.store.slots c.delete.new.store.slots
+    c.add.new.names (g.S.Sink.lines c.add.new.sink) (g.S.Sink.lines c.delete.new.sink)
+    c.args.reference c.in_ok-delete.ensures.slots c.in_ok-delete.ensures.lines
+    ∙ ap (λ (x : Stage). deleted_stage x c.args.reference)
+    (stage g (goal.at.In_ok-delete g c).In_ok-new)
+
 pub returns-clause-moves : goal.returns-clause-moves
 returns-clause-moves g c =
     let d = c.args.definition.now in
@@ -133,12 +166,11 @@ returns-clause-moves g c =
     stage_of d.variable c.args.store.now.slots c.args.names.now
     (g.S.Sink.lines c.args.sink.now) in
     let small : added_count s.lines + 3 < 2 ^ 62 = few_additions s.lines c.is_short.ensures in
-    let one = stage g (goal.at.returns-clause-moves g c).In_ok-new in
-    let two = is_deleted d.variable c.add.new.store.slots c.delete.new.store.slots c.add.new.names
-    (g.S.Sink.lines c.add.new.sink) (g.S.Sink.lines c.delete.new.sink) r
-    c.in_ok-delete.ensures.slots c.in_ok-delete.ensures.lines in
-    keeps_as s (deleted_stage (with_replaced s d r clause) r)
+    move_as s (deleted_stage (with_replaced s d r clause) r)
     (stage_of d.variable c.delete.new.store.slots c.add.new.names
-    (g.S.Sink.lines c.delete.new.sink)) (two ∙ ap (λ (x : Stage). deleted_stage x r) one)
-    (λ ground k. gone_right ground s d r clause c.requires.defined c.lits.ensures
-    (c.requires.pair clause c.lits.ensures) c.requires.small (omega arith) k)
+    (g.S.Sink.lines c.delete.new.sink)) (left g (goal.at.returns-clause-moves g c).In_ok-delete)
+    (record {
+      keeps = λ ground k. gone_right ground s d r clause c.requires.defined c.lits.ensures
+          (c.requires.pair clause c.lits.ensures) c.requires.small (omega arith) k;
+      pair = inr (defines_none s d r clause);
+    })

@@ -1,6 +1,6 @@
 -- The bytes are too many.
-use Rattle.std.proofs.Common.{map, subst}
-use Rattle.explain.specs.Explanation.{shown}
+use Rattle.std.proofs.Common.{subst}
+use Rattle.explain.specs.Explanation.{shown_text}
 use Rattle.explain.specs.Sheets.{Puts}
 use Rattle.explain.proofs.Sheets.{more}
 use Rattle.explain.proofs.Words.{cut_long}
@@ -10,7 +10,7 @@ pub returns : goal.returns
 returns g c =
     rw (cut_long c.args.bytes.now c.if-bytes-le-MOST_SHOWN.false)
     (more
-    (subst (λ z. Puts (g.W.Write.contents c.args.writer.now) c.args.sheet.now (map shown z)
+    (subst (λ z. Puts (g.W.Write.contents c.args.writer.now) c.args.sheet.now (shown_text z)
     (g.W.Write.contents c.put_shown-2.new.writer) c.put_shown-2.new.sheet) c.cut.ensures
     c.put_shown-2.ensures)
     c.put.ensures)

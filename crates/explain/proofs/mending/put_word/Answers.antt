@@ -6,5 +6,5 @@ use Rattle.explain.proofs.mending.put_word.Goals as goal
 
 pub returns : goal.returns
 returns g c =
-    rw (word_with c.args.word.now (sym c.is_empty.ensures ∙ c.if-is_empty.false))
-    (more c.put.ensures (more c.put_cut.ensures c.put-2.ensures))
+    rw (word_with c.args.column c.args.word.now (sym c.is_empty.ensures ∙ c.if-is_empty.false))
+    (more c.put_place.ensures (more c.put_cut.ensures c.put.ensures))

@@ -9,11 +9,8 @@ returns-clause-work c = record {
   hard = c.requires.work.hard;
   no_bound = c.requires.work.no_bound;
   search = c.into_work.ensures.work;
-  refutation = c.requires.work.refutation;
+  tried = c.requires.work.tried;
 }
-
-pub returns-clause-none : goal.returns-clause-none
-returns-clause-none c = c.requires.none.1
 
 pub returns-clause-count : goal.returns-clause-count
 returns-clause-count c =

@@ -6,9 +6,6 @@ use Rattle.improve.specs.Improving.{work_count}
 use Rattle.improve.proofs.Standings.{goes_nowhere, goes_same}
 use Rattle.improve.proofs.by_cores.search_cores.Goals as goal
 
-pub returns-in_default-clause-none : goal.returns-in_default-clause-none
-returns-in_default-clause-none g c = c.requires.none.1
-
 pub returns-in_default-clause-goes_on : goal.returns-in_default-clause-goes_on
 returns-in_default-clause-goes_on g c =
     goes_nowhere c.args.instance.now (g.T.Progress.state c.args.progress.now) c.args.budget.now

@@ -1,7 +1,5 @@
 -- The work is that over the hard clauses.
-use Rattle.std.proofs.Common.{ap, arith}
-use Rattle.improve.specs.Improving.{work_count}
-use Rattle.improve.proofs.HardEnds.{right_nothing}
+use Rattle.improve.proofs.HardEnds.{only_hard_count, right_nothing}
 use Rattle.improve.proofs.search.conclude_nothing.Goals as goal
 
 pub returns-clause-found : goal.returns-clause-found
@@ -10,4 +8,4 @@ returns-clause-found c =
     c.begin_work.ensures c.requires.hard c.requires.open
 
 pub returns-clause-work : goal.returns-clause-work
-returns-clause-work c = omega (arith, ap work_count c.begin_work.ensures)
+returns-clause-work c = only_hard_count c.args.hard c.begin_work.result c.begin_work.ensures

@@ -5,7 +5,7 @@ use Rattle.std.proofs.lemmas.List.Elements.{All-nil, All-push}
 use Rattle.cdcl_order.specs.Budgets.{left_of}
 use Rattle.std.specs.Prelude.{All, IfOk}
 use Rattle.improve.specs.Improving.{AreFalling, IsCostOfSome, IsSolution, IsRightFound, work_count}
-use Rattle.improve.specs.Standing.{IsEarlyWork, HasNoCores}
+use Rattle.improve.proofs.HardEnds.{only_hard_count, only_hard_early}
 use Rattle.improve.proofs.CheaperBits.{cost_of_solution}
 use Rattle.improve.proofs.SearchEnds.{progress_end, found_end}
 use Rattle.cnf.proofs.Laws.{on_ok_at, on_err_at}
@@ -67,15 +67,12 @@ go_on-requires-clause-standing g c =
 
 pub go_on-requires-clause-work : goal.go_on-requires-clause-work
 go_on-requires-clause-work g c =
-    subst (IsEarlyWork c.args.instance.now) (sym c.begin_work-work.ensures) (record {
-      hard = c.requires.hard;
-      no_bound = refl;
-      search = tt;
-      refutation = tt;
-    })
+    only_hard_early c.args.instance.now c.args.hard c.begin_work-work.result c.begin_work-work.ensures
+    c.requires.hard
 
 pub go_on-requires-clause-none : goal.go_on-requires-clause-none
-go_on-requires-clause-none g c = subst HasNoCores (sym c.begin_work-work.ensures) (refl, refl)
+go_on-requires-clause-none g c =
+    (c.begin_work-work.ensures.no_search, c.begin_work-work.ensures.none_tried)
 
 pub returns-clause-follows : goal.returns-clause-follows
 returns-clause-follows g c =
@@ -85,7 +82,8 @@ pub returns-clause-improves : goal.returns-clause-improves
 returns-clause-improves g c = λ before paid.
     let ok = on_ok_at c.tell.result c.if-is_err.ensures.value c.tell.ensures.ok in
     let none = c.new.ensures.items in
-    let lines = ap work_count c.begin_work-work.ensures in
+    let lines =
+    only_hard_count c.args.hard c.begin_work-work.result c.begin_work-work.ensures in
     let one : c.new.result.items ++ c.args.first.cost ∷ [] ≡ c.args.first.cost ∷ [] =
     ap (λ cs. cs ++ c.args.first.cost ∷ []) none in
     c.go_on.ensures.ends (g.T.Progress.state c.args.progress.now) before

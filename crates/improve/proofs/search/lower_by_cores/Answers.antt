@@ -1,5 +1,5 @@
 -- The cores show an optimum, or the bounds go on.
-use Rattle.std.proofs.Common.{◌≡◌, ◌+◌, Ok, refl, arith}
+use Rattle.std.proofs.Common.{◌≡◌, ◌+◌, Ok, refl, sym, arith}
 use Rattle.std.proofs.lemmas.Result.{err_from_is_err_and}
 use Rattle.lrat_log.specs.Steps.{learned_count}
 use Rattle.cdcl_order.specs.Budgets.{left_of}
@@ -14,7 +14,7 @@ pub returns-in_err-by_cores-clause-ends : goal.returns-in_err-by_cores-clause-en
 returns-in_err-by_cores-clause-ends g c =
     let q = err_from_is_err_and c.from_residual.result c.from_residual.ensures.1 in
     rw (q.1, q.2)
-    (ends_failing Five c.args.instance.now _ (g.T.Progress.state c.args.progress.now)
+    (ends_failing c.args.profile c.args.instance.now _ (g.T.Progress.state c.args.progress.now)
     (g.T.Progress.state c.refute_by_cores.new.progress) c.args.budget.now
     c.refute_by_cores.new.budget c.args.standing (work_count c.args.work)
     c.in_err-by_cores.ensures.fault)
@@ -27,11 +27,13 @@ returns-in-Some-clause-ends g c =
     let r = c.conclude_cores in
     let lines = learned_count c.in-Some.by_cores.log in
     let n = work_count c.refute_by_cores.new.work + lines in
-    ends_after p _ _ _ _ _ _ _ _ _ _ a Five (Ok r.result) (work_count c.args.work) n (omega arith)
-    (ends_found Five Five p (Ok r.result) (g.T.Progress.state c.refute_by_cores.new.progress)
+    let five = rw c.in-Some.is at c.in_ok-by_cores.ensures.profile in
+    ends_after p _ _ _ _ _ _ _ _ _ _ a c.args.profile (Ok r.result) (work_count c.args.work) n
+    (omega arith)
+    (ends_found c.args.profile Five p (Ok r.result)
+    (g.T.Progress.state c.refute_by_cores.new.progress)
     c.refute_by_cores.new.budget c.refute_by_cores.new.budget s (costs_of s) n 0 0 a.standing refl
-    refl refl tt
-    refl refl (r.ensures.found (costs_of s) (s.earlier.items, refl))
+    refl refl tt (sym five) refl (r.ensures.found (costs_of s) (s.earlier.items, refl))
     (on_work_weaker (Ok r.result) (λ w. ⊥) (λ w. work_count w + 0 ≡ n + 0) (λ w x. absurd x)
     r.ensures.work)
     (on_work_weaker (Ok r.result) (λ w. ⊥) (λ w. left_of c.refute_by_cores.new.budget ≡ 0)
@@ -54,5 +56,5 @@ pub returns-in-None-clause-ends : goal.returns-in-None-clause-ends
 returns-in-None-clause-ends g c =
     let p = c.args.instance.now in
     let a = rw c.in-None.is at c.in_ok-by_cores.ensures.goes_on in
-    ends_after p _ _ _ _ _ _ _ _ _ _ a Five c.lower_by_bounds.result (work_count c.args.work)
+    ends_after p _ _ _ _ _ _ _ _ _ _ a c.args.profile c.lower_by_bounds.result (work_count c.args.work)
     (work_count c.refute_by_cores.new.work) (omega arith) c.lower_by_bounds.ensures.ends

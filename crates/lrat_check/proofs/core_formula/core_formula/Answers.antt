@@ -1,5 +1,5 @@
 -- The certificate is one piece: the head goes on to its end, or ends before a line, or is faulty.
-use Rattle.std.proofs.Common.{◌+◌, [], ◌∙◌, Err, ap, append-nil, subst, sym}
+use Rattle.std.proofs.Common.{◌+◌, [], ◌++◌, ◌∙◌, Err, ap, append-nil, subst, sym}
 use Rattle.std.proofs.lemmas.Result.{IfOk-weaker}
 use Rattle.lrat_check.specs.Heads.{Takes, head_reading}
 use Rattle.lrat_check.specs.Verdict.{formula_at, formula_behind, headed_formula}
@@ -25,8 +25,8 @@ returns-in-Ended c =
     (λ r e. e
     ∙ ap (λ n. formula_behind p c.args.cost c.take.new.self.cores.some
     c.take.new.self.cores.counted (n + 1)) c.lines.ensures
-    ∙ ap (formula_at p c.args.cost) (ended_whole p (head_reading c.take.new.self)
-    c.in-Ended.field-0.now c.args.proof.now t)
+    ∙ ap (formula_at p c.args.cost) (ended_whole p c.take.new.self.cores
+    (c.take.new.self.rest ++ c.in-Ended.field-0.now) c.args.proof.now t)
     ∙ headed_refuted p c.args.cost c.args.proof.now c.if-cost-eq0.false)
     c.formula_of.ensures
 

@@ -1,5 +1,5 @@
 -- The certificate is one piece: the head goes on to its end, or ends before a line, or is faulty.
-use Rattle.std.proofs.Common.{◌+◌, [], ◌∙◌, ap, append-nil, subst, sym}
+use Rattle.std.proofs.Common.{◌+◌, [], ◌++◌, ◌∙◌, ap, append-nil, subst, sym}
 use Rattle.std.proofs.lemmas.Result.{IfOk-weaker}
 use Rattle.lrat_check.specs.Heads.{Takes, head_reading}
 use Rattle.lrat_check.specs.Verdict.{headed_verdict, verdict_at}
@@ -38,8 +38,9 @@ returns-in-Ended-clause-verdict c =
     c.in-Ended.is (c.in_ok-take.ensures.takes p []
     (c.in_ok-head.ensures.open)) in
     IfOk-weaker c.judge_behind.result _ _
-    (λ v e. e ∙ ap (verdict_at p c.args.cost) (ended_whole p (head_reading c.take.new.self)
-    c.in-Ended.left.now c.args.proof.now t)) c.judge_behind.ensures.verdict
+    (λ v e. e ∙ ap (verdict_at p c.args.cost) (ended_whole p c.take.new.self.cores
+    (c.take.new.self.rest ++ c.in-Ended.left.now) c.args.proof.now t))
+    c.judge_behind.ensures.verdict
 
 pub returns-in-Fails-clause-verdict : goal.returns-in-Fails-clause-verdict
 returns-in-Fails-clause-verdict c =

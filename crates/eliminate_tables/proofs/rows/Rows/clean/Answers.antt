@@ -13,7 +13,7 @@ loop-read-preserved c =
     omega (arith, c.loop-read-test.true, c.len-read-end.ensures) in
     elim c.if-has_clause.branch [
       | then-has_clause w ↦
-          rw (w.self-is, w.write-is, w.set.ensures, c.self.view_is)
+          rw (w.self-is, w.write-is, w.set.ensures.rows, c.self.view_is)
           (sieved_kept p c.args.self.now l.self c.args.row l.write l.read l.invariant
           c.get-reference.result c.requires within c.get-reference.ensures (search rules))
       | else-has_clause w ↦
@@ -23,7 +23,7 @@ loop-read-preserved c =
 
 pub returns : goal.returns
 returns c =
-    rw (← c.self-2.view_is) c.truncate.ensures
+    rw (← c.self-2.view_is) c.truncate.ensures.rows
     ∙ sieved_all (has_clause c.args.store.now.slots) c.args.self.now c.loop-read.self c.args.row
     c.loop-read.write c.loop-read.read c.loop-read.invariant
     (omega (arith, c.loop-read-test.false, c.len-read-end.ensures))

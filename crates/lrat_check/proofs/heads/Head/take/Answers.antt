@@ -34,7 +34,8 @@ returns-in-Ended-default-clause-takes c = λ p bytes h.
     let judged = subst (λ s. ReadsHead c.loop-end.self.cores
     (tokens_of (strip_carriage_return (c.loop-end.self.rest ++ c.in-Some.end.now))) s
     c.end_line.new.self.cores) ended e.judges in
-    subst (λ x. IsEndedHead p (head_reading c.end_line.new.self) x (bytes ++ c.args.piece.now))
+    subst (λ x. IsEndedHead p c.end_line.new.self.cores (c.end_line.new.self.rest ++ x)
+    (bytes ++ c.args.piece.now))
     (sym (take_rest c.loop-end.left.now c.in_ok-end_line.field-0.1))
     (taken_ended (head_reading c.args.self.now) (head_reading c.loop-end.self)
     (head_reading c.end_line.new.self) c.args.piece.now c.loop-end.left.now c.in-Some.end.now

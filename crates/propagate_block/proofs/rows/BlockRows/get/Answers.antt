@@ -1,18 +1,23 @@
 use Rattle.std.proofs.Common.{arith}
-use Rattle.propagate_block.proofs.RowsLaid.{entry_fits, row_there}
+use Rattle.propagate_block.proofs.RowsLaid.{entry_fits, row_there, seen_rows}
 use Rattle.propagate_block.proofs.rows.BlockRows.get.Goals as goal
 
 pub index-requires : goal.index-requires
 index-requires g c =
     let i = c.self.inside in
-    omega (arith, row_there i.block i.heads.items _ c.self.view_is c.args.row c.requires.row)
+    omega (
+      arith,
+      row_there i.block i.heads.items _ (seen_rows i.block i.heads.items _ c.self.view_is)
+          c.args.row c.requires.row,
+    )
 
 pub overflow_add-start : goal.overflow_add-start
 overflow_add-start g c =
     let i = c.self.inside in
     omega (
       arith,
-      entry_fits i.block i.heads.items i.used c.self.invariant _ c.self.view_is c.args.row
+      entry_fits i.block i.heads.items i.used c.self.invariant _
+          (seen_rows i.block i.heads.items _ c.self.view_is) c.args.row
           c.requires.row c.index.result.now c.index.ensures c.args.i c.requires.place,
     )
 
@@ -21,6 +26,7 @@ get-requires g c =
     let i = c.self.inside in
     omega (
       arith,
-      entry_fits i.block i.heads.items i.used c.self.invariant _ c.self.view_is c.args.row
+      entry_fits i.block i.heads.items i.used c.self.invariant _
+          (seen_rows i.block i.heads.items _ c.self.view_is) c.args.row
           c.requires.row c.index.result.now c.index.ensures c.args.i c.requires.place,
     )

@@ -1,9 +1,0 @@
--- The same clauses are given, and what was learned was counted.
-use Rattle.improve_cores.specs.CoreWork.{KeepsClauses, CountsLearned}
-use Rattle.improve_cores.proofs.refuting.guide.Given as goal
-
-abbrev pub invariant-loop-first : goal.invariant-loop-first
-invariant-loop-first g l = record {
-  clauses : KeepsClauses l.fn.solver l.solver;
-  learned : CountsLearned l.fn.solver.lines l.solver.lines l.fn.budget l.budget;
-}

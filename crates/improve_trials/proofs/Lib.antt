@@ -1,0 +1,2 @@
+mod CoreEnds
+pub mod Laws

@@ -1,0 +1,14 @@
+-- The cores that are left are right, and what was learned is in what was tried.
+use Rattle.std.proofs.Common.{◌≡◌, [], All}
+use Rattle.improve_cores.specs.Events.{AreRightCores}
+use Rattle.improve_trials.specs.Trials.{IsCoreRefutation, SpendsOn}
+use Rattle.improve_trials.proofs.rounds.refute.Given as goal
+
+abbrev pub invariant-loop : goal.invariant-loop
+invariant-loop g l = record {
+  cores : AreRightCores l.instance l.left;
+  tried : All (IsCoreRefutation l.instance) l.tried.items;
+  spends : SpendsOn l.fn.tried.items l.tried.items [] l.fn.budget l.budget;
+  answers : l.budget.answers ≡ l.fn.budget.answers;
+  limit : l.budget.limit ≡ l.fn.budget.limit;
+}

@@ -1,0 +1,138 @@
+// Refutations by cores, one after the other: where one does not end, the cores that it left open are
+// dropped, and the others are tried again.
+ghost use Rattle.std.specs.Prelude.{◌≡◌, ◌+◌, All, IfOk, OnOk};
+ghost use Rattle.improve_cores.specs.Events.{AreRightCores};
+ghost use Rattle.improve_trials.specs.Trials.{IsCoreRefutation, IsAttempt, IsRound, SpendsOn};
+ghost use Rattle.lrat_log.specs.Steps.{learned_count};
+ghost use Rattle.improve_trials.specs.Trials.{IsTrial, attempt_lines, round_lines, tried_count};
+
+use crate::found::{Attempt, ByCores, CoreRefutation};
+use crate::leaving::keep_shown;
+use crate::refuting::Refuted;
+use crate::trial::{Trial, make_trial};
+use cdcl::budget::Budget;
+use cdcl::watch::Watch;
+use cnf::types::Instance;
+use cores::types::Core;
+use improve_cores::counted::Counted;
+use std::alloc::AllocError;
+
+/// So many trials are made at most.
+const ROUNDS: usize = 4;
+
+/// What is to be refuted.
+#[derive(Clone, Copy, Debug, PartialEq, Eq, Drop)]
+pub struct Aim {
+    /// The cost of the best solution, below 2^62: that one costs less.
+    pub best: u64,
+    /// Whether also less will do: that a solution costs less than the cores are worth.
+    pub is_partial: bool,
+}
+
+/// What came of one trial.
+#[derive(Drop)]
+pub(crate) enum Round {
+    /// This, at the end.
+    Ended(Attempt),
+    /// It was left open, and these cores are tried next.
+    Goes(Counted),
+}
+
+/// Tries to refute by these cores that there is a solution that costs less. What was learned in
+/// trials that did not end, or met a solution, is added to `tried`.
+///
+/// # Errors
+///
+/// `AllocError` where memory was refused after something was learned.
+pub fn refute<W: Watch>(
+    instance: &Instance,
+    aim: Aim,
+    counted: Counted,
+    tried: &mut Vec<CoreRefutation>,
+    budget: &mut Budget,
+    watch: &mut W,
+) -> Result<Attempt, AllocError>
+    requires cores { AreRightCores instance.now counted }
+    requires tried { All (IsCoreRefutation instance.now) tried.old.items }
+    ensures attempt { IfOk result (IsAttempt instance.now) }
+    ensures tried { OnOk result (All (IsCoreRefutation instance.now) tried.new.items) }
+    ensures spends { IfOk result (λ a. SpendsOn tried.old.items tried.new.items (attempt_lines a)
+        budget.old budget.new) }
+    ensures answers { budget.new.answers ≡ budget.old.answers }
+    ensures limit { budget.new.limit ≡ budget.old.limit }
+{
+    let mut left = counted;
+    for _ in 0..ROUNDS {
+        match try_once(instance, aim, left, tried, budget, watch)? {
+            Round::Ended(attempt) => return Ok(attempt),
+            Round::Goes(kept) => left = kept,
+        }
+    }
+    Ok(Attempt::Open)
+}
+
+/// One trial.
+fn try_once<W: Watch>(
+    instance: &Instance,
+    aim: Aim,
+    counted: Counted,
+    tried: &mut Vec<CoreRefutation>,
+    budget: &mut Budget,
+    watch: &mut W,
+) -> Result<Round, AllocError>
+    requires cores { AreRightCores instance.now counted }
+    requires tried { All (IsCoreRefutation instance.now) tried.old.items }
+    ensures round { IfOk result (IsRound instance.now) }
+    ensures tried { OnOk result (All (IsCoreRefutation instance.now) tried.new.items) }
+    ensures spends { IfOk result (λ r. SpendsOn tried.old.items tried.new.items (round_lines r)
+        budget.old budget.new) }
+    ensures answers { budget.new.answers ≡ budget.old.answers }
+    ensures limit { budget.new.limit ≡ budget.old.limit }
+{
+    let mut shown = Vec::new(instance.allocator());
+    let Some(trial) = make_trial(instance, aim, &counted, &mut shown, budget, watch)? else {
+        return Ok(Round::Ended(Attempt::Open));
+    };
+    let kept = if aim.is_partial {
+        keep_shown(instance, &counted, &shown)?
+    } else {
+        Counted::new(instance)?
+    };
+    end_trial(instance, counted.into_cores(), trial, kept, tried)
+}
+
+/// What a trial with these cores comes to, where `kept` are left for the next one.
+fn end_trial(
+    instance: &Instance,
+    cores: Vec<Core>,
+    trial: Trial,
+    kept: Counted,
+    tried: &mut Vec<CoreRefutation>,
+) -> Result<Round, AllocError>
+    requires trial { IsTrial instance.now cores.items trial }
+    requires kept { AreRightCores instance.now kept }
+    requires tried { All (IsCoreRefutation instance.now) tried.old.items }
+    ensures round { IfOk result (IsRound instance.now) }
+    ensures tried { OnOk result (All (IsCoreRefutation instance.now) tried.new.items) }
+    ensures lines { IfOk result (λ r. tried_count tried.new.items + learned_count (round_lines r)
+        ≡ tried_count tried.old.items + learned_count trial.log) }
+{
+    let log = trial.log;
+    let end = trial.end;
+    match end {
+        Refuted::Yes => Ok(Round::Ended(Attempt::Refuted(ByCores {
+            cores,
+            log,
+            clauses: trial.clauses,
+            worth: trial.worth,
+        }))),
+        Refuted::Model(bits) => {
+            tried.push(CoreRefutation { cores, log })?;
+            Ok(Round::Ended(Attempt::Model(bits)))
+        }
+        Refuted::Open => {
+            tried.push(CoreRefutation { cores, log })?;
+            Ok(Round::Goes(kept))
+        }
+    }
+}

@@ -1,0 +1,3 @@
+mod SubsetSearch
+mod SubsetRows
+pub mod Laws

@@ -1,0 +1,142 @@
+//! A file that is whole at each moment: a text is written beside it and then renamed over it, so
+//! that whoever kills the program finds the text before or the one after.
+use crate::file_id::{FileId, is_taken, open_empty};
+use crate::files::{UNREADABLE, read_file};
+use crate::standard_error::Messages;
+use report::fault::RunFault;
+use std::alloc::{AllocError, Global};
+use std::fs::{self, File};
+use std::io::Write;
+use std::rt::Files;
+use wcnf::output::WriteFault;
+
+/// What stands behind the path in the name of the file that is renamed.
+const ENDING: &str = ".part";
+
+/// The path of such a file, and that of the text before it is whole.
+#[derive(Drop)]
+pub struct WholePaths<'a> {
+    /// The path that was named.
+    path: &'a str,
+    /// Where a text is written before it is whole.
+    part: String,
+}
+
+impl<'a> WholePaths<'a> {
+    /// The files for this path.
+    pub fn new(alloc: Global, path: &'a str) -> Result<Self, AllocError> {
+        let mut part = String::with_capacity(alloc, path.len() + ENDING.len())?;
+        part.push_str(path)?;
+        part.push_str(ENDING)?;
+        Ok(WholePaths { path, part })
+    }
+
+    /// Whether a file of this name, which may be kept whole too, would share one of the two.
+    pub fn meets(&self, name: &str) -> bool {
+        name == self.path
+            || name == self.part.as_str()
+            || self.path.strip_suffix(ENDING) == Some(name)
+    }
+
+    /// Whether the text before it is whole would go into one of the others.
+    pub fn is_part_taken<R: Files>(&self, rt: &R, others: &[FileId]) -> bool {
+        is_taken(rt, &self.part, others)
+    }
+
+    /// Whether one of the two is one of the others, a symbolic link, or no regular file: a device
+    /// or a link would be replaced by a file.
+    pub fn are_taken<R: Files>(&self, rt: &R, others: &[FileId]) -> bool {
+        is_taken(rt, self.path, others) || is_taken(rt, &self.part, others)
+    }
+
+    /// What an earlier run left; nothing where there is no file.
+    ///
+    /// # Errors
+    ///
+    /// `Read` where there is a file that cannot be read; `Memory`.
+    pub fn read_earlier<R: Files + AllocGlobal>(&self, rt: &R) -> Result<Vec<u8>, RunFault> {
+        if fs::metadata(rt, self.path).is_err() {
+            return Ok(Vec::new(rt.alloc()));
+        }
+        let mut file = File::open(rt, self.path).map_err(|_| UNREADABLE)?;
+        read_file(rt, &mut file)
+    }
+}
+
+/// A file that is whole at each moment. What cannot be written is told once and changes nothing
+/// else; the next text is tried again.
+#[derive(Drop)]
+pub struct WholeFile<'a, R: Files> {
+    /// Where files are.
+    rt: &'a R,
+    /// Where it is.
+    paths: WholePaths<'a>,
+    /// What is not written into, also where it was linked to the name since.
+    others: [FileId; 2],
+    /// Whether a failure was told.
+    is_told: bool,
+}
+
+impl<'a, R: Files> WholeFile<'a, R> {
+    /// The file of these paths, which is none of the others. Nothing is written yet.
+    pub fn new(rt: &'a R, paths: WholePaths<'a>, others: [FileId; 2]) -> Self {
+        WholeFile {
+            rt,
+            paths,
+            others,
+            is_told: false,
+        }
+    }
+
+    /// Where a first text goes, empty; none where it cannot be written.
+    pub fn try_begin(&self) -> Option<R::File> {
+        open_empty(self.rt, &self.paths.part, &self.others)
+    }
+
+    /// Puts a first text in its place; whether it could.
+    pub fn try_end(&self) -> bool {
+        fs::rename(self.rt, &self.paths.part, self.paths.path).is_ok()
+    }
+
+    /// Takes a first text away again; whether it could.
+    pub fn try_drop(&self) -> bool {
+        fs::remove_file(self.rt, &self.paths.part).is_ok()
+    }
+
+    /// Takes a first text away that was put in its place; whether it could.
+    pub fn try_remove(&self) -> bool {
+        fs::remove_file(self.rt, self.paths.path).is_ok()
+    }
+
+    /// Where the next text goes, empty; none where it cannot be written.
+    pub fn begin<E: Write>(&mut self, messages: &mut Messages<'_, E>) -> Option<R::File> {
+        let file = self.try_begin();
+        if file.is_none() {
+            self.fail(messages);
+        }
+        file
+    }
+
+    /// Puts the text that was written in its place; a broken one is taken away.
+    pub fn end<E: Write>(
+        &mut self,
+        written: Result<(), WriteFault>,
+        messages: &mut Messages<'_, E>,
+    ) {
+        if written.is_ok() && self.try_end() {
+            return;
+        }
+        let _ = self.try_drop();
+        self.fail(messages);
+    }
+
+    /// Tells the first failure.
+    fn fail<E: Write>(&mut self, messages: &mut Messages<'_, E>) {
+        if self.is_told {
+            return;
+        }
+        self.is_told = true;
+        let path = self.paths.path;
+        let _ = writeln!(messages.below(), "warning: {path} cannot be written");
+    }
+}
