@@ -214,7 +214,7 @@ module _ (start : Start) (s : Simplifier) (slots mid left : Slots) (ls most : Li
   -- the state without the variable
   pub variable_goes : s.is_refuted ≡ false → IsFree start.frozen v
       → IsRemovedWithin s.vars (removed_of v []) → KeepsWork s.names.names slots ls left most
-      → IsState start s.vars left s.names.names most s.occurrences
+      → IsState start s.vars left s.names.names most s.occurrences.rows
       (s.removals ++ record { variable = v; clauses = clauses_under slots pos } ∷ [])
   variable_goes works free within work =
       let all : clauses_under slots (pos ++ neg) ≡ clauses_under slots pos ++ clauses_under slots
@@ -227,7 +227,7 @@ module _ (start : Start) (s : Simplifier) (slots mid left : Slots) (ls most : Li
       n.with_it (λ r c e has. not-opposite_too (positive v) c (plain r c e) has) in
       record {
         work = (work _ _ _ h.state.work (h.going works)).0;
-        occurrences = rows_left (pos ++ neg) s.occurrences slots left out h.state.occurrences;
+        occurrences = rows_left (pos ++ neg) s.occurrences.rows slots left out h.state.occurrences;
         places = h.state.places;
         back =
             back_same s.vars s.removals v (clauses_under slots pos) (clauses_under slots neg)

@@ -43,7 +43,7 @@ pub record HasAdded (s t : Simplifier) (slots : Slots) (c : List Literal) : Type
     names = s.names.names ++ added_line s.names.additions ∷ [];
     additions = s.names.additions + 1;
   }
-  pub occurrences : t.occurrences ≡ with_clause_rows s.occurrences c (length slots)
+  pub occurrences : t.occurrences.rows ≡ with_clause_rows s.occurrences.rows c (length slots)
   pub removals : t.removals ≡ s.removals
   pub marks : t.marks ≡ s.marks
   pub refuted : t.is_refuted ≡ is_empty_clause c
@@ -56,8 +56,8 @@ simplified_added start s t slots ls l h works a small n =
     let more : Slots = slots ++ Some l.clause ∷ [] in
     let going : AddsNoEmptyClause ls = h.going works in
     let state : IsState start s.vars more (s.names.names ++ added_line (added_count ls) ∷ [])
-    (ls ++ l ∷ []) (with_clause_rows s.occurrences l.clause (length slots)) s.removals =
-    state_added start s.vars slots s.names.names ls s.occurrences s.removals h.state going l
+    (ls ++ l ∷ []) (with_clause_rows s.occurrences.rows l.clause (length slots)) s.removals =
+    state_added start s.vars slots s.names.names ls s.occurrences.rows s.removals h.state going l
     a.follows a.own a.unlearned small a.clause a.free in
     let names : t.names.names ≡ s.names.names ++ added_line (added_count ls) ∷ [] =
     ap (λ (x : NamesState). x.names) n.names
@@ -96,8 +96,8 @@ pub simplified_subsumed : (start : Start) (s t : Simplifier) (slots : Slots) (ls
 simplified_subsumed start s t slots ls r q c d h works other at by subset n =
     let going : AddsNoEmptyClause ls = h.going works in
     let state =
-    state_subsumed start s.vars slots s.names.names ls s.occurrences s.removals h.state going r q
-    c d other at by subset in
+    state_subsumed start s.vars slots s.names.names ls s.occurrences.rows s.removals h.state going
+    r q c d other at by subset in
     let line : LogLine = delete_line (name_at s.names.names r) in
     record {
       state = rw (n.vars, n.names, n.occurrences, n.removals) state;

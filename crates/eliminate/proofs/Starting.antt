@@ -166,8 +166,8 @@ pub record AreFirst (t : Simplifier) (vars : ℕ) (slots : Slots) : Type 0 where
   pub vars_are : t.vars ≡ vars
   pub names : t.names ≡ record { names = formula_names 1 slots; additions = 0 }
   pub ids : All (λ k. IsId (number_in k)) t.names.names
-  pub rows : AreRows t.occurrences slots
-  pub places : length t.occurrences ≡ 2 * vars
+  pub rows : AreRows t.occurrences.rows slots
+  pub places : length t.occurrences.rows ≡ 2 * vars
   pub removals : t.removals ≡ []
   pub marks : t.marks ≡ replicate (2 * vars) false
   pub works : t.is_refuted ≡ false
@@ -181,7 +181,7 @@ simplified_start t vars slots frozen f long a =
     let names : t.names.names ≡ formula_names 1 slots = ap (λ (x : NamesState). x.names) a.names in
     let ids : All (λ k. IsId (number_in k)) (formula_names 1 slots) =
     subst (All (λ k. IsId (number_in k))) names a.ids in
-    let state : IsState start vars slots (formula_names 1 slots) [] t.occurrences [] = record {
+    let state : IsState start vars slots (formula_names 1 slots) [] t.occurrences.rows [] = record {
       work = record {
         log = stays_start (length frozen) (given_of (live_clauses slots));
         none_learned = refl;

@@ -18,16 +18,17 @@ use Rattle.eliminate.specs.Simplifier.{IsSimplified, StaysSimplified, LeavesLog,
 pub record HasSameBut (s t : Simplifier) : Type 0 where
   pub vars : t.vars ≡ s.vars
   pub names : t.names ≡ s.names
-  pub places : length t.occurrences ≡ length s.occurrences
+  pub places : length t.occurrences.rows ≡ length s.occurrences.rows
   pub removals : t.removals ≡ s.removals
   pub marks : length t.marks ≡ length s.marks
   pub refuted : t.is_refuted ≡ s.is_refuted
 
 pub simplified_same : (start : Start) (s t : Simplifier) (slots : Slots) (ls : List LogLine)
-    → HasSameBut s t → AreRows t.occurrences slots → IsSimplified start s slots ls
+    → HasSameBut s t → AreRows t.occurrences.rows slots → IsSimplified start s slots ls
     → IsSimplified start t slots ls
 simplified_same start s t slots ls n rows h =
-    let with_rows : IsState start s.vars slots s.names.names ls t.occurrences s.removals = record {
+    let with_rows : IsState start s.vars slots s.names.names ls t.occurrences.rows s.removals =
+    record {
       work = h.state.work;
       occurrences = rows;
       places = n.places ∙ h.state.places;

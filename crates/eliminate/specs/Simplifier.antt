@@ -19,7 +19,7 @@ use Rattle.eliminate.specs.State.{Start, IsState}
 -- the store and the tables are a simplified form of the formula at the start
 pub record IsSimplified (start : Start) (s : Simplifier) (slots : Slots) (lines : List LogLine) :
     Type 0 where
-  pub state : IsState start s.vars slots s.names.names lines s.occurrences s.removals
+  pub state : IsState start s.vars slots s.names.names lines s.occurrences.rows s.removals
   pub counted : s.names.additions ≡ added_count lines
   pub marks : length s.marks ≡ 2 * s.vars
   pub few : length start.frozen < FORMULA_VARIABLE_LIMIT

@@ -193,7 +193,7 @@ fn schedule_of(alloc: Global, store: &Store, vars: u32) -> Result<Schedule, Allo
 /// Gives each row the room that the clauses of the store need, and an eighth more for resolvents: a
 /// row is cleaned when it becomes full, so few move.
 fn make_rooms(rows: &mut Rows, store: &Store, schedule: &Schedule) -> Result<(), AllocError>
-    ensures { rows.new ≡ rows.old }
+    ensures { rows.new.rows ≡ rows.old.rows }
 {
     let Some(reference) = (0..store.places()).find_map(|place| store.live_at(place)) else {
         return Ok(());
@@ -207,8 +207,9 @@ fn make_rooms(rows: &mut Rows, store: &Store, schedule: &Schedule) -> Result<(),
 
 /// Makes space in the rows of these literals that are full.
 fn make_space(rows: &mut Rows, store: &Store, lits: &[Lit], fill: CRef) -> Result<(), AllocError>
-    ensures rows { AreRows rows.old store.now.slots → AreRows rows.new store.now.slots }
-    ensures places { length rows.new ≡ length rows.old }
+    ensures rows { AreRows rows.old.rows store.now.slots
+        → AreRows rows.new.rows store.now.slots }
+    ensures places { length rows.new.rows ≡ length rows.old.rows }
 {
     for lit in lits {
         let row = lit.index();

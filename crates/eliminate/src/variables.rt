@@ -132,8 +132,8 @@ fn find_parents(
     pivot: Lit,
     parents: &mut Parents,
 ) -> Result<bool, AllocError>
-    requires place { HasPlace (length simplifier.old.occurrences) pivot }
-    requires rows { AreRows simplifier.old.occurrences store.now.slots }
+    requires place { HasPlace (length simplifier.old.occurrences.rows) pivot }
+    requires rows { AreRows simplifier.old.occurrences.rows store.now.slots }
     requires placed { ArePlaced (length simplifier.old.marks) store.now.slots }
     ensures form { KeepsForm simplifier.old simplifier.new store.now.slots }
     ensures positive { IfOk result (λ good. good ≡ true
@@ -163,13 +163,14 @@ fn gather(
     lit: Lit,
     references: &mut Vec<CRef>,
 ) -> Result<(), AllocError>
-    requires place { HasPlace (length simplifier.old.occurrences) lit }
-    requires rows { AreRows simplifier.old.occurrences store.now.slots }
+    requires place { HasPlace (length simplifier.old.occurrences.rows) lit }
+    requires rows { AreRows simplifier.old.occurrences.rows store.now.slots }
     ensures gathered { IfOk result (λ _. AreThoseWith lit store.now.slots references.new.items) }
-    ensures rows { AreRows simplifier.new.occurrences store.now.slots }
+    ensures rows { AreRows simplifier.new.occurrences.rows store.now.slots }
     ensures form { KeepsForm simplifier.old simplifier.new store.now.slots }
     ensures marks { length simplifier.new.marks ≡ length simplifier.old.marks }
-    ensures places { length simplifier.new.occurrences ≡ length simplifier.old.occurrences }
+    ensures places {
+        length simplifier.new.occurrences.rows ≡ length simplifier.old.occurrences.rows }
 {
     let row = lit.index();
     simplifier.occurrences.clean(row, store);

@@ -1,10 +1,11 @@
 -- Rows of references, one for each literal.
 use Rattle.std.specs.Prelude.{◌≡◌, ℕ, ◌<◌, Bool, true, false, List, [], ◌∷◌, ◌++◌, length, Option}
 use Rattle.std.specs.Prelude.{Some, None, Contains, filter, fold, map, unwrap_or}
+use Rattle.std.specs.Prelude.{◌-◌, ◌/◌, nat_lt, slice_set, if◌then◌else◌}
 use Rattle.cnf.specs.Literal.{Literal, index_of}
 use Rattle.cnf.specs.Clause.{contains_literal}
 use Rattle.clauses.specs.Slots.{Slots, clause_at}
-pub use Rattle.propagate_block.specs.Rows.{row_at, with_row}
+pub use Rattle.propagate_block.specs.Rows.{Roomed, row_at, with_row, room_at, doubled_room}
 
 -- a reference more in the row of a literal
 abbrev pub with_entry : ℕ → List (List ℕ) → Literal → List (List ℕ)
@@ -32,6 +33,18 @@ has_clause slots r = is_some (clause_at slots r)
 -- rows of which one has lost the references that have no clause
 abbrev pub cleaned : List (List ℕ) → Slots → ℕ → List (List ℕ)
 cleaned rows slots i = with_row rows i (filter (has_clause slots) (row_at rows i))
+
+-- rows of which one that is full has lost the references that have no clause; where that leaves
+-- less than an eighth of its room, it has twice as much
+abbrev pub with_space : Roomed ℕ → Slots → ℕ → Roomed ℕ
+with_space r slots i =
+    let room = room_at r.rooms i in
+    let left = cleaned r.rows slots i in
+    if nat_lt (length (row_at r.rows i)) room then r else record {
+      rows = left;
+      rooms = if nat_lt (room - room / 8) (length (row_at left i))
+          then slice_set r.rooms i (doubled_room room) else r.rooms;
+    }
 
 -- each live clause stands in the rows of its literals, and live ones in no others; what stands in a
 -- row was added before

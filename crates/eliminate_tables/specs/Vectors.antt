@@ -1,8 +1,8 @@
 -- Worked values of extended bits, of rows, of a schedule, and of what is worthwhile.
-use Rattle.std.specs.Prelude.{◌≡◌, true, false, List, [], ◌∷◌, fold, Some, None, refl}
+use Rattle.std.specs.Prelude.{◌≡◌, ℕ, true, false, List, [], ◌∷◌, fold, Some, None, refl}
 use Rattle.cnf.specs.Literal.{Literal, positive as p, negative as n}
 use Rattle.eliminate_tables.specs.Removals.{Removed, extended}
-use Rattle.eliminate_tables.specs.Rows.{cleaned}
+use Rattle.eliminate_tables.specs.Rows.{Roomed, cleaned, with_space}
 use Rattle.eliminate_tables.specs.Schedule.{ScheduleState, entered, left, first_of, without_first}
 use Rattle.eliminate_tables.specs.Schedule.{is_candidate}
 use Rattle.eliminate_tables.specs.Worthwhile.{are_opposed, is_worthwhile}
@@ -21,6 +21,29 @@ not_needed = refl
 one_cleaned : cleaned ((0 ∷ 1 ∷ []) ∷ (0 ∷ []) ∷ []) (None ∷ Some (p 1 ∷ []) ∷ []) 0
     ≡ (1 ∷ []) ∷ (0 ∷ []) ∷ []
 one_cleaned = refl
+
+-- rows of which the first is full
+abbrev full : Roomed ℕ
+full = record {
+  rows = (0 ∷ 1 ∷ 1 ∷ 1 ∷ 1 ∷ 1 ∷ 1 ∷ 1 ∷ []) ∷ (0 ∷ []) ∷ [];
+  rooms = 8 ∷ 4 ∷ [];
+}
+
+-- one entry of eight goes, which is no less than an eighth
+one_goes : with_space full (None ∷ Some (p 1 ∷ []) ∷ []) 0 ≡ record {
+  rows = (1 ∷ 1 ∷ 1 ∷ 1 ∷ 1 ∷ 1 ∷ 1 ∷ []) ∷ (0 ∷ []) ∷ [];
+  rooms = 8 ∷ 4 ∷ [];
+}
+one_goes = refl
+
+-- none goes, so it gets twice its room
+none_goes : with_space full (Some (n 1 ∷ []) ∷ Some (p 1 ∷ []) ∷ []) 0
+    ≡ record full { rooms = 16 ∷ 4 ∷ [] }
+none_goes = refl
+
+-- one that has space stays as it is
+has_space : with_space full (None ∷ Some (p 1 ∷ []) ∷ []) 1 ≡ full
+has_space = refl
 
 -- no clause of two variables
 abbrev none : ScheduleState

@@ -4,11 +4,11 @@
 // The rows of a formula get their room at once, an eighth more than its clauses need. A vector for
 // each row took 24 bytes a row, with room that doubles, and left its pieces between the blocks that
 // came later.
-ghost use Rattle.std.specs.Prelude.{◌≡◌, ◌<◌, [], ◌∷◌, ◌++◌, ◌⊎◌, length, replicate, Some};
-ghost use Rattle.std.specs.Prelude.{slice_get, IfOk, OnErr, All};
+ghost use Rattle.std.specs.Prelude.{◌≡◌, ℕ, ◌<◌, [], ◌∷◌, ◌++◌, ◌⊎◌, length, replicate, max, Some};
+ghost use Rattle.std.specs.Prelude.{slice_get, IfOk, OnOk, OnErr, All};
 ghost use Rattle.cnf.specs.Marks.{HasPlace};
 ghost use Rattle.eliminate_tables.specs.Rows.{row_at, with_row, with_clause_rows, has_clause};
-ghost use Rattle.eliminate_tables.specs.Rows.{cleaned};
+ghost use Rattle.eliminate_tables.specs.Rows.{cleaned, room_at, with_space};
 
 use clauses::store::{CRef, Store};
 use cnf::types::Lit;
@@ -24,17 +24,21 @@ pub struct Rows {
 }
 
 impl Model for Rows {
-    ghost use Rattle.std.specs.Prelude.{List, ℕ};
+    ghost use Rattle.std.specs.Prelude.{ℕ};
+    ghost use Rattle.propagate_block.specs.Rows.{Roomed};
 
-    ghost Value = { List (List ℕ) };
+    ghost Value = { Roomed ℕ };
 
-    ghost view = { λ r. r.rows.rows };
+    ghost view = { λ r. r.rows };
 }
 
 impl Rows {
     /// So many empty rows.
     pub fn new(alloc: Global, count: usize) -> Result<Self, AllocError>
-        ensures { IfOk result (λ r. r ≡ replicate count []) }
+        ensures { IfOk result (λ r. r ≡ record {
+          rows = replicate count [];
+          rooms = replicate count 0;
+        }) }
     {
         Ok(Rows {
             rows: BlockRows::new(alloc, count)?,
@@ -43,49 +47,52 @@ impl Rows {
 
     /// How many rows there are.
     pub fn count(&self) -> usize
-        ensures { result ≡ length self.now }
+        ensures { result ≡ length self.now.rows }
     {
         self.rows.rows()
     }
 
     /// The number of references in a row.
     pub fn len(&self, row: usize) -> usize
-        requires { row < length self.now }
-        ensures { result ≡ length (row_at self.now row) }
+        requires { row < length self.now.rows }
+        ensures { result ≡ length (row_at self.now.rows row) }
     {
         self.rows.len(row)
     }
 
     /// The reference at a place of a row.
     pub fn get(&self, row: usize, place: usize) -> CRef
-        requires row { row < length self.now }
-        requires place { place < length (row_at self.now row) }
-        ensures { slice_get (row_at self.now row) place ≡ Some result }
+        requires row { row < length self.now.rows }
+        requires place { place < length (row_at self.now.rows row) }
+        ensures { slice_get (row_at self.now.rows row) place ≡ Some result }
     {
         self.rows.get(row, place)
     }
 
     /// Gives each row room for so many references, where it has no more.
     pub fn make_rooms(&mut self, rooms: &[u32], fill: CRef) -> Result<(), AllocError>
-        ensures { self.new ≡ self.old }
+        ensures rows { self.new.rows ≡ self.old.rows }
+        ensures rooms { OnOk result ((i : ℕ) → i < length self.old.rows
+            → room_at self.new.rooms i ≡ max (room_at self.old.rooms i) (room_at rooms.now i)) }
     {
         self.rows.make_rooms(rooms, &fill)
     }
 
     /// Puts a reference at the end of a row.
     pub fn push(&mut self, row: usize, reference: CRef) -> Result<(), AllocError>
-        requires { row < length self.old }
-        ensures ok { IfOk result (λ _.
-            self.new ≡ with_row self.old row (row_at self.old row ++ reference ∷ [])) }
-        ensures err { OnErr result (self.new ≡ self.old) }
+        requires { row < length self.old.rows }
+        ensures ok { IfOk result (λ _. self.new.rows
+            ≡ with_row self.old.rows row (row_at self.old.rows row ++ reference ∷ [])) }
+        ensures err { OnErr result (self.new.rows ≡ self.old.rows) }
     {
         self.rows.push(row, reference)
     }
 
     /// Puts a clause into the rows of its literals.
     pub fn add(&mut self, lits: &[Lit], reference: CRef) -> Result<(), AllocError>
-        requires { All (HasPlace (length self.old)) lits.now }
-        ensures { IfOk result (λ _. self.new ≡ with_clause_rows self.old lits.now reference) }
+        requires { All (HasPlace (length self.old.rows)) lits.now }
+        ensures { IfOk result
+            (λ _. self.new.rows ≡ with_clause_rows self.old.rows lits.now reference) }
     {
         for lit in lits {
             self.push(lit.index(), reference)?;
@@ -95,8 +102,9 @@ impl Rows {
 
     /// Takes what was deleted out of a row.
     pub fn clean(&mut self, row: usize, store: &Store)
-        requires { row < length self.old }
-        ensures { self.new ≡ cleaned self.old store.now.slots row }
+        requires { row < length self.old.rows }
+        ensures rows { self.new.rows ≡ cleaned self.old.rows store.now.slots row }
+        ensures rooms { self.new.rooms ≡ self.old.rooms }
     {
         let mut write = 0;
         for read in 0..self.len(row) {
@@ -118,8 +126,13 @@ impl Rows {
     ///
     /// `AllocError` where a growth was refused. The row is then cleaned.
     pub fn make_space(&mut self, row: usize, store: &Store, fill: CRef) -> Result<(), AllocError>
-        requires { row < length self.old }
-        ensures { (self.new ≡ self.old) ⊎ (self.new ≡ cleaned self.old store.now.slots row) }
+        requires { row < length self.old.rows }
+        ensures ok { OnOk result (self.new ≡ with_space self.old store.now.slots row) }
+        ensures err { OnErr result (self.new ≡ record self.old {
+          rows = cleaned self.old.rows store.now.slots row;
+        }) }
+        ensures rows { (self.new.rows ≡ self.old.rows)
+            ⊎ (self.new.rows ≡ cleaned self.old.rows store.now.slots row) }
     {
         let room = self.rows.room(row);
         if self.rows.len(row) < room {
@@ -134,9 +147,9 @@ impl Rows {
 
     /// Puts the references of a row at the end of a list.
     pub fn collect(&self, row: usize, references: &mut Vec<CRef>) -> Result<(), AllocError>
-        requires { row < length self.now }
+        requires { row < length self.now.rows }
         ensures { IfOk result (λ _.
-            references.new.items ≡ references.old.items ++ row_at self.now row) }
+            references.new.items ≡ references.old.items ++ row_at self.now.rows row) }
     {
         for place in 0..self.len(row) {
             references.push(self.get(row, place))?;

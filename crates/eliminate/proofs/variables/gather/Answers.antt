@@ -24,11 +24,12 @@ are_cleaned old rows slots l i place a at is =
     )
 
 -- after the row is cleaned, the rows and the form are right
-right : (c : After-clean) → AreRows c.clean.new.self c.args.store.now.slots
-    × (length c.clean.new.self ≡ length c.args.simplifier.now.occurrences)
+right : (c : After-clean) → AreRows c.clean.new.self.rows c.args.store.now.slots
+    × (length c.clean.new.self.rows ≡ length c.args.simplifier.now.occurrences.rows)
 right c =
-    are_cleaned c.args.simplifier.now.occurrences c.clean.new.self c.args.store.now.slots c.args.lit
-    c.index-row.result c.requires.place c.requires.rows c.index-row.ensures.index c.clean.ensures
+    are_cleaned c.args.simplifier.now.occurrences.rows c.clean.new.self.rows c.args.store.now.slots
+    c.args.lit c.index-row.result c.requires.place c.requires.rows c.index-row.ensures.index
+    c.clean.ensures.rows
 
 keeps : (c : After-clean) → KeepsForm c.args.simplifier.now
     (record c.args.simplifier.now { occurrences = c.clean.new.self }) c.args.store.now.slots
@@ -58,13 +59,13 @@ returns-in_err-collect-clause-form c =
 
 pub returns-clause-gathered : goal.returns-clause-gathered
 returns-clause-gathered c =
-    let rows = c.args.simplifier.now.occurrences in
+    let rows = c.args.simplifier.now.occurrences.rows in
     let slots : Slots = c.args.store.now.slots in
     those_with rows slots c.args.lit c.collect.new.references.items c.requires.place
     c.requires.rows
     (c.in_ok-collect.ensures
-    ∙ ap (λ xs. xs ++ row_at c.clean.new.self c.index-row.result) c.clear.ensures.items
-    ∙ ap (λ rs. row_at rs c.index-row.result) c.clean.ensures
+    ∙ ap (λ xs. xs ++ row_at c.clean.new.self.rows c.index-row.result) c.clear.ensures.items
+    ∙ ap (λ rs. row_at rs c.index-row.result) c.clean.ensures.rows
     ∙ ap (λ i. row_at (cleaned rows slots i) i) c.index-row.ensures.index)
 
 pub returns-clause-rows : goal.returns-clause-rows

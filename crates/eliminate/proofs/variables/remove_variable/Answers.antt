@@ -63,7 +63,7 @@ returns g c start same h =
     record {
       state =
           subst (λ (rs : List Removed). IsState start s.vars left s.names.names most
-          s.occurrences rs)
+          s.occurrences.rows rs)
           (sym c.in_ok-push.ensures) state;
       counted =
           h.counted ∙ sym (c.in_ok-delete_all-2.ensures.counted

@@ -24,7 +24,7 @@ add-requires-2 g c =
     let s : Simplifier = c.args.self.now in
     let w = c.requires.is_open.simplified in
     let clause = (c.requires.line w.0 w.1).clause in
-    subst (λ (xs : List Literal). All (HasPlace (length s.occurrences)) xs)
+    subst (λ (xs : List Literal). All (HasPlace (length s.occurrences.rows)) xs)
     (sym c.deref-2.ensures.value)
     (subst (λ n. All (HasPlace n) s.clause.items) (sym w.1.state.places)
     (clause_places w.0 s c.args.store.now.slots (g.S.Sink.lines c.args.sink.now) s.clause.items
@@ -73,7 +73,9 @@ leaves g c start h =
     let t : Simplifier =
     record s {
       names = c.add.new.names;
-      occurrences = with_clause_rows s.occurrences s.clause.items (length slots);
+      occurrences = record s.occurrences {
+        rows = with_clause_rows s.occurrences.rows s.clause.items (length slots);
+      };
       is_refuted = is_empty_clause s.clause.items;
     } in
     log_of start t c.add.new.store.slots (g.S.Sink.lines c.add.new.sink)
@@ -112,11 +114,12 @@ returns-clause-passes g c start h =
       schedule = c.enter.new.self;
       is_refuted = c.is_empty_clause-self.result;
     } in
-    let rows : c.add-2.new.self ≡ with_clause_rows s.occurrences s.clause.items (length slots) =
+    let rows : c.add-2.new.self.rows
+        ≡ with_clause_rows s.occurrences.rows s.clause.items (length slots) =
     c.in_ok-add.ensures
-    ∙ ap (λ (xs : List Literal). with_clause_rows s.occurrences xs c.in_ok-reference.reference)
+    ∙ ap (λ (xs : List Literal). with_clause_rows s.occurrences.rows xs c.in_ok-reference.reference)
     c.deref-2.ensures.value
-    ∙ ap (with_clause_rows s.occurrences s.clause.items) c.in_ok-reference.ensures.reference in
+    ∙ ap (with_clause_rows s.occurrences.rows s.clause.items) c.in_ok-reference.ensures.reference in
     let empty : c.is_empty_clause-self.result ≡ is_empty_clause s.clause.items =
     c.is_empty_clause-self.ensures ∙ ap is_empty_clause c.deref-4.ensures.value in
     let was =

@@ -8,7 +8,7 @@ use Rattle.cnf.specs.Formula.{IsFormulaClause}
 use Rattle.clauses.specs.Slots.{Slots, clause_at}
 use Rattle.clauses.proofs.Laws.{live_all}
 use Rattle.cnf.specs.Marks.{HasPlace}
-use Rattle.eliminate_tables.specs.Rows.{AreRows, with_clause_rows}
+use Rattle.eliminate_tables.specs.Rows.{Roomed, AreRows, with_clause_rows}
 use Rattle.eliminate.proofs.Occurring.{rows_added, rows-length}
 use Rattle.eliminate.proofs.Starting.{rows_start, rows_none, slot_some, slot_none, simplified_start}
 use Rattle.eliminate.proofs.States.{places_of}
@@ -28,8 +28,8 @@ add-requires c =
 
 pub loop-place-init : goal.loop-place-init
 loop-place-init c =
-    let rows : c.make_rooms.new.rows ≡ replicate (2 * c.args.vars) [] =
-    c.make_rooms.ensures ∙ c.in_ok-occurrences.ensures in
+    let rows : c.make_rooms.new.rows.rows ≡ replicate (2 * c.args.vars) [] =
+    c.make_rooms.ensures ∙ ap (λ (r : Roomed ℕ). r.rows) c.in_ok-occurrences.ensures in
     record {
       rows = subst (λ (x : List (List ℕ)). AreRows x []) (sym rows) (rows_start (2 * c.args.vars));
       places = ap length rows ∙ length-replicate (2 * c.args.vars) [];
@@ -40,7 +40,7 @@ loop-place-preserved c =
     let slots : Slots = c.args.store.now.slots in
     let i = c.loop-place.place in
     let vars = c.args.vars in
-    let old : List (List ℕ) = c.loop-place.occurrences in
+    let old : List (List ℕ) = c.loop-place.occurrences.rows in
     let within : i < length slots = omega arith in
     let long : length (take i slots) ≡ i = length-take-le i slots (omega arith) in
     let more : take (i + 1) slots ≡ take i slots ++ get_or slots i None ∷ [] =
@@ -57,8 +57,9 @@ loop-place-preserved c =
           (places_of vars lits f.from_one f.small) in
           let here : get_or slots i None ≡ Some lits =
           slot_some slots i lits (ap (clause_at slots) (sym at.0) ∙ w.lits-lits.ensures) in
-          let added : c.match-live_at.occurrences ≡ with_clause_rows old lits
-          (length (take i slots)) = w.occurrences-is ∙ w.in_ok-add-in-Some.ensures
+          let added : c.match-live_at.occurrences.rows ≡ with_clause_rows old lits
+          (length (take i slots)) = ap (λ (r : Roomed ℕ). r.rows) w.occurrences-is
+          ∙ w.in_ok-add-in-Some.ensures
           ∙ ap (with_clause_rows old lits) (at.0 ∙ sym long) in
           record {
             rows = subst (λ (x : List (List ℕ)). AreRows x (take (i + 1) slots)) (sym added)
@@ -71,7 +72,8 @@ loop-place-preserved c =
       | in-None w ↦
           let here : get_or slots i None ≡ None =
           slot_none slots i (c.live_at.ensures.none w.in-None.is) in
-          let same : c.match-live_at.occurrences ≡ old = w.occurrences-is in
+          let same : c.match-live_at.occurrences.rows ≡ old =
+          ap (λ (r : Roomed ℕ). r.rows) w.occurrences-is in
           record {
             rows = subst (λ (x : List (List ℕ)). AreRows x (take (i + 1) slots)) (sym same)
                 (subst (AreRows old)
@@ -84,16 +86,17 @@ loop-place-preserved c =
 pub returns-clause-simplified : goal.returns-clause-simplified
 returns-clause-simplified c frozen long =
     let slots : Slots = c.args.store.now.slots in
-    let old : List (List ℕ) = c.loop-place.occurrences in
+    let old : List (List ℕ) = c.loop-place.occurrences.rows in
     let end : take c.loop-place.place slots ≡ slots =
     take_all c.loop-place.place slots (omega arith) in
     simplified_start _ c.args.vars slots frozen c.requires long (record {
       vars_are = refl;
       names = c.in_ok-of.ensures.named;
       ids = c.in_ok-of.ensures.numbers;
-      rows = subst (λ (x : List (List ℕ)). AreRows x slots) (sym c.occurrences-2.view_is)
+      rows = subst (λ (x : Roomed ℕ). AreRows x.rows slots) (sym c.occurrences-2.view_is)
           (subst (AreRows old) end c.loop-place.invariant.rows);
-      places = ap length c.occurrences-2.view_is ∙ c.loop-place.invariant.places;
+      places = ap (λ (r : Roomed ℕ). length r.rows) c.occurrences-2.view_is
+          ∙ c.loop-place.invariant.places;
       removals = c.new-2.ensures;
       marks = c.in_ok-new.ensures.none;
       works = refl;

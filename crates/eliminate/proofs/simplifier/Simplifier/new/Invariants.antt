@@ -4,6 +4,6 @@ use Rattle.eliminate.proofs.simplifier.Simplifier.new.Given as goal
 
 abbrev pub invariant-loop-place : goal.invariant-loop-place
 invariant-loop-place l = record {
-  rows : AreRows l.occurrences (take l.place l.store.slots);
-  places : length l.occurrences ≡ 2 * l.vars;
+  rows : AreRows l.occurrences.rows (take l.place l.store.slots);
+  places : length l.occurrences.rows ≡ 2 * l.vars;
 }

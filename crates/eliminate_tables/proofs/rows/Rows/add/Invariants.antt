@@ -5,6 +5,6 @@ use Rattle.eliminate_tables.proofs.rows.Rows.add.Given as goal
 
 abbrev pub invariant-loop-lit : goal.invariant-loop-lit
 invariant-loop-lit l = record {
-  long : length l.self ≡ length l.fn.self;
-  rows : l.self ≡ with_clause_rows l.fn.self (take l.lit-index l.lits) l.reference;
+  long : length l.self.rows ≡ length l.fn.self.rows;
+  rows : l.self.rows ≡ with_clause_rows l.fn.self.rows (take l.lit-index l.lits) l.reference;
 }

@@ -8,7 +8,7 @@ use Rattle.eliminate_tables.proofs.rows.Rows.collect.Goals as goal
 
 pub loop-place-preserved : goal.loop-place-preserved
 loop-place-preserved c =
-    let row : List ℕ = row_at c.args.self.now c.args.row in
+    let row : List ℕ = row_at c.args.self.now.rows c.args.row in
     let old : List ℕ = c.args.references.now.items in
     let at = c.loop-place.place in
     let x = c.get.result in

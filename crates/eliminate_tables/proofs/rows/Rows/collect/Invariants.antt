@@ -5,4 +5,4 @@ use Rattle.eliminate_tables.proofs.rows.Rows.collect.Given as goal
 
 abbrev pub invariant-loop-place : goal.invariant-loop-place
 invariant-loop-place l =
-    l.references.items ≡ l.fn.references.items ++ take l.place (row_at l.self l.row)
+    l.references.items ≡ l.fn.references.items ++ take l.place (row_at l.self.rows l.row)
