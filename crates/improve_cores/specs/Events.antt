@@ -1,7 +1,8 @@
 -- What a search for cores meets.
-use Rattle.std.specs.Prelude.{◌≡◌, ⊤}
+use Rattle.std.specs.Prelude.{◌≡◌, ◌×◌, ◌-◌, ℕ, ⊤, Err, length, slice_index_or}
 use Rattle.cnf.specs.Problem.{Problem}
-use Rattle.cores.specs.Cores.{AreCounted, first_relaxation}
+use Rattle.cores.specs.Cores.{AreCounted, Core, count_core, first_relaxation}
+use Rattle.cores.specs.declared.counting.CoreFault.{CoreFault}
 use Rattle.improve_cores.specs.CoreWork.{CoreWork, IsModelOf}
 use Rattle.improve_cores.specs.declared.searching.Event.{Event}
 use Rattle.improve_cores.specs.declared.searching.Event.TheVariants.{Model, Closed, Over}
@@ -24,3 +25,13 @@ IsStepOf w Ended = ⊤
 abbrev pub AreRightCores : Problem → Counted → Type 0
 AreRightCores p c = ((c.counter).from ≡ first_relaxation p)
     × AreCounted p (c.cores).items (c.counter).counted
+
+-- the core is not right, where these were counted
+abbrev pub IsRefused : Counted → Core → Type 0
+IsRefused c core =
+    (e : CoreFault) × (count_core (c.counter).from (c.counter).counted core ≡ Err e)
+
+-- the first output of the last core; 0 where there are no cores
+abbrev pub last_first : Counted → ℕ
+last_first c =
+    let firsts = ((c.counter).counted).firsts in slice_index_or firsts (length firsts - 1) 0

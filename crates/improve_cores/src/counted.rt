@@ -1,7 +1,8 @@
 //! Cores as a certificate says them.
-ghost use Rattle.std.specs.Prelude.{◌≡◌, IfOk, IfSome, OnOk};
+ghost use Rattle.std.specs.Prelude.{◌≡◌, ◌++◌, ◌∷◌, [], false, IfOk, IfSome, OnOk};
+ghost use Rattle.std.specs.Prelude.{if◌then◌else◌};
 ghost use Rattle.cnf.specs.Problem.{Problem};
-ghost use Rattle.improve_cores.specs.Events.{AreRightCores};
+ghost use Rattle.improve_cores.specs.Events.{AreRightCores, IsRefused, last_first};
 
 use crate::checked::at;
 use crate::found::FoundCore;
@@ -27,7 +28,8 @@ impl Counted {
     ///
     /// `AllocError` where memory was refused.
     pub fn new(instance: &Instance) -> Result<Self, AllocError>
-        ensures { IfOk result (AreRightCores instance.now) }
+        ensures right { IfOk result (AreRightCores instance.now) }
+        ensures none { IfOk result (λ c. c.cores.items ≡ []) }
     {
         Ok(Counted {
             cores: Vec::new(instance.allocator()),
@@ -41,8 +43,11 @@ impl Counted {
     ///
     /// `AllocError` where memory was refused. The cores are then of no use any more.
     pub fn add(&mut self, core: Core) -> Result<bool, AllocError>
-        ensures { OnOk result
+        ensures right { OnOk result
             ((p : Problem) → AreRightCores p self.old → AreRightCores p self.new) }
+        ensures cores { IfOk result (λ is_right. self.new.cores.items
+            ≡ (if is_right then self.old.cores.items ++ core ∷ [] else self.old.cores.items)) }
+        ensures refused { IfOk result (λ is_right. is_right ≡ false → IsRefused self.old core) }
     {
         match self.counter.count(&core)? {
             None => {}
@@ -53,11 +58,13 @@ impl Counted {
     }
 
     /// The first output of the last core; 0 where there are no cores.
-    pub fn last_first(&self) -> u64 {
-        self.counter
-            .firsts()
-            .last()
-            .map_or(0, |first| u64::from(*first))
+    pub fn last_first(&self) -> u64
+        ensures { result ≡ last_first self.now }
+    {
+        match self.counter.firsts().last() {
+            Some(first) => u64::from(*first),
+            None => 0,
+        }
     }
 
     /// The core lines alone.

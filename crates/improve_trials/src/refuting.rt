@@ -90,8 +90,8 @@ impl Refutation {
         self.clauses
     }
 
-    /// Searches, guided by these first outputs, and notes for each core in their order whether it was
-    /// shown; of those behind the last note nothing is known.
+    /// Searches, guided by these first outputs, and notes for each core in their order whether it
+    /// was shown; of those behind the last note nothing is known.
     ///
     /// # Errors
     ///

@@ -1,5 +1,5 @@
-// Refutations by cores, one after the other: where one does not end, the cores that it left open are
-// dropped, and the others are tried again.
+// Refutations by cores, one after the other: where one does not end, the cores that it left open
+// are dropped, and the others are tried again.
 ghost use Rattle.std.specs.Prelude.{◌≡◌, ◌+◌, All, IfOk, OnOk};
 ghost use Rattle.improve_cores.specs.Events.{AreRightCores};
 ghost use Rattle.improve_trials.specs.Trials.{IsCoreRefutation, IsAttempt, IsRound, SpendsOn};

@@ -19,7 +19,8 @@ use Rattle.cnf.proofs.Laws.{literal_eq-true}
 use Rattle.lrat_log.specs.declared.lines.Name.{Name}
 use Rattle.lrat_log.specs.Log.{Given, clauses_in}
 use Rattle.improve_weaker.specs.declared.firsts.Firsts.{Firsts}
-use Rattle.improve_weaker.specs.Firsts.{HavePlaces, IsRowOf, AreRows, first_at, first_with, IsLinked}
+use Rattle.improve_weaker.specs.Firsts.{HavePlaces, IsRowOf, AreRows, first_at, first_with}
+use Rattle.improve_weaker.specs.Firsts.{IsLinked}
 use Rattle.improve_weaker.specs.Firsts.{AreFirsts}
 use Rattle.improve_weaker.specs.Weaker.{first_subset}
 use Rattle.improve_weaker.proofs.SubsetSearch.{get-dropped, next-in}

@@ -67,8 +67,8 @@ go_on-requires-clause-standing g c =
 
 pub go_on-requires-clause-work : goal.go_on-requires-clause-work
 go_on-requires-clause-work g c =
-    only_hard_early c.args.instance.now c.args.hard c.begin_work-work.result c.begin_work-work.ensures
-    c.requires.hard
+    only_hard_early c.args.instance.now c.args.hard c.begin_work-work.result
+    c.begin_work-work.ensures c.requires.hard
 
 pub go_on-requires-clause-none : goal.go_on-requires-clause-none
 go_on-requires-clause-none g c =

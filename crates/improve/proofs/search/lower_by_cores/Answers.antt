@@ -56,5 +56,6 @@ pub returns-in-None-clause-ends : goal.returns-in-None-clause-ends
 returns-in-None-clause-ends g c =
     let p = c.args.instance.now in
     let a = rw c.in-None.is at c.in_ok-by_cores.ensures.goes_on in
-    ends_after p _ _ _ _ _ _ _ _ _ _ a c.args.profile c.lower_by_bounds.result (work_count c.args.work)
-    (work_count c.refute_by_cores.new.work) (omega arith) c.lower_by_bounds.ensures.ends
+    ends_after p _ _ _ _ _ _ _ _ _ _ a c.args.profile c.lower_by_bounds.result
+    (work_count c.args.work) (work_count c.refute_by_cores.new.work) (omega arith)
+    c.lower_by_bounds.ensures.ends

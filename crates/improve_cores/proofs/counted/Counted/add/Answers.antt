@@ -5,8 +5,8 @@ use Rattle.cores.specs.Cores.{AreCounted, count_core, first_relaxation, no_cores
 use Rattle.cores.proofs.Laws.{counted_push}
 use Rattle.improve_cores.proofs.counted.Counted.add.Goals as goal
 
-pub returns : goal.returns
-returns c = λ p h.
+pub returns-clause-right : goal.returns-clause-right
+returns-clause-right c = λ p h.
     let now = c.args.self.now in
     let e = rw c.in-None.is at c.in_ok-count.ensures.counted in (
       c.count.ensures.from ∙ h.0,

@@ -12,13 +12,15 @@ returns-then-is_empty-clause-ends c =
 pub returns-clause-ends : goal.returns-clause-ends
 returns-clause-ends c =
     IfOk-weaker c.step.result _ _
-    (λ step j. ends_with (head_reading c.args.self.now) (record { head = c.step.new.self; rest = c.args.self.now.rest }) step
+    (λ step j. ends_with (head_reading c.args.self.now)
+    (record { head = c.step.new.self; rest = c.args.self.now.rest }) step
     (c.is_empty.ensures.some c.if-is_empty.false) refl (rw c.bytes.ensures at j))
     c.step.ensures.judges
 
 pub returns-clause-left : goal.returns-clause-left
 returns-clause-left c =
     IfOk-weaker c.step.result _ _
-    (λ step j. line_left (head_reading c.args.self.now) (record { head = c.step.new.self; rest = c.args.self.now.rest }) step
+    (λ step j. line_left (head_reading c.args.self.now)
+    (record { head = c.step.new.self; rest = c.args.self.now.rest }) step
     (c.is_empty.ensures.some c.if-is_empty.false) refl (rw c.bytes.ensures at j))
     c.step.ensures.judges
