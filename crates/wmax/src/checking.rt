@@ -3,9 +3,7 @@ ghost use Rattle.std.specs.Prelude.{◌≡◌, IfOk};
 ghost use Rattle.lrat_check.specs.Checks.{IsTrueResult};
 ghost use Rattle.wmax.specs.Checking.{later};
 
-use crate::files::{UNREADABLE, read_file};
 use crate::profiles::{choose_profile, refuse_profile};
-use crate::standard_error::Messages;
 use adder::cells::Profile;
 use clap::ArgMatches;
 use lrat_check::checking::check_from_as;
@@ -16,6 +14,8 @@ use report::printing::{deliver, print_verdict, verdict_code};
 use std::fs::{self, File};
 use std::io::{self, Read, Write};
 use std::rt::{Env, Files};
+use wmax_onlooker::files::{UNREADABLE, read_file};
+use wmax_onlooker::standard_error::Messages;
 
 /// What is said of a certificate that cannot be read more than once.
 const NO_FILE: &str = "error: check --profile any needs a regular file as PROOF, not a pipe";

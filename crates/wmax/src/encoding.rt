@@ -1,7 +1,5 @@
 //! `wmax encode`: the formula that a certificate refutes.
-use crate::files::{UNREADABLE, read_file};
 use crate::profiles::{choose_profile, refuse_profile};
-use crate::standard_error::Messages;
 use adder::cells::Profile;
 use bound::encoding::{WatchedWriter, write_formula};
 use bound::formulas::write_dimacs;
@@ -15,6 +13,8 @@ use std::io::{self, Read, Write};
 use std::mem::ManuallyDrop;
 use std::rt::{Env, Files};
 use wcnf::reading::read_from;
+use wmax_onlooker::files::{UNREADABLE, read_file};
+use wmax_onlooker::standard_error::Messages;
 
 /// What is said of a `--proof` in another profile.
 const NO_CORES: &str = "error: encode takes --proof only with --profile 5";

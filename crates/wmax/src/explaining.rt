@@ -1,9 +1,7 @@
 //! `wmax explain`: what there is of an instance, or what a result comes to, and how much less a
 //! solution could cost.
 use crate::checking::show;
-use crate::files::{UNREADABLE, read_file};
 use crate::lower_bounds::verdict_of;
-use crate::standard_error::Messages;
 use clap::ArgMatches;
 use explain::explaining::{ExplainFault, write_explanation};
 use explain::judging::{Judgement, judge};
@@ -17,6 +15,8 @@ use std::fs::File;
 use std::io::{self, Read, Write};
 use std::rt::Files;
 use wcnf::faults::ReadFault;
+use wmax_onlooker::files::{UNREADABLE, read_file};
+use wmax_onlooker::standard_error::Messages;
 
 /// FILE, and RESULT and PROOF if they are named, are opened, then read in their order. Of a faulty
 /// FILE the line is shown, and what would mend it.

@@ -2,7 +2,6 @@
 ghost use Rattle.std.specs.Prelude.{IfOk};
 ghost use Rattle.lrat_check.specs.Lower.{IsTrueLower};
 
-use crate::files::{UNREADABLE, read_file};
 use clap::ArgMatches;
 use lrat_check::lower::{LowerVerdict, check_lower_from};
 use lrat_check::verdicts::CheckFault;
@@ -11,6 +10,7 @@ use report::printing::{deliver, lower_code, print_lower};
 use std::fs::File;
 use std::io::{self, Read};
 use std::rt::Files;
+use wmax_onlooker::files::{UNREADABLE, read_file};
 
 /// Both files are opened before one is read. The certificate is judged while it is read, so none of
 /// it is kept but the clauses that are live.

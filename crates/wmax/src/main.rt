@@ -2,20 +2,12 @@
 //! libraries.
 #![tactic(auto)]
 
-mod bounding;
 mod checking;
 mod encoding;
 mod explaining;
-mod file_id;
-mod files;
-mod keeper;
 mod lower_bounds;
-mod onlooker;
 mod profiles;
-mod progress;
 mod solving;
-mod standard_error;
-mod whole_file;
 
 use checking::check;
 use clap::error::ErrorKind;
@@ -27,12 +19,12 @@ use report::fault::RunFault;
 use report::options;
 use report::printing::{fault_code, print_fault};
 use solving::solve;
-use standard_error::Messages;
 use std::fs::OpenOptions;
 use std::io::{IsTerminal, Write};
 use std::process::ExitCode;
 use std::rt::{Clock, Env, Files};
 use std::{env, io};
+use wmax_onlooker::standard_error::Messages;
 
 /// The exit status. A fault is told on standard error; one that cannot be told changes no status.
 fn tell<E: Write>(messages: &mut Messages<'_, E>, outcome: Result<u8, RunFault>) -> u8 {

@@ -1,6 +1,5 @@
 //! Which profile a command takes: the one of `--profile`, else that of the environment, else the
 //! first.
-use crate::standard_error::Messages;
 use adder::cells::Profile;
 use clap::ArgMatches;
 use report::fault::RunFault;
@@ -8,6 +7,7 @@ use report::options::pick_profile;
 use std::env::{self, VarError};
 use std::io::Write;
 use std::rt::Env;
+use wmax_onlooker::standard_error::Messages;
 
 /// The variable of the environment that names the profile where no `--profile` does.
 const VARIABLE: &str = "WMAX_PROFILE";

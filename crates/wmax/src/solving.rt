@@ -1,14 +1,6 @@
 //! `wmax solve`: a result and its certificate.
 use crate::checking::show;
-use crate::file_id::{FileId, empty, find_file_id, find_path_id, open_proof};
-use crate::files::{UNREADABLE, read_file, refuse_file};
-use crate::bounding::{Bounder, LowerPaths};
-use crate::keeper::{Keeper, judge_left};
-use crate::onlooker::Onlooker;
 use crate::profiles::{choose_profile, refuse_profile};
-use crate::progress::Meter;
-use crate::standard_error::Messages;
-use crate::whole_file::WholePaths;
 use adder::cells::Profile;
 use cdcl::budget::Budget;
 use clap::ArgMatches;
@@ -23,6 +15,14 @@ use std::alloc::Global;
 use std::fs::File;
 use std::io::{self, Read, Write};
 use std::rt::{Clock, Env, Files};
+use wmax_onlooker::bounding::{Bounder, LowerPaths};
+use wmax_onlooker::file_id::{FileId, empty, find_file_id, find_path_id, open_proof};
+use wmax_onlooker::files::{UNREADABLE, read_file, refuse_file};
+use wmax_onlooker::keeper::{Keeper, judge_left};
+use wmax_onlooker::onlooker::Onlooker;
+use wmax_onlooker::progress::Meter;
+use wmax_onlooker::standard_error::Messages;
+use wmax_onlooker::whole_file::WholePaths;
 
 /// How a run searches.
 #[derive(Drop)]
@@ -392,8 +392,8 @@ fn refuse<E: Write>(messages: &mut Messages<'_, E>, refused: Refused) -> u8 {
     }
 }
 
-/// What keeps the best solution and the best lower bound, each of which can be written. Once that of
-/// the best solution is there, whatever its name is, the other one cannot be the same file.
+/// What keeps the best solution and the best lower bound, each of which can be written. Once that
+/// of the best solution is there, whatever its name is, the other one cannot be the same file.
 fn start_keepers<'a, R: Files>(
     rt: &'a R,
     kept: Option<Kept<'a>>,

@@ -1,5 +1,6 @@
 //! The file of `--lower`: at each moment a whole certificate of a lower bound, or what an earlier
 //! run left there.
+ghost use Rattle.std.specs.Prelude.{◌≡◌, ◌≤◌, IfSome, IsNone, IsSome, is_some};
 ghost use Rattle.improve.specs.Standing.{IsCoreProof};
 
 use crate::file_id::FileId;
@@ -35,17 +36,22 @@ pub struct Bounder<'a, R: Files> {
 impl<'a, R: Files> Bounder<'a, R> {
     /// None where nothing can be written. No file is left where nothing was, and a bound that is
     /// there stays.
-    pub fn start(rt: &'a R, kept: Option<LowerPaths<'a>>, others: [FileId; 2]) -> Option<Self> {
-        let Some(LowerPaths {
-            paths,
-            lower,
-            is_free,
-        }) = kept else {
+    pub fn start(rt: &'a R, kept: Option<LowerPaths<'a>>, others: [FileId; 2]) -> Option<Self>
+        ensures nowhere { IsNone kept.entry → IsSome result }
+        ensures lower { IfSome kept.entry (λ kept. IfSome result (λ bounder.
+            bounder.lower ≡ kept.lower)) }
+    {
+        let Some(kept) = kept else {
             return Some(Bounder {
                 file: None,
                 lower: 0,
             });
         };
+        let LowerPaths {
+            paths,
+            lower,
+            is_free,
+        } = kept;
         let file = WholeFile::new(rt, paths, others);
         file.try_begin()?;
         let is_written = if is_free {
@@ -63,18 +69,21 @@ impl<'a, R: Files> Bounder<'a, R> {
     }
 
     /// Whether there is a file for lower bounds.
-    pub fn has_file(&self) -> bool {
+    pub(crate) fn has_file(&self) -> bool
+        ensures { result ≡ is_some self.now.file }
+    {
         self.file.is_some()
     }
 
     /// Keeps a lower bound with its proof, where it is better than the one that stands there.
-    pub fn bounded<E: Write>(
+    pub(crate) fn bounded<E: Write>(
         &mut self,
         instance: &Instance,
         proof: &ByCores,
         messages: &mut Messages<'_, E>,
     )
         requires { IsCoreProof instance.now proof.now.worth proof.now }
+        ensures raised { self.old.lower ≤ self.new.lower }
     {
         if proof.worth <= self.lower {
             return;

@@ -48,7 +48,8 @@ pub struct Meter<'a, R: Clock> {
 }
 
 impl<'a, R: Clock + Files + AllocGlobal> Meter<'a, R> {
-    /// A run begins; none where the clock cannot be read.
+    /// A run begins; none where the clock cannot be read. What is told goes to standard error
+    /// alone, and no contract speaks of it.
     pub fn start(rt: &'a R, limit: u64, has_proof: bool) -> Option<Self> {
         let Ok(start) = Instant::now(rt) else {
             return None;
@@ -75,7 +76,11 @@ impl<'a, R: Clock + Files + AllocGlobal> Meter<'a, R> {
     }
 
     /// Takes note of how far the search is, and tells it if the last line is a second old.
-    pub fn learned<E: Write>(&mut self, report: &SearchReport, messages: &mut Messages<'_, E>) {
+    pub(crate) fn learned<E: Write>(
+        &mut self,
+        report: &SearchReport,
+        messages: &mut Messages<'_, E>,
+    ) {
         let last = &self.report;
         if report.restarts < last.restarts || report.propagations < last.propagations {
             // Another solver goes on.
@@ -94,7 +99,7 @@ impl<'a, R: Clock + Files + AllocGlobal> Meter<'a, R> {
     }
 
     /// Takes note of a better solution, and tells how far the search is.
-    pub fn better<E: Write>(&mut self, cost: u64, messages: &mut Messages<'_, E>) {
+    pub(crate) fn better<E: Write>(&mut self, cost: u64, messages: &mut Messages<'_, E>) {
         self.solutions = self.solutions.saturating_add(1);
         self.cost = Some(cost);
         if let Ok(now) = Instant::now(self.rt) {
@@ -103,13 +108,13 @@ impl<'a, R: Clock + Files + AllocGlobal> Meter<'a, R> {
     }
 
     /// Takes note of what the cores found so far are worth together.
-    pub fn raised(&mut self, lower: u64) {
+    pub(crate) fn raised(&mut self, lower: u64) {
         self.lower = Some(lower);
     }
 
-    /// The search has ended: it tells how far it came, and that the certificate is being written, if
-    /// one is.
-    pub fn searched<E: Write>(&mut self, found: &Found, messages: &mut Messages<'_, E>) {
+    /// The search has ended: it tells how far it came, and that the certificate is being written,
+    /// if one is.
+    pub(crate) fn searched<E: Write>(&mut self, found: &Found, messages: &mut Messages<'_, E>) {
         let Ok(now) = Instant::now(self.rt) else {
             return;
         };

@@ -1,10 +1,10 @@
 //! The file of `--best`: at each moment a whole result text. A solution that an earlier run left
 //! there stays until this run has one that is as cheap. What it says of an optimum does not stay
 //! then: only this run's own words do, which it has proved.
-ghost use Rattle.std.specs.Prelude.{IfOk};
+ghost use Rattle.std.specs.Prelude.{◌≡◌, IfOk, IfSome, IsNone, IsSome};
 ghost use Rattle.improve.specs.Improving.{IsSolution};
 ghost use Rattle.report.specs.Best.{IsFound};
-ghost use Rattle.wmax.specs.Keeper.{IsLeft};
+ghost use Rattle.wmax_onlooker.specs.Keeper.{IsLeft};
 
 use crate::file_id::FileId;
 use crate::standard_error::Messages;
@@ -54,7 +54,10 @@ impl<'a, R: Files> Keeper<'a, R> {
         paths: Option<WholePaths<'a>>,
         others: [FileId; 2],
         earlier: Option<u64>,
-    ) -> Option<Self> {
+    ) -> Option<Self>
+        ensures nowhere { IsNone paths.entry → IsSome result }
+        ensures earlier { IfSome result (λ keeper. keeper.earlier ≡ earlier) }
+    {
         let Some(paths) = paths else {
             return Some(Keeper {
                 file: None,
@@ -88,7 +91,7 @@ impl<'a, R: Files> Keeper<'a, R> {
     }
 
     /// Keeps a better solution, where that of an earlier run is not cheaper.
-    pub fn better<E: Write>(
+    pub(crate) fn better<E: Write>(
         &mut self,
         instance: &Instance,
         cost: u64,
@@ -96,6 +99,7 @@ impl<'a, R: Files> Keeper<'a, R> {
         messages: &mut Messages<'_, E>,
     )
         requires { IsSolution instance.now bits.now cost }
+        ensures earlier { self.new.earlier ≡ self.old.earlier }
     {
         if !self.is_as_cheap(cost) {
             return;
@@ -110,13 +114,14 @@ impl<'a, R: Files> Keeper<'a, R> {
     }
 
     /// Keeps what was found, where it is not worse than what an earlier run left.
-    pub fn ended<E: Write>(
+    pub(crate) fn ended<E: Write>(
         &mut self,
         instance: &Instance,
         found: &Found,
         messages: &mut Messages<'_, E>,
     )
         requires { IsFound instance.now found.now }
+        ensures earlier { self.new.earlier ≡ self.old.earlier }
     {
         if !self.is_as_good(found) {
             return;

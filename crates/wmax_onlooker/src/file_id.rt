@@ -1,5 +1,7 @@
 //! Which file one is, and where files are written: never into one that the run reads or writes
-//! otherwise.
+//! otherwise. No contract speaks of what files the system has: that is tested.
+ghost use Rattle.std.specs.Prelude.{◌≡◌, IfErr};
+
 use report::fault::RunFault;
 use std::fs::{self, Metadata, OpenFile, OpenOptions};
 use std::os::unix::fs::MetadataExt;
@@ -38,8 +40,9 @@ pub fn find_path_id<R: Files>(rt: &R, path: &str) -> Option<FileId> {
     }
 }
 
-/// Whether the path is that of one of these files, of a symbolic link, or of what is no regular file.
-pub fn is_taken<R: Files>(rt: &R, path: &str, others: &[FileId]) -> bool {
+/// Whether the path is that of one of these files, of a symbolic link, or of what is no regular
+/// file.
+pub(crate) fn is_taken<R: Files>(rt: &R, path: &str, others: &[FileId]) -> bool {
     match fs::symlink_metadata(rt, path) {
         Ok(data) => !data.is_file() || others.contains(&file_id_of(&data)),
         Err(_) => false,
@@ -72,7 +75,7 @@ pub fn empty<F: OpenFile>(file: &F) -> bool {
 
 /// Opens or creates the file, and empties it. None where it cannot be opened, looked at or emptied,
 /// or is one of the others: that one stays as it is.
-pub fn open_empty<R: Files>(rt: &R, path: &str, others: &[FileId]) -> Option<R::File> {
+pub(crate) fn open_empty<R: Files>(rt: &R, path: &str, others: &[FileId]) -> Option<R::File> {
     let file = open_kept(rt, path, others)?;
     if empty(&file) { Some(file) } else { None }
 }
@@ -82,7 +85,9 @@ pub fn open_empty<R: Files>(rt: &R, path: &str, others: &[FileId]) -> Option<R::
 /// # Errors
 ///
 /// `ProofOutput` where it cannot be opened or looked at, or is one of those that are read.
-pub fn open_proof<R: Files>(rt: &R, path: &str, read: [FileId; 2]) -> Result<R::File, RunFault> {
+pub fn open_proof<R: Files>(rt: &R, path: &str, read: [FileId; 2]) -> Result<R::File, RunFault>
+    ensures fault { IfErr result (λ fault. fault ≡ RunFault.ProofOutput) }
+{
     match open_kept(rt, path, &read) {
         Some(file) => Ok(file),
         None => Err(RunFault::ProofOutput),

@@ -9,7 +9,7 @@ const CLEAR: &str = "\r\x1b[K\x1b[?7l";
 const CUT_NO_MORE: &str = "\x1b[?7h";
 
 /// Standard error while the program runs. What cannot be written to it is lost, and changes nothing
-/// else.
+/// else: no contract speaks of what is told.
 #[derive(Drop)]
 pub struct Messages<'a, E: Write> {
     /// Standard error.
@@ -44,7 +44,7 @@ impl<'a, E: Write> Messages<'a, E> {
     }
 
     /// What stands before and behind a line of `show`.
-    pub fn edges(&self) -> (&'static str, &'static str) {
+    pub(crate) fn edges(&self) -> (&'static str, &'static str) {
         if self.is_terminal {
             (CLEAR, CUT_NO_MORE)
         } else {
@@ -53,13 +53,13 @@ impl<'a, E: Write> Messages<'a, E> {
     }
 
     /// Tells a line between its edges, in one piece: on a terminal in place of the last one.
-    pub fn show(&mut self, line: &str) {
+    pub(crate) fn show(&mut self, line: &str) {
         self.is_open = self.is_terminal;
         let _ = self.err.write_all(line.as_bytes());
     }
 
     /// Something is printed on standard output next.
-    pub fn give_way(&mut self) {
+    pub(crate) fn give_way(&mut self) {
         if self.is_shared {
             self.below();
         }

@@ -1,5 +1,9 @@
 //! A file that is whole at each moment: a text is written beside it and then renamed over it, so
 //! that whoever kills the program finds the text before or the one after.
+ghost use Rattle.std.specs.Prelude.{◌≡◌, ◌↔◌, IfOk, IfErr, IsTrue, string_bytes};
+ghost use Rattle.wmax_onlooker.specs.Files.{IsFileFault};
+ghost use Rattle.wmax_onlooker.specs.WholeFile.{Shares, part_path};
+
 use crate::file_id::{FileId, is_taken, open_empty};
 use crate::files::{UNREADABLE, read_file};
 use crate::standard_error::Messages;
@@ -24,7 +28,14 @@ pub struct WholePaths<'a> {
 
 impl<'a> WholePaths<'a> {
     /// The files for this path.
-    pub fn new(alloc: Global, path: &'a str) -> Result<Self, AllocError> {
+    ///
+    /// # Errors
+    ///
+    /// `AllocError` where memory was refused.
+    pub fn new(alloc: Global, path: &'a str) -> Result<Self, AllocError>
+        ensures path { IfOk result (λ paths. paths.path.now ≡ path.now) }
+        ensures part { IfOk result (λ paths. string_bytes paths.part ≡ part_path path.now) }
+    {
         let mut part = String::with_capacity(alloc, path.len() + ENDING.len())?;
         part.push_str(path)?;
         part.push_str(ENDING)?;
@@ -32,10 +43,17 @@ impl<'a> WholePaths<'a> {
     }
 
     /// Whether a file of this name, which may be kept whole too, would share one of the two.
-    pub fn meets(&self, name: &str) -> bool {
-        name == self.path
-            || name == self.part.as_str()
-            || self.path.strip_suffix(ENDING) == Some(name)
+    pub fn meets(&self, name: &str) -> bool
+        ensures shares { IsTrue result
+            ↔ Shares self.now.path.now (string_bytes self.now.part) name.now }
+    {
+        if name == self.path || name == self.part.as_str() {
+            return true;
+        }
+        match self.path.strip_suffix(ENDING) {
+            Some(stem) => stem == name,
+            None => false,
+        }
     }
 
     /// Whether the text before it is whole would go into one of the others.
@@ -54,7 +72,9 @@ impl<'a> WholePaths<'a> {
     /// # Errors
     ///
     /// `Read` where there is a file that cannot be read; `Memory`.
-    pub fn read_earlier<R: Files + AllocGlobal>(&self, rt: &R) -> Result<Vec<u8>, RunFault> {
+    pub fn read_earlier<R: Files + AllocGlobal>(&self, rt: &R) -> Result<Vec<u8>, RunFault>
+        ensures fault { IfErr result IsFileFault }
+    {
         if fs::metadata(rt, self.path).is_err() {
             return Ok(Vec::new(rt.alloc()));
         }
@@ -66,7 +86,7 @@ impl<'a> WholePaths<'a> {
 /// A file that is whole at each moment. What cannot be written is told once and changes nothing
 /// else; the next text is tried again.
 #[derive(Drop)]
-pub struct WholeFile<'a, R: Files> {
+pub(crate) struct WholeFile<'a, R: Files> {
     /// Where files are.
     rt: &'a R,
     /// Where it is.
@@ -79,7 +99,7 @@ pub struct WholeFile<'a, R: Files> {
 
 impl<'a, R: Files> WholeFile<'a, R> {
     /// The file of these paths, which is none of the others. Nothing is written yet.
-    pub fn new(rt: &'a R, paths: WholePaths<'a>, others: [FileId; 2]) -> Self {
+    pub(crate) fn new(rt: &'a R, paths: WholePaths<'a>, others: [FileId; 2]) -> Self {
         WholeFile {
             rt,
             paths,
@@ -89,27 +109,27 @@ impl<'a, R: Files> WholeFile<'a, R> {
     }
 
     /// Where a first text goes, empty; none where it cannot be written.
-    pub fn try_begin(&self) -> Option<R::File> {
+    pub(crate) fn try_begin(&self) -> Option<R::File> {
         open_empty(self.rt, &self.paths.part, &self.others)
     }
 
     /// Puts a first text in its place; whether it could.
-    pub fn try_end(&self) -> bool {
+    pub(crate) fn try_end(&self) -> bool {
         fs::rename(self.rt, &self.paths.part, self.paths.path).is_ok()
     }
 
     /// Takes a first text away again; whether it could.
-    pub fn try_drop(&self) -> bool {
+    pub(crate) fn try_drop(&self) -> bool {
         fs::remove_file(self.rt, &self.paths.part).is_ok()
     }
 
     /// Takes a first text away that was put in its place; whether it could.
-    pub fn try_remove(&self) -> bool {
+    pub(crate) fn try_remove(&self) -> bool {
         fs::remove_file(self.rt, self.paths.path).is_ok()
     }
 
     /// Where the next text goes, empty; none where it cannot be written.
-    pub fn begin<E: Write>(&mut self, messages: &mut Messages<'_, E>) -> Option<R::File> {
+    pub(crate) fn begin<E: Write>(&mut self, messages: &mut Messages<'_, E>) -> Option<R::File> {
         let file = self.try_begin();
         if file.is_none() {
             self.fail(messages);
@@ -118,7 +138,7 @@ impl<'a, R: Files> WholeFile<'a, R> {
     }
 
     /// Puts the text that was written in its place; a broken one is taken away.
-    pub fn end<E: Write>(
+    pub(crate) fn end<E: Write>(
         &mut self,
         written: Result<(), WriteFault>,
         messages: &mut Messages<'_, E>,

@@ -1,0 +1,4 @@
+pub mod Files
+pub mod Keeper
+pub mod Vectors
+pub mod WholeFile

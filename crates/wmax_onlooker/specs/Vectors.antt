@@ -1,0 +1,6 @@
+-- Where a text for the file `best` is written.
+use Rattle.std.specs.Prelude.{◌≡◌, codes, refl}
+use Rattle.wmax_onlooker.specs.WholeFile.{part_path}
+
+part_of_best : part_path (codes "best") ≡ codes "best.part"
+part_of_best = refl

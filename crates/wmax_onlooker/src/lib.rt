@@ -1,0 +1,12 @@
+//! What is kept in files and told on standard error while a search runs: the best solution, the
+//! best lower bound, and how far the run is.
+#![tactic(auto)]
+
+pub mod bounding;
+pub mod file_id;
+pub mod files;
+pub mod keeper;
+pub mod onlooker;
+pub mod progress;
+pub mod standard_error;
+pub mod whole_file;
