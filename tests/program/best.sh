@@ -121,7 +121,7 @@ ok 'an output that fails at the second line: the cheaper solution' [ "$(sed -n 1
 ok 'an output that fails at the second line: a whole text' [ "$(sed -n 2p "$work/best")" = 's SATISFIABLE' ]
 
 # What is refused, and left as it was.
-refusal='error: --best names FILE, the certificate, or something other than a regular file'
+refusal='error: --best names another file of the run, or something other than a regular file'
 refused() { # NAME WORD..
     local name=$1
     shift

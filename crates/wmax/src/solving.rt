@@ -447,7 +447,7 @@ enum Refusal {
 fn refuse_best<E: Write>(messages: &mut Messages<'_, E>, refusal: Refusal) -> u8 {
     let (why, status) = match refusal {
         Refusal::Taken => (
-            "names FILE, the certificate, or something other than a regular file",
+            "names another file of the run, or something other than a regular file",
             2,
         ),
         Refusal::Other => ("names a file that is not a correct result for FILE", 2),
