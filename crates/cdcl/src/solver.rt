@@ -242,6 +242,18 @@ impl<S: Sink> Solver<S> {
         self.search.policy.weigh(lit.variable(), weight);
     }
 
+    /// A hint for the values of decisions, on which no answer depends: these are tried first, by
+    /// variable from 1, each until its variable has another. Variables without one keep theirs,
+    /// and values of no variable are passed over.
+    pub fn suggest(&mut self, values: &[bool])
+        ensures unchanged { self.new ≡ self.old }
+    {
+        if self.failed || self.refuted {
+            return;
+        }
+        self.search.suggest(values);
+    }
+
     /// Searches until it has an answer or the budget is spent. Each call begins at level 0, with
     /// what was learned before.
     ///

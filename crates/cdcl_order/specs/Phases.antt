@@ -1,5 +1,6 @@
 -- The values that are tried first.
 use Rattle.std.specs.Prelude.{ℕ, ◌+◌, ◌-◌, nat_le, false, true, Bool, ◌&&◌, not, List, replicate}
+use Rattle.std.specs.Prelude.{◌++◌, length, take, drop}
 use Rattle.std.specs.Prelude.{slice_index_or, slice_set, fold, if◌then◌else◌}
 use Rattle.cnf.specs.Literal.{Literal}
 use Rattle.cdcl_order.specs.Restarts.{at_most_64_bits}
@@ -33,6 +34,14 @@ with_value values l = slice_set values (l.variable - 1) (not l.negated)
 -- the values that make all of these literals true, and of the other variables those before
 abbrev pub values_under : List Bool → List Literal → List Bool
 values_under values trail = fold with_value values trail
+
+-- the values with these in front, as many of them as there is room for
+abbrev pub with_first : List Bool → List Bool → List Bool
+with_first values first = take (length values) first ++ drop (length first) values
+
+-- each variable that has a value among these, by variable from 1, tries it
+abbrev pub suggested : PhasesState → List Bool → PhasesState
+suggested p values = record p { last = with_first p.last values }
 
 -- each variable tries its value in this solution, whose literals are these
 abbrev pub solved : PhasesState → List Literal → PhasesState

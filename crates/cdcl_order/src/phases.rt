@@ -4,7 +4,7 @@
 // finds the next one mostly beside it.
 ghost use Rattle.std.specs.Prelude.{◌≡◌, ◌<◌, ◌≤◌, length, IfOk};
 ghost use Rattle.cdcl_order.specs.Phases.{first_phases, phase_of, with_value, solved, restarted};
-ghost use Rattle.cdcl_order.specs.Phases.{values_under};
+ghost use Rattle.cdcl_order.specs.Phases.{suggested, with_first, values_under};
 ghost use Rattle.cdcl_order.specs.Restarts.{one_more};
 
 use cnf::types::Lit;
@@ -83,6 +83,15 @@ impl Phases {
         self.last[(lit.variable() - 1) as usize] = !lit.is_negated();
     }
 
+    /// Takes these values over, by variable from 1. Variables without one keep theirs, and values
+    /// of no variable are passed over.
+    pub(crate) fn suggest(&mut self, values: &[bool])
+        ensures suggested { self.new ≡ suggested self.old values.now }
+        ensures long { length self.new.last ≡ length self.old.last }
+    {
+        set_first(&mut self.last, values);
+    }
+
     /// Keeps the values under which these literals are true as those of the best solution.
     pub(crate) fn keep_solution(&mut self, trail: &[Lit])
         ensures solved { self.new ≡ solved self.old trail.now }
@@ -124,4 +133,13 @@ fn set_values(values: &mut [bool], trail: &[Lit])
             values[(variable - 1) as usize] = !lit.is_negated();
         }
     }
+}
+
+/// Puts these values in front, as many of them as there is room for.
+fn set_first(values: &mut [bool], first: &[bool])
+    ensures values { values.new ≡ with_first values.old first.now }
+    ensures long { length values.new ≡ length values.old }
+{
+    let count = first.len().min(values.len());
+    values[..count].copy_from_slice(&first[..count]);
 }

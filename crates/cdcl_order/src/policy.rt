@@ -95,6 +95,14 @@ impl Policy {
         self.order.weigh(variable, weight);
     }
 
+    /// A hint: decisions try these values first, by variable from 1, until a variable has another.
+    /// Variables without one keep theirs, and values of no variable are passed over.
+    pub fn suggest(&mut self, values: &[bool])
+        ensures { self.new ≡ self.old }
+    {
+        self.phases.suggest(values);
+    }
+
     /// A search begins.
     pub fn begin(&mut self)
         ensures { self.new ≡ record self.old { has_learned = false } }

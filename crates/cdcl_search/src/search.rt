@@ -137,6 +137,19 @@ impl Search {
         self.policy.begin();
     }
 
+    /// Decisions try these values first, by variable from 1, until a variable has another. It goes
+    /// back to level 0, since each value that is undone is tried first from then on.
+    pub fn suggest(&mut self, values: &[bool])
+        requires { IsReady self.old }
+        ensures runs { KeepsRunning self.old self.new }
+        ensures ready { IsReady self.new }
+        ensures trail { self.new.engine.trail ≡ kept_to 0 self.old.engine.trail }
+        ensures engine { EngineMoves self.old self.new }
+    {
+        self.backtrack(0);
+        self.policy.suggest(values);
+    }
+
     /// Starts over from this level, or goes on from the current one where that is lower.
     pub fn start_over(&mut self, level: usize)
         requires { IsReady self.old }
