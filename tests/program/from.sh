@@ -122,6 +122,26 @@ done
 out=$(cd "$work" && timeout 60 "$wmax" solve --from <(cat best) <(cat text) 2>&1)
 ok 'from pipes' [ "$?" = 30 -a "$(head -n 2 <<< "$out" | paste -sd ' ')" = 'o 3 s OPTIMUM FOUND' ]
 
+# The values that are given are tried first: another solution of the same cost, another certificate. If the soft clause holds,
+# seven pigeons have six holes.
+awk 'BEGIN {
+    for (p = 0; p < 7; p++) {
+        clause = "h -43"
+        for (h = 1; h <= 6; h++) clause = clause " " 6 * p + h
+        print clause " 0"
+        for (q = 0; q < p; q++) for (h = 1; h <= 6; h++) print "h -43 -" 6 * p + h " -" 6 * q + h " 0"
+    }
+    print "1 43 0"
+}' > "$work/text"
+for bit in 0 1; do
+    printf 'o 1\ns SATISFIABLE\nv %s0\n' "$(printf '%42s' '' | tr ' ' $bit)" > "$work/from"
+    call solve --from from --proof proof$bit text
+    printf '%s\n' "$out" > "$work/result"
+    call check text result proof$bit
+    expect "values to begin with, all $bit" 0 YES ''
+done
+ok 'values to begin with: each are tried first' [ "$(cmp -s "$work/proof0" "$work/proof1"; echo $?)" = 1 ]
+
 # Random instances, from a first solution: the cost of a plain run, and the certificate checks.
 awk -v dir="$work" -v count=60 -f tests/program/random.awk > "$work/wanted"
 wrong=0

@@ -123,6 +123,13 @@ impl Bounds {
         Ok(())
     }
 
+    /// The values of a solution, by variable from 1, are tried first from now on.
+    pub fn suggest(&mut self, bits: &[bool])
+        ensures { self.new ≡ self.old }
+    {
+        self.solver.suggest(bits);
+    }
+
     /// Looks for a solution below the last bound.
     pub fn solve<W: Watch>(
         &mut self,

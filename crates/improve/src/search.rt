@@ -101,7 +101,9 @@ pub fn improve_watched<T: Progress, W: Watch>(
         Ok(Outcome::Sat(bits)) => {
             let first = price_polished(instance, bits);
             let hard = solver.into_sink();
-            lower(instance, budget, progress, profile, watch, hard, first)
+            lower(
+                instance, budget, progress, profile, watch, hard, first, false,
+            )
         }
         Ok(Outcome::Unsat) => {
             let clauses = solver.given().len() as u64;
@@ -116,7 +118,8 @@ pub fn improve_watched<T: Progress, W: Watch>(
 /// As `improve_watched`, but the first solution is given: the bits satisfy the hard clauses, and
 /// there may be more of them than variables. It is made cheaper by the local search, told for one
 /// unit of the budget, and never dearer than what was given. No solution of the hard clauses is
-/// searched for, so their log is empty. Where nothing is left of the budget, nothing is found.
+/// searched for, so their log is empty. The search below its cost tries its values first. Where
+/// nothing is left of the budget, nothing is found.
 ///
 /// # Errors
 ///
@@ -142,7 +145,9 @@ pub fn improve_from<T: Progress, W: Watch>(
     }
     let first = price_polished(instance, bits);
     budget.count_answer();
-    lower(instance, budget, progress, profile, watch, hard, first)
+    lower(
+        instance, budget, progress, profile, watch, hard, first, true,
+    )
 }
 
 /// The work of a search that has met no bound yet. The log is that of the hard clauses.
@@ -171,7 +176,8 @@ fn make_hard_solver(instance: &Instance) -> Result<Solver<Log>, AllocError>
 }
 
 /// Goes on from a solution that was not told yet. It is told before anything of a bound is built:
-/// that takes time and memory, and may fail. The log is that of the hard clauses.
+/// that takes time and memory, and may fail. The log is that of the hard clauses. `is_given` says
+/// whether the solution was given and not searched for.
 fn lower<T: Progress, W: Watch>(
     instance: &Instance,
     budget: &mut Budget,
@@ -180,6 +186,7 @@ fn lower<T: Progress, W: Watch>(
     watch: &mut W,
     hard: Log,
     first: Solution,
+    is_given: bool,
 ) -> Result<Found, ImproveFault>
     requires failures { (T.state progress.old).failures < 2 ^ 62 }
     requires solution { IsSolution instance.now first.bits.items first.cost }
@@ -203,7 +210,9 @@ fn lower<T: Progress, W: Watch>(
         earlier: Vec::new(instance.allocator()),
     };
     let work = begin_work(instance, hard);
-    go_on(instance, budget, progress, profile, watch, standing, work)
+    go_on(
+        instance, budget, progress, profile, watch, standing, work, is_given,
+    )
 }
 
 /// Goes on from a solution that was told: in `Profile::Five`, and where lower bounds are wanted,
@@ -216,6 +225,7 @@ fn go_on<T: Progress, W: Watch>(
     watch: &mut W,
     standing: Standing,
     work: Work,
+    is_given: bool,
 ) -> Result<Found, ImproveFault>
     requires failures { (T.state progress.old).failures < 2 ^ 62 }
     requires standing { IsStanding instance.now standing }
@@ -227,9 +237,13 @@ fn go_on<T: Progress, W: Watch>(
         budget.old budget.new standing (work_count work) }
 {
     if profile == Profile::Five || watch.wants_bounds() {
-        lower_by_cores(instance, budget, progress, profile, watch, standing, work)
+        lower_by_cores(
+            instance, budget, progress, profile, watch, standing, work, is_given,
+        )
     } else {
-        lower_by_bounds(instance, budget, progress, profile, watch, standing, work)
+        lower_by_bounds(
+            instance, budget, progress, profile, watch, standing, work, is_given,
+        )
     }
 }
 
@@ -242,6 +256,7 @@ fn lower_by_cores<T: Progress, W: Watch>(
     watch: &mut W,
     standing: Standing,
     work: Work,
+    is_given: bool,
 ) -> Result<Found, ImproveFault>
     requires failures { (T.state progress.old).failures < 2 ^ 62 }
     requires standing { IsStanding instance.now standing }
@@ -257,12 +272,15 @@ fn lower_by_cores<T: Progress, W: Watch>(
     let (best, rest) = (&mut standing, &mut work);
     match refute_by_cores(instance, budget, progress, profile, watch, best, rest)? {
         Some(by_cores) => Ok(conclude_cores(instance, standing.best, by_cores)),
-        None => lower_by_bounds(instance, budget, progress, profile, watch, standing, work),
+        None => lower_by_bounds(
+            instance, budget, progress, profile, watch, standing, work, is_given,
+        ),
     }
 }
 
 /// Goes on by bounds. They are given all costs that were told so far, in their order, as if they
-/// had been met below bounds.
+/// had been met below bounds. Where the search was given a solution, the values of the best one so
+/// far are tried first.
 fn lower_by_bounds<T: Progress, W: Watch>(
     instance: &Instance,
     budget: &mut Budget,
@@ -271,6 +289,7 @@ fn lower_by_bounds<T: Progress, W: Watch>(
     watch: &mut W,
     standing: Standing,
     work: Work,
+    is_given: bool,
 ) -> Result<Found, ImproveFault>
     requires failures { (T.state progress.old).failures < 2 ^ 62 }
     requires standing { IsStanding instance.now standing }
@@ -283,6 +302,9 @@ fn lower_by_bounds<T: Progress, W: Watch>(
     let Ok(mut bounds) = make_bounds(instance, profile, &standing.earlier) else {
         return Err(ImproveFault::Memory);
     };
+    if is_given {
+        bounds.suggest(&standing.best.bits);
+    }
     tighten(
         instance,
         budget,

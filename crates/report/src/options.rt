@@ -247,10 +247,11 @@ first written to PATH.part, here and for --best";
 const FROM_HELP: &str = "\
 Begins with the solution in RESULT, perhaps one of another solver. Its
 cost or a lower one is the first o line, which takes one unit of the
-effort. If RESULT is not right for FILE, the fault that check would
-report is printed, and there is no search. A RESULT without a solution
-(UNKNOWN, UNSATISFIABLE) is passed over. If --best has a cheaper
-solution, the search begins with that one";
+effort. The search below that tries its values first. If RESULT is not
+right for FILE, the fault that check would report is printed, and
+there is no search. A RESULT without a solution (UNKNOWN,
+UNSATISFIABLE) is passed over. If --best has a cheaper solution, the
+search begins with that one";
 
 const PROGRESS_HELP: &str = "\
 Shows on standard error how far the search is: a line at each better
