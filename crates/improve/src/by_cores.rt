@@ -29,7 +29,7 @@ use improve_trials::rounds::{self, Aim};
 use std::alloc::AllocError;
 
 /// The search for cores learns so many clauses at most, and no more than half of what is left,
-const SHARE: u64 = 60_000;
+const SHARE: u64 = 120_000;
 
 /// or so many, where lower bounds are wanted.
 const LONG_SHARE: u64 = 150_000;
@@ -109,6 +109,9 @@ fn search_cores<T: Progress, W: Watch>(
     let Ok(mut search) = CoreSearch::new(instance, share, reserve_of(instance)) else {
         return Ok(None);
     };
+    if !wants_bounds {
+        search.may_give_up(instance);
+    }
     match close_gap(instance, budget, progress, watch, standing, &mut search) {
         Ok(is_closed) => {
             let counted = take_cores(instance, &search, is_closed | wants_bounds);

@@ -7,6 +7,7 @@ pub mod counted;
 pub mod counting_solver;
 mod found;
 pub mod frozen;
+mod giving_up;
 mod items;
 pub mod searching;
 mod shortening;

@@ -34,6 +34,7 @@ use crate::checked::{at, narrow};
 use crate::counted::{Counted, count_found};
 use crate::counting_solver::CountingSolver;
 use crate::found::FoundCore;
+use crate::giving_up::Outlook;
 use crate::items::{Items, Origin};
 use crate::shortening::{push_negated, shorten, variables_of};
 use crate::trees::{Growth, Trees};
@@ -93,6 +94,8 @@ struct Policy {
     is_stale: bool,
     // How many clauses it may learn still.
     share: u64,
+    // Whether it is worth going on.
+    outlook: Outlook,
 }
 
 impl Model for CoreSearch {
@@ -133,9 +136,18 @@ impl CoreSearch {
                 lower: 0,
                 is_stale: true,
                 share,
+                outlook: Outlook::endless(),
             },
             assumptions: Vec::new(alloc),
         })
+    }
+
+    /// From now on the search may be over before its share is spent, where the cores are not worth
+    /// enough in time.
+    pub fn may_give_up(&mut self, instance: &Instance)
+        ensures { self.new ≡ self.old }
+    {
+        self.policy.outlook = Outlook::watched(instance.soft().len());
     }
 
     /// What was given and learned, where the instance has a solution.
@@ -179,7 +191,7 @@ impl CoreSearch {
             if self.policy.lower >= best {
                 return Ok(Event::Closed);
             }
-            if self.policy.share == 0 {
+            if self.policy.share == 0 || !self.policy.goes_on(best) {
                 return Ok(Event::Over);
             }
             match self.step(budget, watch)? {
@@ -200,7 +212,7 @@ impl CoreSearch {
         let before = budget.learned();
         self.policy.assume_stratum(&mut self.assumptions)?;
         let share = Share {
-            learned: self.policy.share,
+            learned: self.policy.share.min(self.policy.outlook.until_look()),
             decisions: u64::MAX,
         };
         let room = self.assumptions.len().saturating_mul(PASSED);
@@ -225,6 +237,7 @@ impl CoreSearch {
                 self.give()?;
                 Ok(Step::On)
             }
+            Assumed::Open if self.policy.outlook.until_look() == 0 => Ok(Step::On),
             Assumed::Unsat | Assumed::Open | Assumed::Limit => Ok(Step::Over),
         }
     }
@@ -319,6 +332,12 @@ impl Policy {
     /// So many clauses were learned.
     fn spend(&mut self, learned: u64) {
         self.share = self.share.saturating_sub(learned);
+        self.outlook.spend(learned);
+    }
+
+    /// Whether it is worth going on, where the best solution costs so much.
+    fn goes_on(&mut self, best: u64) -> bool {
+        self.outlook.goes_on(self.lower, best)
     }
 
     /// A core's weight is taken from its inputs. Where that cannot be, the search is over.
