@@ -302,9 +302,7 @@ fn lower_by_bounds<T: Progress, W: Watch>(
     let Ok(mut bounds) = make_bounds(instance, profile, &standing.earlier) else {
         return Err(ImproveFault::Memory);
     };
-    if is_given {
-        bounds.suggest(&standing.best.bits);
-    }
+    suggest_given(&mut bounds, &standing.best, is_given);
     tighten(
         instance,
         budget,
@@ -314,6 +312,15 @@ fn lower_by_bounds<T: Progress, W: Watch>(
         standing.best,
         work,
     )
+}
+
+/// The values of the best solution are tried first, where the search was given a solution.
+fn suggest_given(bounds: &mut Bounds, best: &Solution, is_given: bool)
+    ensures { bounds.new ≡ bounds.old }
+{
+    if is_given {
+        bounds.suggest(&best.bits);
+    }
 }
 
 /// The bounds for these costs.

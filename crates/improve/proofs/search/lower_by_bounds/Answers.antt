@@ -19,8 +19,9 @@ returns-in_default-clause-ends g c =
 
 pub tighten-requires-clause-standing : goal.tighten-requires-clause-standing
 tighten-requires-clause-standing g c =
+    rw c.suggest_given.ensures (
     same_standing c.args.instance.now c.args.standing c.in-Ok.bounds.costs
-    (c.in-Ok.ensures.costs ∙ c.deref.ensures.value) c.requires.standing
+    (c.in-Ok.ensures.costs ∙ c.deref.ensures.value) c.requires.standing)
 
 pub returns-clause-ends : goal.returns-clause-ends
 returns-clause-ends g c =
@@ -31,4 +32,4 @@ returns-clause-ends g c =
     (record { best = first; earlier = c.in-Ok.bounds.costs }) (work_count c.args.work)
     c.in-Ok.ensures.profile
     (ap (λ cs. cs ++ first.cost ∷ []) (c.in-Ok.ensures.costs ∙ c.deref.ensures.value))
-    c.tighten.ensures.ends
+    (rw c.suggest_given.ensures at c.tighten.ensures.ends)
