@@ -60,7 +60,7 @@ pub(crate) fn make_trial<W: Watch>(
     instance.limits();
     let weight = counted.counter.weight();
     let worth = weight.min(aim.best);
-    if worth == 0 || (worth < aim.best && !aim.is_partial) {
+    if worth <= aim.above || (worth < aim.best && !aim.is_partial) {
         return Ok(None);
     }
     let Ok(mut refutation) = Refutation::new(instance, counted) else {
