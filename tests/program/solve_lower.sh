@@ -158,7 +158,7 @@ ok "at least: $out of $cost" [ "$status" = 0 -a "${out#at least }" -gt 0 -a "${o
 # While a search goes on, a better bound replaces the first one.
 awk -v family=set_cover -v size=120 -v seed=1 -f bench/maxsat.awk > "$work/text"
 rm -f "$work/bound"
-(cd "$work" && exec timeout 600 "$wmax" solve --lower bound text > /dev/null 2>&1) &
+(cd "$work" && exec "$wmax" solve --lower bound text > /dev/null 2>&1) &
 runner=$!
 first='' last=''
 for moment in $(seq 1 3000); do
