@@ -107,7 +107,7 @@ fn run_stages<T: Progress, W: Watch>(
     ensures follows { (first : T) → T.follows first progress.old → T.follows first progress.new }
     ensures work { OnOk result (IsEarlyWork instance.now work.new) }
     ensures same { OnOk result (work.new.search ≡ work.old.search) }
-    ensures search { OnOk result (IsSearchFor instance.now search.new) }
+    ensures search { IsSearchFor instance.now search.new }
     ensures proof { IfOk result
         (λ f. IfSome f (IsCoreProof instance.now standing.new.best.cost)) }
     ensures profile { IfOk result (λ f. IfSome f (λ _. profile ≡ Profile.Five)) }
@@ -155,7 +155,7 @@ fn run_stage<T: Progress, W: Watch>(
     ensures follows { (first : T) → T.follows first progress.old → T.follows first progress.new }
     ensures work { OnOk result (IsEarlyWork instance.now work.new) }
     ensures same { OnOk result (work.new.search ≡ work.old.search) }
-    ensures search { OnOk result (IsSearchFor instance.now search.new) }
+    ensures search { IsSearchFor instance.now search.new }
     ensures proof { IfOk result
         (λ f. IfSome f (IsCoreProof instance.now standing.new.best.cost)) }
     ensures profile { IfOk result (λ f. IfSome f (λ _. profile ≡ Profile.Five)) }

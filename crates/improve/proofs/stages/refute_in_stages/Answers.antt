@@ -1,6 +1,5 @@
 -- What the search for cores has learned is part of the work.
-use Rattle.std.proofs.Common.{arith}
-use Rattle.std.proofs.lemmas.Result.{IfOk-weaker}
+use Rattle.std.proofs.Common.{◌∙◌, arith}
 use Rattle.cnf.specs.Bits.{assignment_of}
 use Rattle.cnf.proofs.Laws.{extends_own}
 use Rattle.improve.specs.Improving.{work_count}
@@ -18,6 +17,9 @@ keep_search-requires-clause-feasible g c =
       assignment_of bits,
       (c.requires.standing.solution.1 (assignment_of bits) (extends_own bits)).0,
     )
+
+pub keep_search-requires-clause-none : goal.keep_search-requires-clause-none
+keep_search-requires-clause-none g c = c.in-Ok-run_stages.ensures.same ∙ c.requires.none.0
 
 pub returns-in-Ok-run_stages-clause-goes_on : goal.returns-in-Ok-run_stages-clause-goes_on
 returns-in-Ok-run_stages-clause-goes_on g c =
