@@ -96,19 +96,6 @@ module _ (p : Problem) (old mid new : Telling) (had between left : BudgetState) 
       learned = omega (arith, a.learned, b.learned);
     }
 
-    -- where other lines are counted in the second part
-    pub goes_beside : (x y v w m n : ℕ) → GoesOn p old mid had between s t x y
-        → GoesOn p mid new between left t u v w → n + x + v ≡ m + y + w
-        → GoesOn p old new had left s u m n
-    goes_beside x y v w m n a b e = record {
-      standing = b.standing;
-      told = λ earlier h. b.told earlier (a.told earlier h);
-      failures = b.failures ∙ a.failures;
-      limit = b.limit ∙ a.limit;
-      answers = omega (arith, a.answers, b.answers);
-      learned = omega (arith, a.learned, b.learned, e);
-    }
-
 module _ (p : Problem) (old mid new : Telling) (had between left : BudgetState) (s t : Standing)
     (x y : ℕ) (a : GoesOn p old mid had between s t x y) where
   pub fails_after : (e : ImproveFault) → Fails p e mid new between left t

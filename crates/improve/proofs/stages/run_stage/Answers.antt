@@ -3,7 +3,8 @@ use Rattle.std.proofs.Common.{◌+◌, arith, ap, sym, subst}
 use Rattle.std.proofs.lemmas.Result.{err_from_is_err_and, IfOk-weaker, IfErr-weaker}
 use Rattle.lrat_log.specs.Steps.{learned_count}
 use Rattle.improve_cores.specs.CoreWork.{CoreWork, IsSearchFor}
-use Rattle.improve.proofs.Standings.{goes_beside, goes_same, fails_after}
+use Rattle.improve.proofs.Standings.{goes_same, fails_after}
+use Rattle.improve.proofs.StageEnds.{goes_beside}
 use Rattle.improve.proofs.stages.run_stage.Goals as goal
 
 pub close_gap-requires-clause-search : goal.close_gap-requires-clause-search
