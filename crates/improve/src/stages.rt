@@ -1,6 +1,6 @@
 //! The way by cores where lower bounds are wanted: the search for cores stops now and then, and
-//! what its cores are worth so far is proved before it goes on. So a bound is there soon, and better
-//! ones come later.
+//! what its cores are worth so far is proved before it goes on. So a bound is there soon, and
+//! better ones come later.
 ghost use Rattle.std.specs.Prelude.{◌≡◌, ℕ, ◌+◌, ◌<◌, ◌^◌};
 ghost use Rattle.std.specs.Prelude.{IfOk, IfErr, IfSome, OnOk};
 ghost use Rattle.cnf.specs.Literal.{Assignment};
