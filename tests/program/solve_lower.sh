@@ -155,6 +155,24 @@ cost=$(sed -n 's/^o //p' <<< "$out" | tail -n 1)
 call lower text bound
 ok "at least: $out of $cost" [ "$status" = 0 -a "${out#at least }" -gt 0 -a "${out#at least }" -lt "$cost" ]
 
+# While a search goes on, a better bound replaces the first one.
+awk -v family=set_cover -v size=120 -v seed=1 -f bench/maxsat.awk > "$work/text"
+rm -f "$work/bound"
+(cd "$work" && exec "$wmax" solve --lower bound text > /dev/null 2>&1) &
+runner=$!
+first='' last=''
+for moment in $(seq 1 3000); do
+    sleep 0.1
+    [ -e "$work/bound" ] || continue
+    call lower text bound
+    last=$out
+    [ -n "$first" ] || first=$last
+    [ "$last" = "$first" ] || break
+done
+kill -KILL $runner 2> /dev/null
+wait $runner 2> /dev/null
+ok "first '$first', then '$last'" [ "${last#at least }" -gt "${first#at least }" ]
+
 # Killed at forty moments, PATH has what was there or a whole certificate.
 awk -v family=package_choice -v size=120 -v seed=1 -f bench/maxsat.awk > "$work/text"
 whole=0

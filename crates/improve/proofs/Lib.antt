@@ -12,6 +12,7 @@ mod AtZero
 mod SearchEnds
 mod HardEnds
 mod Lowering
+mod StageEnds
 mod Standings
 mod CoreEnds
 pub mod Laws

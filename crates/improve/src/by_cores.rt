@@ -1,6 +1,6 @@
 //! The way by cores: a core-guided search whose lower bound meets the best solution, and then a
 //! refutation by the cores. Where it does not end within its share of the effort, the search goes
-//! on by bounds; who wants lower bounds is shown the one that the cores prove.
+//! on by bounds. Where lower bounds are wanted the two take turns: see `stages`.
 ghost use Rattle.std.specs.Prelude.{◌≡◌, ℕ, ◌+◌, ◌<◌, ◌≤◌, ◌^◌, [], None};
 ghost use Rattle.std.specs.Prelude.{IfOk, IfErr, IfSome, OnOk};
 ghost use Rattle.cnf.specs.Literal.{Assignment};
@@ -17,6 +17,7 @@ use crate::found::{ImproveFault, Work};
 use crate::progress::Progress;
 use crate::search::tell;
 use crate::solutions::price;
+use crate::stages::refute_in_stages;
 use crate::standing::Standing;
 use crate::watch::Watch;
 use adder::cells::Profile;
@@ -28,11 +29,8 @@ use improve_trials::found::{Attempt, ByCores};
 use improve_trials::rounds::{self, Aim};
 use std::alloc::AllocError;
 
-/// The search for cores learns so many clauses at most, and no more than half of what is left,
+/// The search for cores learns so many clauses at most, and no more than half of what is left.
 const SHARE: u64 = 120_000;
-
-/// or so many, where lower bounds are wanted.
-const LONG_SHARE: u64 = 150_000;
 
 /// So many variables are reserved for each soft clause,
 const RESERVED_EACH: usize = 4;
@@ -71,16 +69,49 @@ pub fn refute_by_cores<T: Progress, W: Watch>(
         (T.state progress.old) (T.state progress.new)
         budget.old budget.new standing.old) }
 {
+    if watch.wants_bounds() {
+        refute_in_stages(instance, budget, progress, profile, watch, standing, work)
+    } else {
+        refute_at_once(instance, budget, progress, profile, watch, standing, work)
+    }
+}
+
+/// As `refute_by_cores`, where no other bound is wanted than what the best solution costs.
+fn refute_at_once<T: Progress, W: Watch>(
+    instance: &Instance,
+    budget: &mut Budget,
+    progress: &mut T,
+    profile: Profile,
+    watch: &mut W,
+    standing: &mut Standing,
+    work: &mut Work,
+) -> Result<Option<ByCores>, ImproveFault>
+    requires failures { (T.state progress.old).failures < 2 ^ 62 }
+    requires standing { IsStanding instance.now standing.old }
+    requires work { IsEarlyWork instance.now work.old }
+    requires none { HasNoCores work.old }
+    ensures follows { (first : T) → T.follows first progress.old → T.follows first progress.new }
+    ensures work { OnOk result (IsEarlyWork instance.now work.new) }
+    ensures proof { IfOk result
+        (λ f. IfSome f (IsCoreProof instance.now standing.new.best.cost)) }
+    ensures profile { IfOk result (λ f. IfSome f (λ _. profile ≡ Profile.Five)) }
+    ensures goes_on { IfOk result (λ f. GoesOn instance.now
+        (T.state progress.old) (T.state progress.new)
+        budget.old budget.new standing.old standing.new
+        (work_count work.old) (work_count work.new + by_cores_count f)) }
+    ensures fault { IfErr result (λ e. Fails instance.now e
+        (T.state progress.old) (T.state progress.new)
+        budget.old budget.new standing.old) }
+{
     match search_cores(instance, budget, progress, watch, standing, work)? {
         Some(counted) => refute(
-            instance, budget, progress, profile, watch, standing, work, counted,
+            instance, budget, progress, profile, watch, standing, work, counted, &mut 0,
         ),
         None => Ok(None),
     }
 }
 
-/// Looks for cores that are worth what the best solution costs, or for any where lower bounds are
-/// wanted.
+/// Looks for cores that are worth what the best solution costs.
 fn search_cores<T: Progress, W: Watch>(
     instance: &Instance,
     budget: &mut Budget,
@@ -104,17 +135,14 @@ fn search_cores<T: Progress, W: Watch>(
         (T.state progress.old) (T.state progress.new)
         budget.old budget.new standing.old) }
 {
-    let wants_bounds = watch.wants_bounds();
-    let share = share_of(budget, wants_bounds);
+    let share = SHARE.min(budget.left() / 2);
     let Ok(mut search) = CoreSearch::new(instance, share, reserve_of(instance)) else {
         return Ok(None);
     };
-    if !wants_bounds {
-        search.may_give_up(instance);
-    }
+    search.may_give_up(instance);
     match close_gap(instance, budget, progress, watch, standing, &mut search) {
         Ok(is_closed) => {
-            let counted = take_cores(instance, &search, is_closed | wants_bounds);
+            let counted = take_cores(instance, &search, is_closed);
             keep_search(instance, search, work);
             Ok(counted)
         }
@@ -126,25 +154,19 @@ fn search_cores<T: Progress, W: Watch>(
 }
 
 /// What the search was given and learned is part of the work.
-fn keep_search(instance: &Instance, search: CoreSearch, work: &mut Work)
+pub(crate) fn keep_search(instance: &Instance, search: CoreSearch, work: &mut Work)
     requires search { IsSearchFor instance.now search }
     requires feasible { (t : Assignment) × IsFeasible instance.now t }
     requires work { IsEarlyWork instance.now work.old }
-    requires none { HasNoCores work.old }
+    requires none { work.old.search ≡ None }
     ensures work { IsEarlyWork instance.now work.new }
     ensures count { work_count work.new ≡ work_count work.old + learned_count search.lines }
 {
     work.search = Some(search.into_work(instance));
 }
 
-/// So many clauses the search for cores may learn.
-fn share_of(budget: &Budget, wants_bounds: bool) -> u64 {
-    let share = if wants_bounds { LONG_SHARE } else { SHARE };
-    share.min(budget.left() / 2)
-}
-
 /// So many variables are reserved to count with.
-fn reserve_of(instance: &Instance) -> u32
+pub(crate) fn reserve_of(instance: &Instance) -> u32
     ensures { result ≤ 2 ^ 20 }
 {
     let wanted = instance.soft().len().saturating_mul(RESERVED_EACH);
@@ -152,7 +174,11 @@ fn reserve_of(instance: &Instance) -> u32
 }
 
 /// The cores of a search, if they are wanted.
-fn take_cores(instance: &Instance, search: &CoreSearch, are_wanted: bool) -> Option<Counted>
+pub(crate) fn take_cores(
+    instance: &Instance,
+    search: &CoreSearch,
+    are_wanted: bool,
+) -> Option<Counted>
     ensures { IfSome result (AreRightCores instance.now) }
 {
     if !are_wanted {
@@ -166,7 +192,7 @@ fn take_cores(instance: &Instance, search: &CoreSearch, are_wanted: bool) -> Opt
 
 /// Goes on until the cores are worth what the best solution costs; solutions that are met and are
 /// cheaper are told. Answers whether the cores are worth enough.
-fn close_gap<T: Progress, W: Watch>(
+pub(crate) fn close_gap<T: Progress, W: Watch>(
     instance: &Instance,
     budget: &mut Budget,
     progress: &mut T,
@@ -238,8 +264,9 @@ fn note_model<T: Progress, W: Watch>(
     Ok(())
 }
 
-/// A refutation by these cores. A solution that it meets is told.
-fn refute<T: Progress, W: Watch>(
+/// A refutation by these cores that shows more than `shown`, the bound that was shown last. A
+/// solution that it meets is told.
+pub(crate) fn refute<T: Progress, W: Watch>(
     instance: &Instance,
     budget: &mut Budget,
     progress: &mut T,
@@ -248,6 +275,7 @@ fn refute<T: Progress, W: Watch>(
     standing: &mut Standing,
     work: &mut Work,
     counted: Counted,
+    shown: &mut u64,
 ) -> Result<Option<ByCores>, ImproveFault>
     requires failures { (T.state progress.old).failures < 2 ^ 62 }
     requires standing { IsStanding instance.now standing.old }
@@ -255,6 +283,7 @@ fn refute<T: Progress, W: Watch>(
     requires cores { AreRightCores instance.now counted }
     ensures follows { (first : T) → T.follows first progress.old → T.follows first progress.new }
     ensures work { OnOk result (IsEarlyWork instance.now work.new) }
+    ensures search { OnOk result (work.new.search ≡ work.old.search) }
     ensures proof { IfOk result
         (λ f. IfSome f (IsCoreProof instance.now standing.new.best.cost)) }
     ensures profile { IfOk result (λ f. IfSome f (λ _. profile ≡ Profile.Five)) }
@@ -269,6 +298,7 @@ fn refute<T: Progress, W: Watch>(
     let aim = Aim {
         best: standing.best.cost,
         is_partial: watch.wants_bounds(),
+        above: *shown,
     };
     let Ok(attempt) = rounds::refute(instance, aim, counted, &mut work.tried, budget, watch) else {
         return Err(ImproveFault::Memory);
@@ -281,6 +311,7 @@ fn refute<T: Progress, W: Watch>(
         }
         Attempt::Refuted(by_cores) => {
             let best = standing.best.cost;
+            *shown = by_cores.worth;
             let Ok(proof) = end_refutation(instance, profile, watch, best, work, by_cores) else {
                 return Err(ImproveFault::Memory);
             };
@@ -306,6 +337,7 @@ fn end_refutation<W: Watch>(
     requires work { IsEarlyWork instance.now work.old }
     requires shown { IsShown instance.now by_cores }
     ensures work { OnOk result (IsEarlyWork instance.now work.new) }
+    ensures search { OnOk result (work.new.search ≡ work.old.search) }
     ensures proof { IfOk result (λ f. IfSome f (IsCoreProof instance.now best)) }
     ensures profile { IfOk result (λ f. IfSome f (λ _. profile ≡ Profile.Five)) }
     ensures count { IfOk result (λ f. work_count work.new + by_cores_count f

@@ -96,6 +96,10 @@ struct Policy {
     share: u64,
     // Whether it is worth going on.
     outlook: Outlook,
+    // After so many clauses without a core or a model a stratum is left for the next lower one.
+    patience: u64,
+    // Whether no further core can be looked for.
+    is_over: bool,
 }
 
 impl Model for CoreSearch {
@@ -137,6 +141,8 @@ impl CoreSearch {
                 is_stale: true,
                 share,
                 outlook: Outlook::endless(),
+                patience: u64::MAX,
+                is_over: false,
             },
             assumptions: Vec::new(alloc),
         })
@@ -148,6 +154,15 @@ impl CoreSearch {
         ensures { self.new ≡ self.old }
     {
         self.policy.outlook = Outlook::watched(instance.soft().len());
+    }
+
+    /// Lets it learn about `more` clauses more. From now on it leaves a stratum in which it learned
+    /// about `patience` clauses without a core or a model for the next lower one: there more is
+    /// assumed, so cores are found sooner, and are worth less.
+    pub fn allow(&mut self, more: u64, patience: u64)
+        ensures { self.new ≡ self.old }
+    {
+        self.policy.allow(more, patience);
     }
 
     /// What was given and learned, where the instance has a solution.
@@ -211,10 +226,7 @@ impl CoreSearch {
     {
         let before = budget.learned();
         self.policy.assume_stratum(&mut self.assumptions)?;
-        let share = Share {
-            learned: self.policy.share.min(self.policy.outlook.until_look()),
-            decisions: u64::MAX,
-        };
+        let share = self.policy.part();
         let room = self.assumptions.len().saturating_mul(PASSED);
         let mut passed = Passed::new(self.solver.allocator(), room);
         let found = self
@@ -238,6 +250,11 @@ impl CoreSearch {
                 Ok(Step::On)
             }
             Assumed::Open if self.policy.outlook.until_look() == 0 => Ok(Step::On),
+            Assumed::Open if self.policy.may_leave() => {
+                self.policy.leave_stratum()?;
+                self.give()?;
+                Ok(Step::On)
+            }
             Assumed::Unsat | Assumed::Open | Assumed::Limit => Ok(Step::Over),
         }
     }
@@ -290,7 +307,7 @@ impl CoreSearch {
         ensures { GivesOnly self.old self.new }
     {
         if !self.solver.give(&mut self.policy.trees.clauses)? {
-            self.policy.share = 0;
+            self.policy.end();
         }
         Ok(())
     }
@@ -329,6 +346,53 @@ impl Policy {
             .all(|lit| self.items.rest(lit.variable()) >= self.threshold)
     }
 
+    /// What one search of a stratum may learn.
+    fn part(&self) -> Share {
+        let most = self.share.min(self.outlook.until_look());
+        let learned = if self.can_leave() {
+            most.min(self.patience)
+        } else {
+            most
+        };
+        Share {
+            learned,
+            decisions: u64::MAX,
+        }
+    }
+
+    /// Whether more could be assumed: in a lower stratum, or outputs of cores that wait for them.
+    fn can_leave(&self) -> bool {
+        self.patience < u64::MAX && (self.threshold > 1 || !self.pending.is_empty())
+    }
+
+    /// Whether a stratum in which nothing was found is left, and not the search.
+    fn may_leave(&self) -> bool {
+        self.share > 0 && self.can_leave()
+    }
+
+    /// Goes on as after a model. In the lowest stratum of all it stays.
+    fn leave_stratum(&mut self) -> Result<(), AllocError> {
+        if self.pending.is_empty() && self.items.greatest_below(self.threshold) == 0 {
+            self.threshold = 1;
+            return Ok(());
+        }
+        self.after_model()
+    }
+
+    /// It may learn so many clauses more, unless it is over.
+    fn allow(&mut self, more: u64, patience: u64) {
+        self.patience = patience;
+        if !self.is_over {
+            self.share = self.share.saturating_add(more);
+        }
+    }
+
+    /// No further core can be looked for.
+    fn end(&mut self) {
+        self.is_over = true;
+        self.share = 0;
+    }
+
     /// So many clauses were learned.
     fn spend(&mut self, learned: u64) {
         self.share = self.share.saturating_sub(learned);
@@ -344,7 +408,7 @@ impl Policy {
     fn add_core(&mut self, core: Vec<u32>) -> Result<(), AllocError> {
         let weight = self.weight_of(&core);
         if weight == 0 {
-            self.share = 0;
+            self.end();
             return Ok(());
         }
         self.lower = self.lower.saturating_add(weight);
@@ -397,7 +461,7 @@ impl Policy {
         };
         found.root = Some(root);
         if self.trees.grow(root, output as usize)? == Growth::Full {
-            self.share = 0;
+            self.end();
             return Ok(());
         }
         let variable = self.trees.output(root, output as usize);
@@ -412,7 +476,7 @@ impl Policy {
             let next = self.items.greatest_below(self.threshold);
             self.threshold = next.min(next / 2 + 1).max(1);
             if next == 0 {
-                self.share = 0;
+                self.end();
             }
             return Ok(());
         }

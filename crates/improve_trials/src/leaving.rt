@@ -36,12 +36,7 @@ pub(crate) fn keep_shown(
 
 /// Adds the core, where its inputs are there still, and gives its first output; 0 where it is left
 /// out.
-fn keep(
-    kept: &mut Counted,
-    core: &Core,
-    firsts: &[u32],
-    moved: &[u64],
-) -> Result<u64, AllocError>
+fn keep(kept: &mut Counted, core: &Core, firsts: &[u32], moved: &[u64]) -> Result<u64, AllocError>
     ensures { OnOk result ((p : Problem) → AreRightCores p kept.old → AreRightCores p kept.new) }
 {
     let mut inputs = Vec::with_capacity(*core.inputs.allocator(), core.inputs.len())?;

@@ -27,6 +27,8 @@ pub struct Aim {
     pub best: u64,
     /// Whether also less will do: that a solution costs less than the cores are worth.
     pub is_partial: bool,
+    /// What is shown already: nothing is tried that shows no more.
+    pub above: u64,
 }
 
 /// What came of one trial.
@@ -43,7 +45,8 @@ pub(crate) enum Round {
 ///
 /// # Errors
 ///
-/// `AllocError` where memory was refused after something was learned.
+/// `AllocError` where memory was refused in the course of a trial, or between two. Nothing is known
+/// of `tried` then.
 pub fn refute<W: Watch>(
     instance: &Instance,
     aim: Aim,

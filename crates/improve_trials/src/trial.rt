@@ -60,7 +60,7 @@ pub(crate) fn make_trial<W: Watch>(
     instance.limits();
     let weight = counted.counter.weight();
     let worth = weight.min(aim.best);
-    if worth == 0 || (worth < aim.best && !aim.is_partial) {
+    if worth <= aim.above || (worth < aim.best && !aim.is_partial) {
         return Ok(None);
     }
     let Ok(mut refutation) = Refutation::new(instance, counted) else {
@@ -86,11 +86,7 @@ pub(crate) fn make_trial<W: Watch>(
 fn effort_of(aim: Aim, budget: &Budget) -> Effort {
     Effort {
         share: budget.left() / 2,
-        each: if aim.is_partial {
-            GUIDED_ALONE
-        } else {
-            GUIDED
-        },
+        each: if aim.is_partial { GUIDED_ALONE } else { GUIDED },
         goes_on: !aim.is_partial,
     }
 }

@@ -380,9 +380,7 @@ fn make_check<'a>(alloc: Global) -> Result<Command<'a>, Error> {
 /// `wmax lower`.
 fn make_lower<'a>(alloc: Global) -> Result<Command<'a>, Error> {
     let command = Command::new(alloc, "lower")
-        .about(
-            "Prints the lower bound that an LRAT certificate proves by itself",
-        )
+        .about("Prints the lower bound that an LRAT certificate proves by itself")
         .after_help(LOWER_NOTES)
         .arg(make_path(alloc, "FILE", "The instance, a WCNF text"))?
         .arg(make_path(alloc, "PROOF", "The certificate, LRAT as text"))?;
@@ -401,9 +399,9 @@ fn make_explain<'a>(alloc: Global) -> Result<Command<'a>, Error> {
                 .help("The result, as a solver printed it: o, s and v lines"),
         )?
         .arg(
-            Arg::new(alloc, "PROOF")
-                .action(ArgAction::Set)
-                .help("A certificate of a lower bound, as solve --lower keeps it"),
+            Arg::new(alloc, "PROOF").action(ArgAction::Set).help(
+                "A certificate of a lower bound, as solve --lower keeps it",
+            ),
         )?;
     Ok(command)
 }

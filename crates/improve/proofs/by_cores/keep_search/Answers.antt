@@ -16,6 +16,6 @@ pub returns-clause-count : goal.returns-clause-count
 returns-clause-count c =
     omega (
       arith,
-      ap search_count c.requires.none.0,
+      ap search_count c.requires.none,
       ap learned_count c.into_work.ensures.log,
     )

@@ -9,7 +9,7 @@ use Rattle.lrat_check.proofs.lower.end_own.Goals as goal
 pub returns-in-Ok-GoesOn : goal.returns-in-Ok-GoesOn
 returns-in-Ok-GoesOn c = λ bytes h.
     let ends =
-        rw c.in-Ok-GoesOn.field-0-is at (c.in-Ok-GoesOn.ensures.ends c.args.instance.now bytes h) in
+    rw c.in-Ok-GoesOn.field-0-is at (c.in-Ok-GoesOn.ensures.ends c.args.instance.now bytes h) in
     ends_unproved c.args.instance.now c.end.new.self.cores
     ∙ ap (lower_at c.args.instance.now) (sym ends)
 
@@ -27,13 +27,13 @@ returns-in-Ok-Ended c =
     IfOk-weaker c.judge_kept.result _ _
     (λ v e. λ bytes h.
     let ends =
-        rw c.in-Ok-Ended.field-0-is at (c.in-Ok-Ended.ensures.ends c.args.instance.now bytes h) in
+    rw c.in-Ok-Ended.field-0-is at (c.in-Ok-Ended.ensures.ends c.args.instance.now bytes h) in
     e ∙ ap (lower_at c.args.instance.now) (sym ends))
     c.judge_kept.ensures
 
 pub returns-in-Ok-Fails : goal.returns-in-Ok-Fails
 returns-in-Ok-Fails c = λ bytes h.
     let ends =
-        rw c.in-Ok-Fails.field-0-is at (c.in-Ok-Fails.ensures.ends c.args.instance.now bytes h) in
+    rw c.in-Ok-Fails.field-0-is at (c.in-Ok-Fails.ensures.ends c.args.instance.now bytes h) in
     ap (λ n. No c.in-Ok-Fails.cause (n + 1)) c.lines.ensures
     ∙ ap (lower_at c.args.instance.now) (sym ends)

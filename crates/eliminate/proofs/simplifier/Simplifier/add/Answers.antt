@@ -115,7 +115,7 @@ returns-clause-passes g c start h =
       is_refuted = c.is_empty_clause-self.result;
     } in
     let rows : c.add-2.new.self.rows
-        ≡ with_clause_rows s.occurrences.rows s.clause.items (length slots) =
+    ≡ with_clause_rows s.occurrences.rows s.clause.items (length slots) =
     c.in_ok-add.ensures
     ∙ ap (λ (xs : List Literal). with_clause_rows s.occurrences.rows xs c.in_ok-reference.reference)
     c.deref-2.ensures.value

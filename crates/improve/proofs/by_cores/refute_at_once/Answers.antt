@@ -2,7 +2,7 @@
 use Rattle.std.proofs.Common.{arith}
 use Rattle.std.proofs.lemmas.Result.{err_from_is_err_and, IfOk-weaker, IfErr-weaker}
 use Rattle.improve.proofs.Standings.{goes_further, goes_same, fails_after}
-use Rattle.improve.proofs.by_cores.refute_by_cores.Goals as goal
+use Rattle.improve.proofs.by_cores.refute_at_once.Goals as goal
 
 pub returns-in_err-counted-clause-fault : goal.returns-in_err-counted-clause-fault
 returns-in_err-counted-clause-fault g c =

@@ -1,0 +1,28 @@
+-- What the search for cores has learned is part of the work.
+use Rattle.std.proofs.Common.{◌∙◌, arith}
+use Rattle.cnf.specs.Bits.{assignment_of}
+use Rattle.cnf.proofs.Laws.{extends_own}
+use Rattle.improve.specs.Improving.{work_count}
+use Rattle.improve.proofs.Standings.{goes_nowhere, goes_same}
+use Rattle.improve.proofs.stages.refute_in_stages.Goals as goal
+
+pub returns-in_default-clause-goes_on : goal.returns-in_default-clause-goes_on
+returns-in_default-clause-goes_on g c =
+    goes_nowhere c.args.instance.now (g.T.Progress.state c.args.progress.now) c.args.budget.now
+    c.args.standing.now (work_count c.args.work.now) c.requires.standing
+
+pub keep_search-requires-clause-feasible : goal.keep_search-requires-clause-feasible
+keep_search-requires-clause-feasible g c =
+    let bits = c.args.standing.now.best.bits.items in (
+      assignment_of bits,
+      (c.requires.standing.solution.1 (assignment_of bits) (extends_own bits)).0,
+    )
+
+pub keep_search-requires-clause-none : goal.keep_search-requires-clause-none
+keep_search-requires-clause-none g c = c.in-Ok-run_stages.ensures.same ∙ c.requires.none.0
+
+pub returns-in-Ok-run_stages-clause-goes_on : goal.returns-in-Ok-run_stages-clause-goes_on
+returns-in-Ok-run_stages-clause-goes_on g c =
+    let a = c.in-Ok-run_stages.ensures.goes_on in
+    goes_same c.args.instance.now _ _ _ _ _ _ _ _ _ _ a
+    (omega (arith, a.learned, c.keep_search.ensures.count, c.in-Ok.ensures.none_learned))

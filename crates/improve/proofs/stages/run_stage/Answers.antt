@@ -1,0 +1,50 @@
+-- Cores are looked for, and then refuted with.
+use Rattle.std.proofs.Common.{◌+◌, arith, ap, sym, subst}
+use Rattle.std.proofs.lemmas.Result.{err_from_is_err_and, IfOk-weaker, IfErr-weaker}
+use Rattle.lrat_log.specs.Steps.{learned_count}
+use Rattle.improve_cores.specs.CoreWork.{CoreWork, IsSearchFor}
+use Rattle.improve.proofs.Standings.{goes_same, fails_after}
+use Rattle.improve.proofs.StageEnds.{goes_beside}
+use Rattle.improve.proofs.stages.run_stage.Goals as goal
+
+pub close_gap-requires-clause-search : goal.close_gap-requires-clause-search
+close_gap-requires-clause-search g c =
+    subst (IsSearchFor c.args.instance.now) (sym c.allow.ensures) c.requires.search
+
+pub returns-in_err-close_gap-clause-fault : goal.returns-in_err-close_gap-clause-fault
+returns-in_err-close_gap-clause-fault g c =
+    let q = err_from_is_err_and c.from_residual.result c.from_residual.ensures.1 in
+    rw (q.1, q.2) c.in_err-close_gap.ensures.fault
+
+pub returns-in_default-clause-goes_on : goal.returns-in_default-clause-goes_on
+returns-in_default-clause-goes_on g c =
+    let a = c.in_ok-close_gap.ensures.goes_on in
+    goes_same c.args.instance.now _ _ _ _ _ _ _ _ _ _ a
+    (omega (arith, a.learned, ap (λ (w : CoreWork). learned_count w.lines) c.allow.ensures))
+
+pub returns-then-worth-stage-clause-goes_on : goal.returns-then-worth-stage-clause-goes_on
+returns-then-worth-stage-clause-goes_on g c =
+    let a = c.in_ok-close_gap.ensures.goes_on in
+    goes_same c.args.instance.now _ _ _ _ _ _ _ _ _ _ a
+    (omega (arith, a.learned, ap (λ (w : CoreWork). learned_count w.lines) c.allow.ensures))
+
+pub refute-requires-clause-failures : goal.refute-requires-clause-failures
+refute-requires-clause-failures g c =
+    omega (arith, c.requires.failures, c.in_ok-close_gap.ensures.goes_on.failures)
+
+pub returns-clause-follows : goal.returns-clause-follows
+returns-clause-follows g c =
+    λ first h. c.refute.ensures.follows first (c.close_gap.ensures.follows first h)
+
+pub returns-clause-goes_on : goal.returns-clause-goes_on
+returns-clause-goes_on g c =
+    let given = ap (λ (w : CoreWork). learned_count w.lines) c.allow.ensures in
+    IfOk-weaker c.refute.result _ _
+    (λ f h. goes_beside c.args.instance.now _ _ _ _ _ _ _ _ _ _ _ _ _ _ _
+    c.in_ok-close_gap.ensures.goes_on h (omega (arith, given))) c.refute.ensures.goes_on
+
+pub returns-clause-fault : goal.returns-clause-fault
+returns-clause-fault g c =
+    IfErr-weaker c.refute.result _ _
+    (λ e h. fails_after c.args.instance.now _ _ _ _ _ _ _ _ _ _
+    c.in_ok-close_gap.ensures.goes_on e h) c.refute.ensures.fault

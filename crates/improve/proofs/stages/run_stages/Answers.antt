@@ -1,0 +1,67 @@
+-- The stages so far, and one more.
+use Rattle.std.proofs.Common.{◌+◌, refl, ◌∙◌, arith}
+use Rattle.std.proofs.lemmas.Result.{err_from_is_err_and}
+use Rattle.lrat_log.specs.Steps.{learned_count}
+use Rattle.improve.specs.Improving.{work_count}
+use Rattle.improve.proofs.Standings.{goes_nowhere, goes_further, goes_same, fails_after}
+use Rattle.improve.proofs.stages.run_stages.Goals as goal
+
+pub stages-init : goal.stages-init
+stages-init g c = record {
+  work = c.requires.work;
+  same = refl;
+  search = c.requires.search;
+  goes_on =
+      goes_nowhere c.args.instance.now (g.T.Progress.state c.args.progress.now) c.args.budget.now
+      c.args.standing.now
+      (work_count c.args.work.now + learned_count c.args.search.now.lines) c.requires.standing;
+  follows = λ first h. h;
+}
+
+pub run_stage-requires-clause-failures : goal.run_stage-requires-clause-failures
+run_stage-requires-clause-failures g c =
+    omega (arith, c.requires.failures, c.stages.invariant.goes_on.failures)
+
+pub run_stage-requires-clause-standing : goal.run_stage-requires-clause-standing
+run_stage-requires-clause-standing g c = c.stages.invariant.goes_on.standing
+
+pub returns-in_err-proof-clause-follows : goal.returns-in_err-proof-clause-follows
+returns-in_err-proof-clause-follows g c =
+    λ first h. c.run_stage.ensures.follows first (c.stages.invariant.follows first h)
+
+pub returns-in_err-proof-clause-fault : goal.returns-in_err-proof-clause-fault
+returns-in_err-proof-clause-fault g c =
+    let q = err_from_is_err_and c.from_residual.result c.from_residual.ensures.1 in
+    rw (q.1, q.2)
+    (fails_after c.args.instance.now _ _ _ _ _ _ _ _ _ _ c.stages.invariant.goes_on _
+    c.in_err-proof.ensures.fault)
+
+pub returns-in-Some-clause-follows : goal.returns-in-Some-clause-follows
+returns-in-Some-clause-follows g c =
+    λ first h. c.run_stage.ensures.follows first (c.stages.invariant.follows first h)
+
+pub returns-in-Some-clause-same : goal.returns-in-Some-clause-same
+returns-in-Some-clause-same g c = c.in_ok-proof.ensures.same ∙ c.stages.invariant.same
+
+pub returns-in-Some-clause-goes_on : goal.returns-in-Some-clause-goes_on
+returns-in-Some-clause-goes_on g c =
+    goes_further c.args.instance.now _ _ _ _ _ _ _ _ _ _ _ _ c.stages.invariant.goes_on
+    (rw c.in-Some.is at c.in_ok-proof.ensures.goes_on)
+
+pub stages-preserved : goal.stages-preserved
+stages-preserved g c =
+    let i = c.stages.invariant in
+    let b = rw c.in-None.is at c.in_ok-proof.ensures.goes_on in
+    let a = goes_further c.args.instance.now _ _ _ _ _ _ _ _ _ _ _ _ i.goes_on b in
+    record {
+      work = c.in_ok-proof.ensures.work;
+      same = c.in_ok-proof.ensures.same ∙ i.same;
+      search = c.run_stage.ensures.search;
+      goes_on = goes_same c.args.instance.now _ _ _ _ _ _ _ _ _ _ a (omega (arith, a.learned));
+      follows = λ first h. c.run_stage.ensures.follows first (i.follows first h);
+    }
+
+pub returns-clause-goes_on : goal.returns-clause-goes_on
+returns-clause-goes_on g c =
+    let a = c.stages.invariant.goes_on in
+    goes_same c.args.instance.now _ _ _ _ _ _ _ _ _ _ a (omega (arith, a.learned))
