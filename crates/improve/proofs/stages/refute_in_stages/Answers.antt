@@ -8,8 +8,9 @@ use Rattle.improve.proofs.stages.refute_in_stages.Goals as goal
 
 pub returns-in_default-clause-goes_on : goal.returns-in_default-clause-goes_on
 returns-in_default-clause-goes_on g c =
-    goes_nowhere c.args.instance.now (g.T.Progress.state c.args.progress.now) c.args.budget.now
-    c.args.standing.now (work_count c.args.work.now) c.requires.standing
+    goes_same c.args.instance.now _ _ _ _ _ _ _ _ _ _
+    (goes_nowhere c.args.instance.now (g.T.Progress.state c.args.progress.now) c.args.budget.now
+    c.args.standing.now (work_count c.args.work.now) c.requires.standing) (omega arith)
 
 pub keep_search-requires-clause-feasible : goal.keep_search-requires-clause-feasible
 keep_search-requires-clause-feasible g c =
