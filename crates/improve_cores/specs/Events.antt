@@ -1,5 +1,5 @@
 -- What a search for cores meets.
-use Rattle.std.specs.Prelude.{◌≡◌, ◌×◌, ◌-◌, ℕ, ⊤, Err, length, slice_index_or}
+use Rattle.std.specs.Prelude.{◌≡◌, ◌-◌, ℕ, ⊤, Err, length, slice_index_or}
 use Rattle.cnf.specs.Problem.{Problem}
 use Rattle.cores.specs.Cores.{AreCounted, Core, count_core, first_relaxation}
 use Rattle.cores.specs.declared.counting.CoreFault.{CoreFault}
