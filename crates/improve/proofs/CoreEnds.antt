@@ -1,19 +1,15 @@
 -- A refutation by cores shows an optimum.
-use Rattle.std.proofs.Common.{◌≡◌, ℕ, ◌<◌, ◌≤◌, List}
-use Rattle.std.proofs.Common.{[], ◌∷◌, Bool, refl, ◌∙◌, subst}
+use Rattle.std.proofs.Common.{◌≡◌, ℕ, List}
+use Rattle.std.proofs.Common.{[], ◌∷◌, Bool}
 use Rattle.std.proofs.Common.{ap, arith, length, Ok}
-use Rattle.cnf.specs.Formula.{Cnf}
 use Rattle.cnf.specs.Problem.{Problem}
 use Rattle.cnf.specs.Instance.{IsInstance}
 use Rattle.cnf.proofs.Laws.{certificate_sound}
 use Rattle.lrat_log.specs.Log.{LogLine, numbered_lines}
-use Rattle.cnf.specs.Lrat.{start_of}
-use Rattle.lrat_log.specs.Steps.{AddsNoEmptyClause, AreSteps}
 use Rattle.adder.specs.declared.cells.Profile.TheVariants.{Five}
 use Rattle.bound.specs.Bound.{core_cnf}
-use Rattle.bound.proofs.Laws.{refutes_cheaper, core_clauses_few}
-use Rattle.cores.specs.Cores.{Core, Counted, AreCounted, no_cores, count_cores, first_relaxation}
-use Rattle.improve_cores.specs.CoreWork.{AreStepsOver}
+use Rattle.bound.proofs.Laws.{refutes_cheaper}
+use Rattle.cores.specs.Cores.{Core, no_cores, count_cores, first_relaxation}
 use Rattle.improve.specs.Improving.{IsByCores, IsRefutation, IsSolution, EndsWith}
 use Rattle.improve.specs.Improving.{IsRightFound}
 use Rattle.improve.specs.Standing.{IsCoreProof}

@@ -1,5 +1,5 @@
 -- What the improving search finds.
-use Rattle.std.specs.Prelude.{◌≡◌, ◌+◌, ◌<◌, ◌≤◌, [], ◌∷◌, ◌++◌, ⊤}
+use Rattle.std.specs.Prelude.{◌≡◌, ◌+◌, ◌<◌, [], ◌∷◌, ◌++◌, ⊤}
 use Rattle.std.specs.Prelude.{ℕ, Bool, List, length, map, drop, All}
 use Rattle.std.specs.Prelude.{Option, Some, None, Result, Ok, Err, IfOk, IfSome, OnOk}
 use Rattle.std.specs.List.{flat_map}
@@ -16,7 +16,6 @@ use Rattle.lrat_log.specs.Steps.{AreSteps, AddsNoEmptyClause, LearnsNew}
 use Rattle.lrat_log.specs.Steps.{nothing_exempt, is_later, given_of, learned_count}
 use Rattle.lrat_log.specs.Rebase.{WeakerList, weaker_line}
 use Rattle.adder.specs.declared.cells.Profile.{Profile}
-use Rattle.adder.specs.declared.cells.Profile.TheVariants.{Five}
 use Rattle.cores.specs.Cores.{Core}
 use Rattle.bound.specs.Bound.{hard_cnf, bound_as, fixed_clauses, comparator_for}
 use Rattle.cdcl_order.specs.Budgets.{BudgetState, left_of}

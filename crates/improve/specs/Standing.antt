@@ -1,5 +1,5 @@
 -- What stands between the first solution and the last one.
-use Rattle.std.specs.Prelude.{◌≡◌, ℕ, ◌+◌, ◌<◌, Bool, List, [], ◌∷◌, ◌++◌, length, All}
+use Rattle.std.specs.Prelude.{◌≡◌, ℕ, ◌+◌, List, [], ◌∷◌, ◌++◌, length, All}
 use Rattle.std.specs.Prelude.{Option, Some, None, Result, Err, IfSome}
 use Rattle.cnf.specs.Problem.{Problem}
 use Rattle.lrat_log.specs.Log.{LogLine}

@@ -7,7 +7,7 @@ use Rattle.cnf.specs.Formula.{Cnf}
 use Rattle.cnf.specs.Problem.{Problem}
 use Rattle.cnf.specs.Lrat.{start_of, Accepts}
 use Rattle.lrat_log.specs.Log.{LogLine, numbered_lines}
-use Rattle.lrat_log.specs.Steps.{AreSteps, AddsNoEmptyClause, IsLogOver, LearnsNew}
+use Rattle.lrat_log.specs.Steps.{AreSteps, IsLogOver, LearnsNew}
 use Rattle.lrat_log.specs.Steps.{nothing_exempt, is_later, given_of, learned_count}
 use Rattle.bound.specs.Relaxed.{relaxed_cnf}
 use Rattle.cdcl_order.specs.Budgets.{BudgetState}

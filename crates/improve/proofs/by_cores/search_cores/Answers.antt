@@ -1,7 +1,9 @@
 -- What the search for cores has learned is part of the work.
-use Rattle.std.proofs.Common.{arith}
+use Rattle.std.proofs.Common.{ap, arith}
 use Rattle.cnf.specs.Bits.{assignment_of}
 use Rattle.cnf.proofs.Laws.{extends_own}
+use Rattle.improve_cores.specs.CoreWork.{CoreWork}
+use Rattle.lrat_log.specs.Steps.{learned_count}
 use Rattle.improve.specs.Improving.{work_count}
 use Rattle.improve.proofs.Standings.{goes_nowhere, goes_same}
 use Rattle.improve.proofs.by_cores.search_cores.Goals as goal
@@ -29,4 +31,10 @@ pub returns-in-Ok-close_gap-clause-goes_on : goal.returns-in-Ok-close_gap-clause
 returns-in-Ok-close_gap-clause-goes_on g c =
     let a = c.in-Ok-close_gap.ensures.goes_on in
     goes_same c.args.instance.now _ _ _ _ _ _ _ _ _ _ a
-    (omega (arith, a.learned, c.keep_search.ensures.count, c.in-Ok.ensures.none_learned))
+    (omega (
+      arith,
+      a.learned,
+      c.keep_search.ensures.count,
+      c.in-Ok.ensures.none_learned,
+      ap (λ (s : CoreWork). learned_count s.lines) c.may_give_up.ensures,
+    ))

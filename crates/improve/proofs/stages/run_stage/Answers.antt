@@ -1,5 +1,5 @@
 -- Cores are looked for, and then refuted with.
-use Rattle.std.proofs.Common.{◌+◌, arith, ap, sym, subst}
+use Rattle.std.proofs.Common.{arith, ap, sym, subst}
 use Rattle.std.proofs.lemmas.Result.{err_from_is_err_and, IfOk-weaker, IfErr-weaker}
 use Rattle.lrat_log.specs.Steps.{learned_count}
 use Rattle.improve_cores.specs.CoreWork.{CoreWork, IsSearchFor}
