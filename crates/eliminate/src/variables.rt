@@ -169,7 +169,8 @@ fn gather(
     ensures rows { AreRows simplifier.new.occurrences.rows store.now.slots }
     ensures form { KeepsForm simplifier.old simplifier.new store.now.slots }
     ensures marks { length simplifier.new.marks ≡ length simplifier.old.marks }
-    ensures places { length simplifier.new.occurrences.rows ≡ length simplifier.old.occurrences.rows }
+    ensures places { length simplifier.new.occurrences.rows
+        ≡ length simplifier.old.occurrences.rows }
 {
     let row = lit.index();
     simplifier.occurrences.clean(row, store);

@@ -8,7 +8,7 @@ ghost use Rattle.std.specs.Prelude.{◌≡◌, ℕ, ◌<◌, [], ◌∷◌, ◌+
 ghost use Rattle.std.specs.Prelude.{slice_get, IfOk, OnOk, OnErr, All};
 ghost use Rattle.cnf.specs.Marks.{HasPlace};
 ghost use Rattle.eliminate_tables.specs.Rows.{row_at, with_row, with_clause_rows, has_clause};
-ghost use Rattle.eliminate_tables.specs.Rows.{cleaned, room_at, with_space};
+ghost use Rattle.eliminate_tables.specs.Rows.{cleaned, room_at, with_space, IsFull};
 
 use clauses::store::{CRef, Store};
 use cnf::types::Lit;
@@ -79,11 +79,18 @@ impl Rows {
     }
 
     /// Puts a reference at the end of a row.
+    ///
+    /// # Errors
+    ///
+    /// `AllocError` where the row has no room and a growth was refused. All rows are then as they
+    /// were.
     pub fn push(&mut self, row: usize, reference: CRef) -> Result<(), AllocError>
         requires { row < length self.old.rows }
         ensures ok { IfOk result (λ _. self.new.rows
             ≡ with_row self.old.rows row (row_at self.old.rows row ++ reference ∷ [])) }
         ensures err { OnErr result (self.new.rows ≡ self.old.rows) }
+        ensures full { OnErr result (IsFull self.old row) }
+        ensures rooms { ¬ IsFull self.old row → self.new.rooms ≡ self.old.rooms }
     {
         self.rows.push(row, reference)
     }

@@ -9,7 +9,8 @@ use Rattle.eliminate.proofs.simplifier.make_space.Goals.{else-row-count}
 pub returns-in_err-make_space-clause-rows : goal.returns-in_err-make_space-clause-rows
 returns-in_err-make_space-clause-rows c a =
     (rows_spaced c.loop-lit.rows.rows c.make_space.new.self.rows c.args.store.now.slots
-    c.index-row.result (omega (arith, c.if-row-count.true, c.count.ensures)) c.make_space.ensures.rows).0
+    c.index-row.result (omega (arith, c.if-row-count.true, c.count.ensures))
+    c.make_space.ensures.rows).0
     (c.loop-lit.invariant.rows a)
 
 pub loop-lit-preserved : goal.loop-lit-preserved
