@@ -77,9 +77,19 @@ attempt_lines Open = []
 attempt_lines (Refuted r) = r.log
 attempt_lines (Model bits) = []
 
+-- a refutation shows more than this
+abbrev pub ShowsMore : ℕ → Attempt → Type 0
+ShowsMore n Open = ⊤
+ShowsMore n (Refuted r) = n < r.worth
+ShowsMore n (Model bits) = ⊤
+
 abbrev pub IsRound : Problem → Round → Type 0
 IsRound p (Ended a) = IsAttempt p a
 IsRound p (Goes counted) = AreRightCores p counted
+
+abbrev pub RoundShowsMore : ℕ → Round → Type 0
+RoundShowsMore n (Ended a) = ShowsMore n a
+RoundShowsMore n (Goes counted) = ⊤
 
 abbrev pub round_lines : Round → List LogLine
 round_lines (Ended a) = attempt_lines a

@@ -1,10 +1,11 @@
 // Refutations by cores, one after the other: where one does not end, the cores that it left open
 // are dropped, and the others are tried again.
-ghost use Rattle.std.specs.Prelude.{◌≡◌, ◌+◌, All, IfOk, OnOk};
+ghost use Rattle.std.specs.Prelude.{◌≡◌, ℕ, ◌+◌, ◌<◌, All, IfOk, OnOk};
 ghost use Rattle.improve_cores.specs.Events.{AreRightCores};
 ghost use Rattle.improve_trials.specs.Trials.{IsCoreRefutation, IsAttempt, IsRound, SpendsOn};
 ghost use Rattle.lrat_log.specs.Steps.{learned_count};
 ghost use Rattle.improve_trials.specs.Trials.{IsTrial, attempt_lines, round_lines, tried_count};
+ghost use Rattle.improve_trials.specs.Trials.{ShowsMore, RoundShowsMore};
 
 use crate::found::{Attempt, ByCores, CoreRefutation};
 use crate::leaving::keep_shown;
@@ -40,8 +41,9 @@ pub(crate) enum Round {
     Goes(Counted),
 }
 
-/// Tries to refute by these cores that there is a solution that costs less. What was learned in
-/// trials that did not end, or met a solution, is added to `tried`.
+/// Tries to refute by these cores that there is a solution that costs less. A refutation that ends
+/// shows more than `above` of the aim. What was learned in trials that did not end, or met a
+/// solution, is added to `tried`.
 ///
 /// # Errors
 ///
@@ -58,6 +60,7 @@ pub fn refute<W: Watch>(
     requires cores { AreRightCores instance.now counted }
     requires tried { All (IsCoreRefutation instance.now) tried.old.items }
     ensures attempt { IfOk result (IsAttempt instance.now) }
+    ensures above { IfOk result (ShowsMore aim.above) }
     ensures tried { OnOk result (All (IsCoreRefutation instance.now) tried.new.items) }
     ensures spends { IfOk result (λ a. SpendsOn tried.old.items tried.new.items (attempt_lines a)
         budget.old budget.new) }
@@ -86,6 +89,7 @@ fn try_once<W: Watch>(
     requires cores { AreRightCores instance.now counted }
     requires tried { All (IsCoreRefutation instance.now) tried.old.items }
     ensures round { IfOk result (IsRound instance.now) }
+    ensures above { IfOk result (RoundShowsMore aim.above) }
     ensures tried { OnOk result (All (IsCoreRefutation instance.now) tried.new.items) }
     ensures spends { IfOk result (λ r. SpendsOn tried.old.items tried.new.items (round_lines r)
         budget.old budget.new) }
@@ -116,6 +120,7 @@ fn end_trial(
     requires kept { AreRightCores instance.now kept }
     requires tried { All (IsCoreRefutation instance.now) tried.old.items }
     ensures round { IfOk result (IsRound instance.now) }
+    ensures above { (n : ℕ) → n < trial.worth → IfOk result (RoundShowsMore n) }
     ensures tried { OnOk result (All (IsCoreRefutation instance.now) tried.new.items) }
     ensures lines { IfOk result (λ r. tried_count tried.new.items + learned_count (round_lines r)
         ≡ tried_count tried.old.items + learned_count trial.log) }

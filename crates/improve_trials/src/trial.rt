@@ -1,5 +1,5 @@
 // One search for a refutation by cores.
-ghost use Rattle.std.specs.Prelude.{◌≡◌, ◌+◌, IfOk, IfSome};
+ghost use Rattle.std.specs.Prelude.{◌≡◌, ◌+◌, ◌<◌, IfOk, IfSome};
 ghost use Rattle.lrat_log.specs.Steps.{learned_count};
 ghost use Rattle.improve_cores.specs.CoreWork.{CountsLearned};
 ghost use Rattle.improve_cores.specs.Events.{AreRightCores};
@@ -52,6 +52,7 @@ pub(crate) fn make_trial<W: Watch>(
     requires { AreRightCores instance.now counted.now }
     ensures trial { IfOk result
         (λ t. IfSome t (IsTrial instance.now counted.now.cores.items)) }
+    ensures above { IfOk result (λ t. IfSome t (λ t. aim.above < t.worth)) }
     ensures spends { IfOk result (λ t. budget.new.learned
         ≡ budget.old.learned + learned_count (trial_lines t)) }
     ensures answers { budget.new.answers ≡ budget.old.answers }
