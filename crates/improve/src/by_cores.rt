@@ -1,6 +1,6 @@
 //! The way by cores: a core-guided search whose lower bound meets the best solution, and then a
 //! refutation by the cores. Where it does not end within its share of the effort, the search goes
-//! on by bounds. Where lower bounds are wanted the two take turns: see `stages`.
+//! on by bounds. `stages` says how the two take turns.
 ghost use Rattle.std.specs.Prelude.{◌≡◌, ℕ, ◌+◌, ◌<◌, ◌≤◌, ◌^◌, [], None};
 ghost use Rattle.std.specs.Prelude.{IfOk, IfErr, IfSome, OnOk};
 ghost use Rattle.cnf.specs.Literal.{Assignment};
@@ -17,7 +17,7 @@ use crate::found::{ImproveFault, Work};
 use crate::progress::Progress;
 use crate::search::tell;
 use crate::solutions::price;
-use crate::stages::refute_in_stages;
+use crate::stages::{FOR_BOUNDS, FOR_THE_OPTIMUM, Plan, run_stages};
 use crate::standing::Standing;
 use crate::watch::Watch;
 use adder::cells::Profile;
@@ -29,9 +29,6 @@ use improve_trials::found::{Attempt, ByCores};
 use improve_trials::rounds::{self, Aim};
 use std::alloc::AllocError;
 
-/// The search for cores learns so many clauses at most, and no more than half of what is left.
-const SHARE: u64 = 120_000;
-
 /// So many variables are reserved for each soft clause,
 const RESERVED_EACH: usize = 4;
 
@@ -42,7 +39,8 @@ const RESERVED: usize = 2_000;
 const MOST_RESERVED: usize = 65_536;
 
 /// Looks for cores that are worth what the best solution costs, and for a refutation by them. One
-/// is given only in the profile of cores.
+/// is given only in the profile of cores. In the others nothing is done, unless lower bounds are
+/// wanted.
 pub fn refute_by_cores<T: Progress, W: Watch>(
     instance: &Instance,
     budget: &mut Budget,
@@ -69,92 +67,48 @@ pub fn refute_by_cores<T: Progress, W: Watch>(
         (T.state progress.old) (T.state progress.new)
         budget.old budget.new standing.old) }
 {
-    if watch.wants_bounds() {
-        refute_in_stages(instance, budget, progress, profile, watch, standing, work)
+    let plan = if watch.wants_bounds() {
+        FOR_BOUNDS
     } else {
-        refute_at_once(instance, budget, progress, profile, watch, standing, work)
+        FOR_THE_OPTIMUM
+    };
+    if profile != Profile::Five && !plan.is_any_wanted {
+        return Ok(None);
     }
-}
-
-/// As `refute_by_cores`, where no other bound is wanted than what the best solution costs.
-fn refute_at_once<T: Progress, W: Watch>(
-    instance: &Instance,
-    budget: &mut Budget,
-    progress: &mut T,
-    profile: Profile,
-    watch: &mut W,
-    standing: &mut Standing,
-    work: &mut Work,
-) -> Result<Option<ByCores>, ImproveFault>
-    requires failures { (T.state progress.old).failures < 2 ^ 62 }
-    requires standing { IsStanding instance.now standing.old }
-    requires work { IsEarlyWork instance.now work.old }
-    requires none { HasNoCores work.old }
-    ensures follows { (first : T) → T.follows first progress.old → T.follows first progress.new }
-    ensures work { OnOk result (IsEarlyWork instance.now work.new) }
-    ensures proof { IfOk result
-        (λ f. IfSome f (IsCoreProof instance.now standing.new.best.cost)) }
-    ensures profile { IfOk result (λ f. IfSome f (λ _. profile ≡ Profile.Five)) }
-    ensures goes_on { IfOk result (λ f. GoesOn instance.now
-        (T.state progress.old) (T.state progress.new)
-        budget.old budget.new standing.old standing.new
-        (work_count work.old) (work_count work.new + by_cores_count f)) }
-    ensures fault { IfErr result (λ e. Fails instance.now e
-        (T.state progress.old) (T.state progress.new)
-        budget.old budget.new standing.old) }
-{
-    match search_cores(instance, budget, progress, watch, standing, work)? {
-        Some(counted) => refute(
-            instance, budget, progress, profile, watch, standing, work, counted, &mut 0,
-        ),
-        None => Ok(None),
-    }
-}
-
-/// Looks for cores that are worth what the best solution costs.
-fn search_cores<T: Progress, W: Watch>(
-    instance: &Instance,
-    budget: &mut Budget,
-    progress: &mut T,
-    watch: &mut W,
-    standing: &mut Standing,
-    work: &mut Work,
-) -> Result<Option<Counted>, ImproveFault>
-    requires failures { (T.state progress.old).failures < 2 ^ 62 }
-    requires standing { IsStanding instance.now standing.old }
-    requires work { IsEarlyWork instance.now work.old }
-    requires none { HasNoCores work.old }
-    ensures follows { (first : T) → T.follows first progress.old → T.follows first progress.new }
-    ensures work { OnOk result (IsEarlyWork instance.now work.new) }
-    ensures cores { IfOk result (λ c. IfSome c (AreRightCores instance.now)) }
-    ensures goes_on { OnOk result (GoesOn instance.now
-        (T.state progress.old) (T.state progress.new)
-        budget.old budget.new standing.old standing.new
-        (work_count work.old) (work_count work.new)) }
-    ensures fault { IfErr result (λ e. Fails instance.now e
-        (T.state progress.old) (T.state progress.new)
-        budget.old budget.new standing.old) }
-{
-    let share = SHARE.min(budget.left() / 2);
-    let Ok(mut search) = CoreSearch::new(instance, share, reserve_of(instance)) else {
+    let Ok(mut search) = begin_search(instance, plan) else {
         return Ok(None);
     };
-    search.may_give_up(instance);
-    match close_gap(instance, budget, progress, watch, standing, &mut search) {
-        Ok(is_closed) => {
-            let counted = take_cores(instance, &search, is_closed);
+    let cores = &mut search;
+    match run_stages(
+        instance, budget, progress, profile, watch, standing, work, cores, plan,
+    ) {
+        Ok(proof) => {
             keep_search(instance, search, work);
-            Ok(counted)
+            Ok(proof)
         }
-        Err(fault) => {
-            keep_search(instance, search, work);
-            Err(fault)
-        }
+        Err(fault) => Err(fault),
     }
+}
+
+/// The search for cores of a plan, which has learned nothing yet. Where only the optimum is wanted
+/// it may be given up.
+///
+/// # Errors
+///
+/// `AllocError` where memory was refused.
+fn begin_search(instance: &Instance, plan: Plan) -> Result<CoreSearch, AllocError>
+    ensures search { IfOk result (IsSearchFor instance.now) }
+    ensures none_learned { IfOk result (λ w. learned_count w.lines ≡ 0) }
+{
+    let mut search = CoreSearch::new(instance, 0, reserve_of(instance))?;
+    if !plan.is_any_wanted {
+        search.may_give_up(instance);
+    }
+    Ok(search)
 }
 
 /// What the search was given and learned is part of the work.
-pub(crate) fn keep_search(instance: &Instance, search: CoreSearch, work: &mut Work)
+fn keep_search(instance: &Instance, search: CoreSearch, work: &mut Work)
     requires search { IsSearchFor instance.now search }
     requires feasible { (t : Assignment) × IsFeasible instance.now t }
     requires work { IsEarlyWork instance.now work.old }
@@ -166,7 +120,7 @@ pub(crate) fn keep_search(instance: &Instance, search: CoreSearch, work: &mut Wo
 }
 
 /// So many variables are reserved to count with.
-pub(crate) fn reserve_of(instance: &Instance) -> u32
+fn reserve_of(instance: &Instance) -> u32
     ensures { result ≤ 2 ^ 20 }
 {
     let wanted = instance.soft().len().saturating_mul(RESERVED_EACH);
@@ -191,7 +145,8 @@ pub(crate) fn take_cores(
 }
 
 /// Goes on until the cores are worth what the best solution costs; solutions that are met and are
-/// cheaper are told. Answers whether the cores are worth enough.
+/// cheaper are told. Answers whether the cores are worth enough: the search for them is over then,
+/// and its memory is there for the refutation.
 pub(crate) fn close_gap<T: Progress, W: Watch>(
     instance: &Instance,
     budget: &mut Budget,
@@ -221,7 +176,10 @@ pub(crate) fn close_gap<T: Progress, W: Watch>(
             Event::Model(bits) => {
                 note_model(instance, budget, progress, watch, standing, bits)?;
             }
-            Event::Closed => return Ok(true),
+            Event::Closed => {
+                search.retire();
+                return Ok(true);
+            }
             Event::Over => return Ok(false),
         }
     }

@@ -215,40 +215,9 @@ fn lower<T: Progress, W: Watch>(
     )
 }
 
-/// Goes on from a solution that was told: in `Profile::Five`, and where lower bounds are wanted,
-/// first by cores, and then by bounds.
+/// Goes on from a solution that was told: by cores, in `Profile::Five` and where lower bounds are
+/// wanted, and by bounds where these do not show an optimum.
 fn go_on<T: Progress, W: Watch>(
-    instance: &Instance,
-    budget: &mut Budget,
-    progress: &mut T,
-    profile: Profile,
-    watch: &mut W,
-    standing: Standing,
-    work: Work,
-    is_given: bool,
-) -> Result<Found, ImproveFault>
-    requires failures { (T.state progress.old).failures < 2 ^ 62 }
-    requires standing { IsStanding instance.now standing }
-    requires work { IsEarlyWork instance.now work }
-    requires none { HasNoCores work }
-    ensures follows { (first : T) → T.follows first progress.old → T.follows first progress.new }
-    ensures ends { Ends profile instance.now result
-        (T.state progress.old) (T.state progress.new)
-        budget.old budget.new standing (work_count work) }
-{
-    if profile == Profile::Five || watch.wants_bounds() {
-        lower_by_cores(
-            instance, budget, progress, profile, watch, standing, work, is_given,
-        )
-    } else {
-        lower_by_bounds(
-            instance, budget, progress, profile, watch, standing, work, is_given,
-        )
-    }
-}
-
-/// Goes on by cores, and by bounds where these do not show an optimum.
-fn lower_by_cores<T: Progress, W: Watch>(
     instance: &Instance,
     budget: &mut Budget,
     progress: &mut T,

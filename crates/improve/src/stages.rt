@@ -1,6 +1,7 @@
-//! The way by cores where lower bounds are wanted: the search for cores stops now and then, and
-//! what its cores are worth so far is proved before it goes on. So a bound is there soon, and
-//! better ones come later.
+//! The stages of the way by cores: in each the search for cores goes on for a while, and then its
+//! cores are tried. For the optimum there is one. Where lower bounds are wanted there are more, and
+//! what the cores are worth so far is proved after each. So a bound is there soon, and better ones
+//! come later.
 ghost use Rattle.std.specs.Prelude.{◌≡◌, ℕ, ◌+◌, ◌<◌, ◌^◌};
 ghost use Rattle.std.specs.Prelude.{IfOk, IfErr, IfSome, OnOk};
 ghost use Rattle.cnf.specs.Literal.{Assignment};
@@ -12,7 +13,7 @@ ghost use Rattle.improve.specs.Improving.{work_count};
 ghost use Rattle.improve.specs.Standing.{IsStanding, IsEarlyWork, HasNoCores, GoesOn, Fails};
 ghost use Rattle.improve.specs.Standing.{IsCoreProof, by_cores_count};
 
-use crate::by_cores::{close_gap, keep_search, refute, reserve_of, take_cores};
+use crate::by_cores::{close_gap, refute, take_cores};
 use crate::found::{ImproveFault, Work};
 use crate::progress::Progress;
 use crate::standing::Standing;
@@ -23,22 +24,44 @@ use cnf::types::Instance;
 use improve_cores::searching::CoreSearch;
 use improve_trials::found::ByCores;
 
-/// There are so many stages at most.
-const STAGES: usize = 4;
-
-/// In the first one the search for cores learns so many clauses at most, and no more than half of
-/// what is left,
-const FIRST: u64 = 4000;
-
-/// and in each other one so many times as many as in the one before.
+/// In each stage the search for cores learns so many times as many clauses as in the one before.
 const GROWTH: u64 = 3;
 
-/// A stratum in which so many clauses were learned without a core or a model is left.
-const PATIENCE: u64 = 1000;
+/// How the stages go.
+#[derive(Clone, Copy, Debug, PartialEq, Eq, Drop)]
+pub(crate) struct Plan {
+    // There are so many of them at most.
+    stages: usize,
+    // In the first one the search for cores learns so many clauses at most, and no more than half
+    // of what is left.
+    first: u64,
+    // A stratum in which so many clauses were learned without a core or a model is left.
+    patience: u64,
+    /// Whether each lower bound is wanted, and not only what the best solution costs.
+    pub(crate) is_any_wanted: bool,
+}
+
+/// One stage, and only cores that are worth what the best solution costs are tried.
+pub(crate) const FOR_THE_OPTIMUM: Plan = Plan {
+    stages: 1,
+    first: 120_000,
+    patience: u64::MAX,
+    is_any_wanted: false,
+};
+
+/// Stages of growing length, and after each one all cores that are there are tried.
+pub(crate) const FOR_BOUNDS: Plan = Plan {
+    stages: 4,
+    first: 4000,
+    patience: 1000,
+    is_any_wanted: true,
+};
 
 /// How far the stages have come.
 #[derive(Drop)]
 struct Stage {
+    // How they go.
+    plan: Plan,
     // So many clauses more the search for cores may learn.
     more: u64,
     // What the cores of the last trial are worth.
@@ -47,50 +70,8 @@ struct Stage {
     shown: u64,
 }
 
-/// As `refute_by_cores`, where each lower bound is wanted.
-pub(crate) fn refute_in_stages<T: Progress, W: Watch>(
-    instance: &Instance,
-    budget: &mut Budget,
-    progress: &mut T,
-    profile: Profile,
-    watch: &mut W,
-    standing: &mut Standing,
-    work: &mut Work,
-) -> Result<Option<ByCores>, ImproveFault>
-    requires failures { (T.state progress.old).failures < 2 ^ 62 }
-    requires standing { IsStanding instance.now standing.old }
-    requires work { IsEarlyWork instance.now work.old }
-    requires none { HasNoCores work.old }
-    ensures follows { (first : T) → T.follows first progress.old → T.follows first progress.new }
-    ensures work { OnOk result (IsEarlyWork instance.now work.new) }
-    ensures proof { IfOk result
-        (λ f. IfSome f (IsCoreProof instance.now standing.new.best.cost)) }
-    ensures profile { IfOk result (λ f. IfSome f (λ _. profile ≡ Profile.Five)) }
-    ensures goes_on { IfOk result (λ f. GoesOn instance.now
-        (T.state progress.old) (T.state progress.new)
-        budget.old budget.new standing.old standing.new
-        (work_count work.old) (work_count work.new + by_cores_count f)) }
-    ensures fault { IfErr result (λ e. Fails instance.now e
-        (T.state progress.old) (T.state progress.new)
-        budget.old budget.new standing.old) }
-{
-    let Ok(mut search) = CoreSearch::new(instance, 0, reserve_of(instance)) else {
-        return Ok(None);
-    };
-    let cores = &mut search;
-    match run_stages(
-        instance, budget, progress, profile, watch, standing, work, cores,
-    ) {
-        Ok(proof) => {
-            keep_search(instance, search, work);
-            Ok(proof)
-        }
-        Err(fault) => Err(fault),
-    }
-}
-
 /// One stage after the other, until a refutation ends the search.
-fn run_stages<T: Progress, W: Watch>(
+pub(crate) fn run_stages<T: Progress, W: Watch>(
     instance: &Instance,
     budget: &mut Budget,
     progress: &mut T,
@@ -99,6 +80,7 @@ fn run_stages<T: Progress, W: Watch>(
     standing: &mut Standing,
     work: &mut Work,
     search: &mut CoreSearch,
+    plan: Plan,
 ) -> Result<Option<ByCores>, ImproveFault>
     requires failures { (T.state progress.old).failures < 2 ^ 62 }
     requires standing { IsStanding instance.now standing.old }
@@ -121,11 +103,12 @@ fn run_stages<T: Progress, W: Watch>(
         budget.old budget.new standing.old) }
 {
     let mut stage = Stage {
-        more: FIRST,
+        plan,
+        more: plan.first,
         tried: 0,
         shown: 0,
     };
-    'stages: for _ in 0..STAGES {
+    'stages: for _ in 0..plan.stages {
         match run_stage(
             instance, budget, progress, profile, watch, standing, work, search, &mut stage,
         )? {
@@ -136,7 +119,8 @@ fn run_stages<T: Progress, W: Watch>(
     Ok(None)
 }
 
-/// One stage: cores are looked for, and all that are there are tried, where some are new.
+/// One stage: cores are looked for, and those that are there are tried, where they are wanted and
+/// worth more than before.
 fn run_stage<T: Progress, W: Watch>(
     instance: &Instance,
     budget: &mut Budget,
@@ -168,9 +152,11 @@ fn run_stage<T: Progress, W: Watch>(
         (T.state progress.old) (T.state progress.new)
         budget.old budget.new standing.old) }
 {
-    search.allow(stage.more.min(budget.left() / 2), PATIENCE);
-    close_gap(instance, budget, progress, watch, standing, search)?;
-    let Some(counted) = take_cores(instance, search, true) else {
+    let plan = stage.plan;
+    search.allow(stage.more.min(budget.left() / 2), plan.patience);
+    let is_closed = close_gap(instance, budget, progress, watch, standing, search)?;
+    let are_wanted = is_closed | plan.is_any_wanted;
+    let Some(counted) = take_cores(instance, search, are_wanted) else {
         return Ok(None);
     };
     let worth = counted.counter.weight();

@@ -197,6 +197,13 @@ impl CountingSolver {
         }
     }
 
+    /// Gives back the memory of its search, after which nothing is found.
+    pub(crate) fn retire(&mut self)
+        ensures { self.new ≡ self.old }
+    {
+        self.solver.retire();
+    }
+
     /// The lines, once the solver is done with.
     pub fn into_log(self) -> Log
         ensures log { result ≡ self.lines }

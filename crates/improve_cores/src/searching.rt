@@ -165,6 +165,14 @@ impl CoreSearch {
         self.policy.allow(more, patience);
     }
 
+    /// Gives back the memory that only a search needs: no further core is looked for.
+    pub fn retire(&mut self)
+        ensures { self.new ≡ self.old }
+    {
+        self.policy.end();
+        self.solver.retire();
+    }
+
     /// What was given and learned, where the instance has a solution.
     pub fn into_work(self, instance: &Instance) -> SearchWork
         requires search { IsSearchFor instance.now self }

@@ -1,10 +1,11 @@
 -- Lines are learned, and solutions are told.
-use Rattle.std.proofs.Common.{arith}
+use Rattle.std.proofs.Common.{arith, ap, sym, subst}
 use Rattle.std.proofs.lemmas.Result.{err_from_is_err_and}
 use Rattle.lrat_log.specs.Steps.{learned_count}
+use Rattle.improve_cores.specs.CoreWork.{CoreWork, IsSearchFor}
 use Rattle.improve_cores.proofs.Laws.{searched_feasible}
 use Rattle.improve.proofs.Standings.{goes_nowhere, goes_further, goes_learned, goes_told}
-use Rattle.improve.proofs.Standings.{fails_after, search_kept}
+use Rattle.improve.proofs.Standings.{fails_after, goes_same, search_kept}
 use Rattle.improve.proofs.by_cores.close_gap.Goals as goal
 
 pub events-init : goal.events-init
@@ -68,16 +69,20 @@ returns-in_err-note_model-in-Model-clause-fault g c =
 
 pub returns-in-Closed-clause-search : goal.returns-in-Closed-clause-search
 returns-in-Closed-clause-search g c =
-    search_kept c.args.instance.now c.events.search c.next.new.self c.events.invariant.search
-    c.next.ensures.formula
+    subst (IsSearchFor c.args.instance.now) (sym c.retire.ensures)
+    (search_kept c.args.instance.now c.events.search c.next.new.self c.events.invariant.search
+    c.next.ensures.formula)
 
 pub returns-in-Closed-clause-goes_on : goal.returns-in-Closed-clause-goes_on
 returns-in-Closed-clause-goes_on g c =
     let i = c.events.invariant in
+    let a =
     goes_further c.args.instance.now _ _ _ _ _ _ _ _ _ _ _ _ i.goes_on
     (goes_learned c.args.instance.now (g.T.Progress.state c.events.progress) c.events.budget
     c.next.new.budget c.events.standing c.events.search.lines c.next.new.self.lines
-    i.goes_on.standing c.next.ensures.learned)
+    i.goes_on.standing c.next.ensures.learned) in
+    goes_same c.args.instance.now _ _ _ _ _ _ _ _ _ _ a
+    (omega (arith, a.learned, ap (λ (w : CoreWork). learned_count w.lines) c.retire.ensures))
 
 pub returns-in-Over-clause-search : goal.returns-in-Over-clause-search
 returns-in-Over-clause-search g c =

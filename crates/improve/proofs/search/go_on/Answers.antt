@@ -1,1 +1,61 @@
--- By cores first, or by bounds alone.
+-- The cores show an optimum, or the bounds go on.
+use Rattle.std.proofs.Common.{◌≡◌, ◌+◌, Ok, refl, sym, arith}
+use Rattle.std.proofs.lemmas.Result.{err_from_is_err_and}
+use Rattle.lrat_log.specs.Steps.{learned_count}
+use Rattle.cdcl_order.specs.Budgets.{left_of}
+use Rattle.adder.specs.declared.cells.Profile.TheVariants.{Five}
+use Rattle.improve.specs.Improving.{work_count}
+use Rattle.improve.specs.Standing.{costs_of}
+use Rattle.improve.proofs.Lowering.{on_work_weaker}
+use Rattle.improve.proofs.Standings.{ends_after, ends_failing, ends_found}
+use Rattle.improve.proofs.search.go_on.Goals as goal
+
+pub returns-in_err-by_cores-clause-ends : goal.returns-in_err-by_cores-clause-ends
+returns-in_err-by_cores-clause-ends g c =
+    let q = err_from_is_err_and c.from_residual.result c.from_residual.ensures.1 in
+    rw (q.1, q.2)
+    (ends_failing c.args.profile c.args.instance.now _ (g.T.Progress.state c.args.progress.now)
+    (g.T.Progress.state c.refute_by_cores.new.progress) c.args.budget.now
+    c.refute_by_cores.new.budget c.args.standing (work_count c.args.work)
+    c.in_err-by_cores.ensures.fault)
+
+pub returns-in-Some-clause-ends : goal.returns-in-Some-clause-ends
+returns-in-Some-clause-ends g c =
+    let p = c.args.instance.now in
+    let a = rw c.in-Some.is at c.in_ok-by_cores.ensures.goes_on in
+    let s = c.refute_by_cores.new.standing in
+    let r = c.conclude_cores in
+    let lines = learned_count c.in-Some.by_cores.log in
+    let n = work_count c.refute_by_cores.new.work + lines in
+    let five = rw c.in-Some.is at c.in_ok-by_cores.ensures.profile in
+    ends_after p _ _ _ _ _ _ _ _ _ _ a c.args.profile (Ok r.result) (work_count c.args.work) n
+    (omega arith)
+    (ends_found c.args.profile Five p (Ok r.result)
+    (g.T.Progress.state c.refute_by_cores.new.progress)
+    c.refute_by_cores.new.budget c.refute_by_cores.new.budget s (costs_of s) n 0 0 a.standing refl
+    refl refl tt (sym five) refl (r.ensures.found (costs_of s) (s.earlier.items, refl))
+    (on_work_weaker (Ok r.result) (λ w. ⊥) (λ w. work_count w + 0 ≡ n + 0) (λ w x. absurd x)
+    r.ensures.work)
+    (on_work_weaker (Ok r.result) (λ w. ⊥) (λ w. left_of c.refute_by_cores.new.budget ≡ 0)
+    (λ w x. absurd x) r.ensures.work))
+
+pub lower_by_bounds-requires-clause-failures : goal.lower_by_bounds-requires-clause-failures
+lower_by_bounds-requires-clause-failures g c =
+    let a = rw c.in-None.is at c.in_ok-by_cores.ensures.goes_on in
+    omega (arith, c.requires.failures, a.failures)
+
+pub lower_by_bounds-requires-clause-standing : goal.lower_by_bounds-requires-clause-standing
+lower_by_bounds-requires-clause-standing g c =
+    let a = rw c.in-None.is at c.in_ok-by_cores.ensures.goes_on in a.standing
+
+pub returns-in-None-clause-follows : goal.returns-in-None-clause-follows
+returns-in-None-clause-follows g c =
+    λ first h. c.lower_by_bounds.ensures.follows first (c.refute_by_cores.ensures.follows first h)
+
+pub returns-in-None-clause-ends : goal.returns-in-None-clause-ends
+returns-in-None-clause-ends g c =
+    let p = c.args.instance.now in
+    let a = rw c.in-None.is at c.in_ok-by_cores.ensures.goes_on in
+    ends_after p _ _ _ _ _ _ _ _ _ _ a c.args.profile c.lower_by_bounds.result
+    (work_count c.args.work) (work_count c.refute_by_cores.new.work) (omega arith)
+    c.lower_by_bounds.ensures.ends

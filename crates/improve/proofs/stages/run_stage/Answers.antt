@@ -11,26 +11,26 @@ pub close_gap-requires-clause-search : goal.close_gap-requires-clause-search
 close_gap-requires-clause-search g c =
     subst (IsSearchFor c.args.instance.now) (sym c.allow.ensures) c.requires.search
 
-pub returns-in_err-close_gap-clause-fault : goal.returns-in_err-close_gap-clause-fault
-returns-in_err-close_gap-clause-fault g c =
+pub returns-in_err-is_closed-clause-fault : goal.returns-in_err-is_closed-clause-fault
+returns-in_err-is_closed-clause-fault g c =
     let q = err_from_is_err_and c.from_residual.result c.from_residual.ensures.1 in
-    rw (q.1, q.2) c.in_err-close_gap.ensures.fault
+    rw (q.1, q.2) c.in_err-is_closed.ensures.fault
 
 pub returns-in_default-clause-goes_on : goal.returns-in_default-clause-goes_on
 returns-in_default-clause-goes_on g c =
-    let a = c.in_ok-close_gap.ensures.goes_on in
+    let a = c.in_ok-is_closed.ensures.goes_on in
     goes_same c.args.instance.now _ _ _ _ _ _ _ _ _ _ a
     (omega (arith, a.learned, ap (λ (w : CoreWork). learned_count w.lines) c.allow.ensures))
 
 pub returns-then-worth-stage-clause-goes_on : goal.returns-then-worth-stage-clause-goes_on
 returns-then-worth-stage-clause-goes_on g c =
-    let a = c.in_ok-close_gap.ensures.goes_on in
+    let a = c.in_ok-is_closed.ensures.goes_on in
     goes_same c.args.instance.now _ _ _ _ _ _ _ _ _ _ a
     (omega (arith, a.learned, ap (λ (w : CoreWork). learned_count w.lines) c.allow.ensures))
 
 pub refute-requires-clause-failures : goal.refute-requires-clause-failures
 refute-requires-clause-failures g c =
-    omega (arith, c.requires.failures, c.in_ok-close_gap.ensures.goes_on.failures)
+    omega (arith, c.requires.failures, c.in_ok-is_closed.ensures.goes_on.failures)
 
 pub returns-clause-follows : goal.returns-clause-follows
 returns-clause-follows g c =
@@ -41,10 +41,10 @@ returns-clause-goes_on g c =
     let given = ap (λ (w : CoreWork). learned_count w.lines) c.allow.ensures in
     IfOk-weaker c.refute.result _ _
     (λ f h. goes_beside c.args.instance.now _ _ _ _ _ _ _ _ _ _ _ _ _ _ _
-    c.in_ok-close_gap.ensures.goes_on h (omega (arith, given))) c.refute.ensures.goes_on
+    c.in_ok-is_closed.ensures.goes_on h (omega (arith, given))) c.refute.ensures.goes_on
 
 pub returns-clause-fault : goal.returns-clause-fault
 returns-clause-fault g c =
     IfErr-weaker c.refute.result _ _
     (λ e h. fails_after c.args.instance.now _ _ _ _ _ _ _ _ _ _
-    c.in_ok-close_gap.ensures.goes_on e h) c.refute.ensures.fault
+    c.in_ok-is_closed.ensures.goes_on e h) c.refute.ensures.fault

@@ -4,7 +4,7 @@ use Rattle.cnf.specs.Bits.{assignment_of}
 use Rattle.cnf.proofs.Laws.{extends_own}
 use Rattle.improve.specs.Improving.{work_count}
 use Rattle.improve.proofs.Standings.{goes_nowhere, goes_same}
-use Rattle.improve.proofs.stages.refute_in_stages.Goals as goal
+use Rattle.improve.proofs.by_cores.refute_by_cores.Goals as goal
 
 pub returns-in_default-clause-goes_on : goal.returns-in_default-clause-goes_on
 returns-in_default-clause-goes_on g c =
