@@ -1,23 +1,32 @@
 #!/usr/bin/env bash
 # tools/build over a few small crates with a stand-in for `rt`: which crates it is at, where it stops, what it shows then; its
-# lanes, and that nothing is left of them however it ends.
+# lanes, and that nothing is left of them however it ends; the program by `rt ci`, and by libraries where that keeps nothing.
 source "$(dirname "$0")/../lib"
 
 cp -r tools "$work"
-mkdir -p "$work/bin" "$work/crates"/{low,left,right,wmax,other}/src
+mkdir -p "$work/bin" "$work/crates"/{low,left,right,wmax,other}/src "$work/crates/low"/must-fail{,-more}
 printf '%s\n' '# shared' 'low: memchr' 'left: low' 'right: low' '' '# program' 'wmax: left right clap' 'other: low' > "$work/crates.txt"
 echo 'Handles allowed: none.' > "$work/HANDLES"
 echo 'fn main() {}' > "$work/crates/wmax/src/main.rt"
 for crate in low left right other; do echo "fn $crate() {}" > "$work/crates/$crate/src/lib.rt"; done
 
 # The stand-in builds in no time, or waits for a file `go` where SLOW names a crate. Its journal has a line when a crate begins and
-# one when it ends: the crate, its folder and what the folder has of the crates below.
+# one when it ends: the crate, its folder, the words, and what the folder has of the crates below. `rt ci` works on the last crate
+# of crates.txt; it keeps what passes beside the journal, unless KEEPS is `no`.
 cat > "$work/bin/rt" <<'RT'
 #!/usr/bin/env bash
-name=$(basename "$PWD")
-case $PWD in */.lanes.*) lane=$(basename "$(dirname "$(dirname "$PWD")")") ;; *) lane=here ;; esac
-has=$(cd .. && echo */out/rlib | tr ' ' '\n' | sed 's|/out/rlib||' | tr '\n' ' ')
-[ -e ../../HANDLES ] && [ -e ../../crates.txt ] || exit 9
+if [ "$1" = ci ]; then
+    top=.
+    name=$(tail -n 1 crates.txt | sed 's/[: ].*//')
+    [ -d .git ] && [ -z "$(ls -d crates/*/{out,must-fail*} 2> /dev/null)" ] || exit 8
+    has=$(ls crates | tr '\n' ' ')
+else
+    top=../..
+    name=$(basename "$PWD")
+    has=$(cd .. && echo */out/rlib | tr ' ' '\n' | sed 's|/out/rlib||' | tr '\n' ' ')
+fi
+case $(cd $top && pwd) in */.lanes.*) lane=$(basename "$(cd $top && pwd)") ;; *) lane=here ;; esac
+[ -e $top/HANDLES ] && [ -e $top/crates.txt ] || exit 9
 echo "begin $name $lane $* : $has" >> "$JOURNAL"
 echo "fn $name::good: proved"
 if [ "$name" = "$REFUSED" ]; then
@@ -25,12 +34,21 @@ if [ "$name" = "$REFUSED" ]; then
     exit 1
 fi
 case " $SLOW " in *" $name "*) [ $lane = here -a -z "$ONE" ] || until [ -e "$JOURNAL.go" ]; do sleep 0.1; done ;; esac
-mkdir -p out/rlib
-if [ "$1" = run ]; then echo "$name" > out/wmax; fi
+out=$top/crates/$name/out
+mkdir -p "$out"
+[ "$1" = lib ] && mkdir -p "$out/rlib"
+if [ "$name" = wmax ]; then echo "$name" > "$out/wmax"; fi
+if [ "$1" = ci ]; then
+    if [ "$KEEPS" = no ]; then
+        echo 'rt: note: /kept cannot be used, so nothing is kept: the next run, and the merge, prove all again'
+    else
+        touch "$JOURNAL.kept.$name"
+    fi
+fi
 echo "end $name $lane" >> "$JOURNAL"
 RT
 chmod +x "$work/bin/rt"
-export JOURNAL=$work/journal
+export JOURNAL=$work/journal KEEPS=yes
 
 # built LANES REFUSED [CRATE]: the build in so many lanes, where the crate REFUSED is not proved
 built() {
@@ -44,23 +62,32 @@ clean() { # NAME: no lanes are left
     ok "$1: nothing is left" [ -z "$(ls -d "$work"/.lanes.* 2> /dev/null)" ]
 }
 
+# shown NAME: what is shown of a build of all
+shown() {
+    ok "$1: the status" [ "$status$err" = 0 ]
+    ok "$1: the first crate" grep -qE '^0 of 4 crates are built, now low \(about [0-9]+ minutes left\)$' <<< "$out"
+    ok "$1: the last crate" grep -qE '^3 of 4 crates are built, now wmax \(about [0-9]+ minutes left\)$' <<< "$out"
+    ok "$1: the end" [ "$(tail -n 1 <<< "$out")" = 'all 4 crates are proved, and the program is ./wmax' ]
+    ok "$1: the program" [ "$(cat "$work/wmax" "$work/crates/wmax/out/wmax")" = $'wmax\nwmax' ]
+    ok "$1: the log" [ "$(grep -c proved "$work/build.log")" = 4 ]
+    ok "$1: the prover's own lines are not shown" [ -z "$(grep 'fn ' <<< "$out")" ]
+    ok "$1: another crate is not touched" [ ! -e "$work/crates/other/out" ]
+    clean "$1"
+}
 for lanes in 1 2 3; do
-    built $lanes none
-    ok "$lanes lanes: the status" [ "$status$err" = 0 ]
-    ok "$lanes lanes: the first crate" grep -qE '^0 of 4 crates are built, now low \(about [0-9]+ minutes left\)$' <<< "$out"
-    ok "$lanes lanes: the last crate" grep -qE '^3 of 4 crates are built, now wmax \(about [0-9]+ minutes left\)$' <<< "$out"
-    ok "$lanes lanes: the end" [ "$(tail -n 1 <<< "$out")" = 'all 4 crates are proved, and the program is ./wmax' ]
-    ok "$lanes lanes: the program" [ "$(cat "$work/wmax")" = wmax ]
-    ok "$lanes lanes: the log" [ "$(grep -c proved "$work/build.log")" = 4 ]
-    ok "$lanes lanes: the prover's own lines are not shown" [ -z "$(grep 'fn ' <<< "$out")" ]
-    ok "$lanes lanes: each library is in the checkout" [ "$(ls -d "$work"/crates/*/out/rlib | wc -l)" = 4 ]
-    ok "$lanes lanes: the crates below are there before" [ -z "$(grep -E '^begin (left|right) ' "$JOURNAL" | grep -v ': .*low ')" ]
-    ok "$lanes lanes: the program is built in place" grep -q '^begin wmax here run .*-- --help : ' "$JOURNAL"
-    ok "$lanes lanes: another crate is not touched" [ ! -e "$work/crates/other/out" ]
-    clean "$lanes lanes"
+    KEEPS=yes built $lanes none
+    shown "$lanes lanes"
+    ok "$lanes lanes: all is kept" [ "$(ls "$JOURNAL".kept.* | wc -l)" = 4 ]
+    ok "$lanes lanes: each crate with those below" [ "$(sed -n 's/^begin \(.*\) [1-9] ci : /\1: /p' "$JOURNAL" | sort)" = $'left: left low \nlow: low \nright: low right \nwmax: left low right wmax ' ]
+    KEEPS=no built $lanes none
+    shown "$lanes lanes, nothing is kept"
+    ok "$lanes lanes, nothing is kept: by \`rt ci\` once" [ "$(grep -c '^begin .* ci : ' "$JOURNAL")" = 1 ]
+    ok "$lanes lanes, nothing is kept: each library is in the checkout" [ "$(ls -d "$work"/crates/*/out/rlib | wc -l)" = 3 ]
+    ok "$lanes lanes, nothing is kept: the crates below are there before" [ -z "$(grep -E '^begin (left|right) .* lib' "$JOURNAL" | grep -v ': .*low ')" ]
+    ok "$lanes lanes, nothing is kept: the program is built in place" grep -q '^begin wmax here run .*-- --help : ' "$JOURNAL"
 done
-built 1 none
-ok 'one lane: in place, by as many jobs as rt chooses' [ -z "$(grep '^begin' "$JOURNAL" | grep -vE ' here (lib|run -- --help) : ')" ]
+built 1 none left
+ok 'one lane: libraries in place, by as many jobs as rt chooses' [ -z "$(grep '^begin' "$JOURNAL" | grep -vE ' here lib : ')" ]
 
 # Two crates that do not stand on one another are built at once, in lanes of their own: each waits until the other has begun.
 rm -rf "$work"/crates/*/out "$JOURNAL"*
@@ -113,7 +140,7 @@ for signal in INT TERM HUP; do
     ok "$signal: the status" [ $? -ge 128 ]
     clean "$signal"
     ok "$signal: nothing goes on" [ -z "$(pgrep -f "$work/bin/rt")" ]
-    ok "$signal: what was built stays" [ -d "$work/crates/low/out/rlib" -a ! -e "$work/crates/left/out" ]
+    ok "$signal: what was built is kept" [ -e "$JOURNAL.kept.low" -a ! -e "$JOURNAL.kept.left" ]
     ok "$signal: no program" [ ! -e "$work/wmax" ]
 done
 
