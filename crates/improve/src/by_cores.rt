@@ -1,6 +1,6 @@
 //! The way by cores: a core-guided search whose lower bound meets the best solution, and then a
 //! refutation by the cores. Where it does not end within its share of the effort, the search goes
-//! on by bounds. `stages` says how the two take turns.
+//! on by bounds. `stages` says how long cores are looked for, and when they are tried.
 ghost use Rattle.std.specs.Prelude.{◌≡◌, ℕ, ◌+◌, ◌<◌, ◌≤◌, ◌^◌, [], None};
 ghost use Rattle.std.specs.Prelude.{IfOk, IfErr, IfSome, OnOk};
 ghost use Rattle.cnf.specs.Literal.{Assignment};
@@ -78,16 +78,12 @@ pub fn refute_by_cores<T: Progress, W: Watch>(
     let Ok(mut search) = begin_search(instance, plan) else {
         return Ok(None);
     };
-    let cores = &mut search;
-    match run_stages(
-        instance, budget, progress, profile, watch, standing, work, cores, plan,
-    ) {
-        Ok(proof) => {
-            keep_search(instance, search, work);
-            Ok(proof)
-        }
-        Err(fault) => Err(fault),
-    }
+    let found = &mut search;
+    let proof = run_stages(
+        instance, budget, progress, profile, watch, standing, work, found, plan,
+    )?;
+    keep_search(instance, search, work);
+    Ok(proof)
 }
 
 /// The search for cores of a plan, which has learned nothing yet. Where only the optimum is wanted
@@ -100,7 +96,7 @@ fn begin_search(instance: &Instance, plan: Plan) -> Result<CoreSearch, AllocErro
     ensures search { IfOk result (IsSearchFor instance.now) }
     ensures none_learned { IfOk result (λ w. learned_count w.lines ≡ 0) }
 {
-    let mut search = CoreSearch::new(instance, 0, reserve_of(instance))?;
+    let mut search = CoreSearch::new(instance, reserve_of(instance))?;
     if !plan.is_any_wanted {
         search.may_give_up(instance);
     }

@@ -1,7 +1,7 @@
-//! The stages of the way by cores: in each the search for cores goes on for a while, and then its
-//! cores are tried. For the optimum there is one. Where lower bounds are wanted there are more, and
-//! what the cores are worth so far is proved after each. So a bound is there soon, and better ones
-//! come later.
+//! The stages of the way by cores: in each the search for cores goes on for a while, and then a
+//! refutation by its cores is tried. For the optimum there is one stage, and its cores have to be
+//! worth what the best solution costs. Where lower bounds are wanted there are more, and any cores
+//! are tried. So a bound is there soon, and better ones come later.
 ghost use Rattle.std.specs.Prelude.{◌≡◌, ℕ, ◌+◌, ◌<◌, ◌^◌};
 ghost use Rattle.std.specs.Prelude.{IfOk, IfErr, IfSome, OnOk};
 ghost use Rattle.cnf.specs.Literal.{Assignment};
@@ -24,11 +24,11 @@ use cnf::types::Instance;
 use improve_cores::searching::CoreSearch;
 use improve_trials::found::ByCores;
 
-/// In each stage the search for cores learns so many times as many clauses as in the one before.
+/// In each stage the search for cores may learn so many times as many clauses as in the one before.
 const GROWTH: u64 = 3;
 
 /// How the stages go.
-#[derive(Clone, Copy, Debug, PartialEq, Eq, Drop)]
+#[derive(Clone, Copy, Drop)]
 pub(crate) struct Plan {
     // There are so many of them at most.
     stages: usize,
@@ -64,9 +64,9 @@ struct Stage {
     plan: Plan,
     // So many clauses more the search for cores may learn.
     more: u64,
-    // What the cores of the last trial are worth.
+    // What the cores of the last trial are worth; 0 before the first.
     tried: u64,
-    // The bound that was shown last.
+    // The bound that was shown last; 0 before the first.
     shown: u64,
 }
 

@@ -111,13 +111,13 @@ impl Model for CoreSearch {
 }
 
 impl CoreSearch {
-    /// A search for cores that may learn about `share` clauses, with `reserve` variables to count
-    /// with, up to 2^20.
+    /// A search for cores, with `reserve` variables to count with, up to 2^20. It may learn nothing
+    /// before `allow`.
     ///
     /// # Errors
     ///
     /// `AllocError` where memory was refused.
-    pub fn new(instance: &Instance, share: u64, reserve: u32) -> Result<Self, AllocError>
+    pub fn new(instance: &Instance, reserve: u32) -> Result<Self, AllocError>
         requires { reserve ≤ 2 ^ 20 }
         ensures search { IfOk result (IsSearchFor instance.now) }
         ensures none_learned { IfOk result (λ w. learned_count w.lines ≡ 0) }
@@ -139,7 +139,7 @@ impl CoreSearch {
                 threshold: (greatest / 2).max(1),
                 lower: 0,
                 is_stale: true,
-                share,
+                share: 0,
                 outlook: Outlook::endless(),
                 patience: u64::MAX,
                 is_over: false,
