@@ -96,6 +96,10 @@ ln "$work/both" "$work/link"
 call solve --best both --proof link text
 ok 'one file by two names stays' [ "$status" = 2 -a "$(cat "$work/both")" = before ]
 rm -f "$work/both" "$work/link" "$work/proof"
+call solve --best new --proof new text
+ok 'one name for both leaves nothing' [ "$status" = 2 -a ! -e "$work/new" ]
+call solve --best new --proof new.part text
+ok 'the name beside it leaves nothing' [ "$status" = 2 -a ! -e "$work/new.part" ]
 
 # A failed output: what was met before stays.
 rm "$work/best"

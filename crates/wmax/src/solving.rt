@@ -173,7 +173,7 @@ fn solve_bounded<'a, R: Files + AllocGlobal + Print + Clock, E: Write, T: Read>(
         return Err(RunFault::Memory);
     };
     if are_named(rt, &paths, &[proof, search.best], read) {
-        return Ok(refuse_lower(messages, Refusal::Taken));
+        return Ok(refuse(messages, Refused::Lower(Refusal::Taken)));
     }
     let left = match paths.read_earlier(rt) {
         Ok(left) => left,
@@ -190,7 +190,7 @@ fn solve_bounded<'a, R: Files + AllocGlobal + Print + Clock, E: Write, T: Read>(
     }
     let text = read_file(rt, text)?;
     let Some(lower) = judge_bound(rt.alloc(), &text, &left)? else {
-        return Ok(refuse_lower(messages, Refusal::Other));
+        return Ok(refuse(messages, Refused::Lower(Refusal::Other)));
     };
     search.bounds = Some(LowerPaths {
         paths,
@@ -231,23 +231,6 @@ fn judge_bound(alloc: Global, text: &[u8], left: &[u8]) -> Result<Option<u64>, R
     }
 }
 
-/// Tells why there is no run with this `--lower`; the exit status.
-fn refuse_lower<E: Write>(messages: &mut Messages<'_, E>, refusal: Refusal) -> u8 {
-    let (why, status) = match refusal {
-        Refusal::Taken => (
-            "names another file of the run, or something other than a regular file",
-            2,
-        ),
-        Refusal::Other => (
-            "names a file that is not a certificate of a lower bound for FILE",
-            2,
-        ),
-        Refusal::Unwritable => ("cannot be written", 3),
-    };
-    let _ = writeln!(messages.below(), "error: --lower {why}");
-    status
-}
-
 /// Solves, where `--best` may name none of the files that are read and not the certificate. Where
 /// that has something already, it is judged by FILE first, all of which is in memory then. Nothing
 /// is emptied before.
@@ -263,13 +246,10 @@ fn solve_proved<'a, R: Files + AllocGlobal + Print + Clock, E: Write, T: Read>(
         return solve_into(rt, messages, search, text, proof, read, None);
     };
     let [here, result] = read;
-    let there = match proof {
-        Some(proof) => find_path_id(rt, proof).unwrap_or(here),
-        None => here,
-    };
     let mut kept = Kept::new(rt.alloc(), path)?;
-    if kept.paths.are_taken(rt, &[here, there]) || kept.paths.is_part_taken(rt, &[result]) {
-        return Ok(refuse_best(messages, Refusal::Taken));
+    let is_named = are_named(rt, &kept.paths, &[proof], [here, here]);
+    if is_named || kept.paths.is_part_taken(rt, &[result]) {
+        return Ok(refuse(messages, Refused::Best(Refusal::Taken)));
     }
     let left = match kept.paths.read_earlier(rt) {
         Ok(left) => left,
@@ -281,7 +261,7 @@ fn solve_proved<'a, R: Files + AllocGlobal + Print + Clock, E: Write, T: Read>(
     }
     let text = read_file(rt, text)?;
     if !take_earlier(rt.alloc(), &mut search, &mut kept, &text, &left)? {
-        return Ok(refuse_best(messages, Refusal::Other));
+        return Ok(refuse(messages, Refused::Best(Refusal::Other)));
     }
     let mut text = text.as_slice();
     solve_into(rt, messages, search, &mut text, proof, read, Some(kept))
@@ -386,9 +366,25 @@ enum Refused {
 
 /// Tells why there is no run with this option; the exit status.
 fn refuse<E: Write>(messages: &mut Messages<'_, E>, refused: Refused) -> u8 {
-    match refused {
-        Refused::Best(why) => refuse_best(messages, why),
-        Refused::Lower(why) => refuse_lower(messages, why),
+    let (option, wanted, why) = match refused {
+        Refused::Best(why) => ("--best", "correct result", why),
+        Refused::Lower(why) => ("--lower", "certificate of a lower bound", why),
+    };
+    let out = messages.below();
+    let _ = match why {
+        Refusal::Taken => writeln!(
+            out,
+            "error: {option} names another file of the run, or something other than a regular file"
+        ),
+        Refusal::Other => writeln!(
+            out,
+            "error: {option} names a file that is not a {wanted} for FILE"
+        ),
+        Refusal::Unwritable => writeln!(out, "error: {option} cannot be written"),
+    };
+    match why {
+        Refusal::Taken | Refusal::Other => 2,
+        Refusal::Unwritable => 3,
     }
 }
 
@@ -432,29 +428,15 @@ fn start_keeper<'a, R: Files>(
     started.ok_or(Refusal::Unwritable)
 }
 
-/// Why there is no run with a `--best`.
+/// Why there is no run with an option whose file is kept whole.
 #[derive(Clone, Copy, Drop)]
 enum Refusal {
-    /// The run uses the file otherwise, or it is a device.
+    /// The run uses the file otherwise, or it is no regular file.
     Taken,
     /// It has what would be lost.
     Other,
     /// It cannot be written.
     Unwritable,
-}
-
-/// Tells why there is no run with this `--best`; the exit status.
-fn refuse_best<E: Write>(messages: &mut Messages<'_, E>, refusal: Refusal) -> u8 {
-    let (why, status) = match refusal {
-        Refusal::Taken => (
-            "names another file of the run, or something other than a regular file",
-            2,
-        ),
-        Refusal::Other => ("names a file that is not a correct result for FILE", 2),
-        Refusal::Unwritable => ("cannot be written", 3),
-    };
-    let _ = writeln!(messages.below(), "error: --best {why}");
-    status
 }
 
 /// Solves, with what is to be written at hand.

@@ -1,3 +1,4 @@
+pub mod Bounding
 pub mod Files
 pub mod Keeper
 pub mod Vectors

@@ -1,7 +1,8 @@
 //! The file of `--lower`: at each moment a whole certificate of a lower bound, or what an earlier
 //! run left there.
-ghost use Rattle.std.specs.Prelude.{◌≡◌, ◌≤◌, IfSome, IsNone, IsSome, is_some};
+ghost use Rattle.std.specs.Prelude.{◌≡◌, IfSome, IsNone, IsSome, is_some};
 ghost use Rattle.improve.specs.Standing.{IsCoreProof};
+ghost use Rattle.wmax_onlooker.specs.Bounding.{IsRaised};
 
 use crate::file_id::FileId;
 use crate::standard_error::Messages;
@@ -83,7 +84,7 @@ impl<'a, R: Files> Bounder<'a, R> {
         messages: &mut Messages<'_, E>,
     )
         requires { IsCoreProof instance.now proof.now.worth proof.now }
-        ensures raised { self.old.lower ≤ self.new.lower }
+        ensures lower { IsRaised self.old.lower self.new.lower proof.now.worth }
     {
         if proof.worth <= self.lower {
             return;
@@ -93,10 +94,9 @@ impl<'a, R: Files> Bounder<'a, R> {
         };
         if let Some(mut part) = file.begin(messages) {
             let written = write_lower(instance, proof, &mut part);
-            if written.is_ok() {
+            if file.end(written, messages) {
                 self.lower = proof.worth;
             }
-            file.end(written, messages);
         }
     }
 }

@@ -137,17 +137,19 @@ impl<'a, R: Files> WholeFile<'a, R> {
         file
     }
 
-    /// Puts the text that was written in its place; a broken one is taken away.
+    /// Puts the text that was written in its place; a broken one is taken away. Whether the text
+    /// stands now.
     pub(crate) fn end<E: Write>(
         &mut self,
         written: Result<(), WriteFault>,
         messages: &mut Messages<'_, E>,
-    ) {
+    ) -> bool {
         if written.is_ok() && self.try_end() {
-            return;
+            return true;
         }
         let _ = self.try_drop();
         self.fail(messages);
+        false
     }
 
     /// Tells the first failure.
