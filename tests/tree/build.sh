@@ -66,7 +66,7 @@ clean() { # NAME: no lanes are left
 shown() {
     ok "$1: the status" [ "$status$err" = "0$2" ]
     ok "$1: the first crate" grep -qE '^0 of 4 crates are built, now low \(about [0-9]+ minutes left\)$' <<< "$out"
-    ok "$1: the last crate" grep -qE '^3 of 4 crates are built, now wmax \(about [0-9]+ minutes left\)$' <<< "$out"
+    ok "$1: the last crate" grep -qE '^3 of 4 crates are built, now wmax \(at most [0-9]+ minutes left\)$' <<< "$out"
     ok "$1: the end" [ "$(tail -n 1 <<< "$out")" = 'all 4 crates are proved, and the program is ./wmax' ]
     ok "$1: the program" [ "$(cat "$work/wmax" "$work/crates/wmax/out/wmax")" = $'wmax\nwmax' ]
     ok "$1: the log" [ "$(grep -c proved "$work/build.log")" = 4 ]
