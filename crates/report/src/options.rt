@@ -34,7 +34,7 @@ read' is written to standard error.
 --conflicts N limits the effort: each learned clause and each solution that is
 told costs one unit. A million units take a minute or more. What was learned
 stays in memory for the certificate, even without --proof: 4 bytes for each
-literal and hint of a line, mostly 1 to 2 KB for each conflict. The same N gives
+literal and hint of a line, 0.4 to 2 KB for each conflict. The same N gives
 the same answer on every machine, whatever its speed.
 
 The certificate proves OPTIMUM FOUND and UNSATISFIABLE to anyone who checks it,
