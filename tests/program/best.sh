@@ -99,7 +99,7 @@ rm -f "$work/both" "$work/link" "$work/proof"
 call solve --best new --proof new text
 ok 'one name for both leaves nothing' [ "$status" = 2 -a ! -e "$work/new" ]
 call solve --best new --proof new.part text
-ok 'the name beside it leaves nothing' [ "$status" = 2 -a ! -e "$work/new.part" ]
+ok 'the name beside it leaves nothing' [ "$status" = 2 -a ! -e "$work/new" -a ! -e "$work/new.part" ]
 
 # A failed output: what was met before stays.
 rm "$work/best"
