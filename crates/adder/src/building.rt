@@ -1,5 +1,6 @@
 // Building the network of an instance, column by column or along a tree.
 ghost use Rattle.std.specs.Prelude.{◌≡◌, ◌+◌, ◌*◌, ◌<◌, ◌≤◌, ◌^◌, [], length, map, IfOk};
+ghost use Rattle.cnf.specs.declared.limits.TheConstants.{FORMULA_VARIABLE_LIMIT};
 ghost use Rattle.adder.specs.Network.{columns_from, adders_as, AddsUp};
 ghost use Rattle.adder.specs.Parts.{literals_with};
 
@@ -59,7 +60,7 @@ fn add_columns(alloc: Global, relaxations: &Relaxations) -> Result<Network, Allo
     requires from_one { 0 < relaxations.now.fresh }
     requires small { relaxations.now.fresh + 2 * length
         (columns_from (λ j. literals_with j relaxations.now.each.items) relaxations.now.digits 0
-        relaxations.now.fresh []).cells ≤ 2 ^ 26 }
+        relaxations.now.fresh []).cells ≤ FORMULA_VARIABLE_LIMIT }
     ensures { IfOk result (λ n. n
         ≡ columns_from (λ j. literals_with j relaxations.now.each.items) relaxations.now.digits
         0 relaxations.now.fresh []) }

@@ -1,6 +1,7 @@
 // The columns of a network, one after the other. A column is a queue: a vector and the index of
 // its front, so that nothing is ever moved.
 ghost use Rattle.std.specs.Prelude.{◌≡◌, ◌+◌, ◌<◌, ◌≤◌, ◌^◌, ◌∷◌, [], ◌++◌, IfOk, OnOk};
+ghost use Rattle.cnf.specs.declared.limits.TheConstants.{FORMULA_VARIABLE_LIMIT};
 ghost use Rattle.cnf.specs.Literal.{positive};
 ghost use Rattle.adder.specs.Parts.{literals_with, column_from};
 
@@ -37,7 +38,7 @@ impl Adder {
     /// Takes a cell of these inputs and two new variables, and answers its sum.
     fn add(&mut self, a: Lit, b: Lit, third: Option<Lit>) -> Result<Lit, AllocError>
         requires from_one { 0 < self.old.fresh }
-        requires small { self.old.fresh < 2 ^ 26 }
+        requires small { self.old.fresh < FORMULA_VARIABLE_LIMIT }
         ensures sum { IfOk result (λ s. s ≡ positive self.old.fresh) }
         ensures cells { OnOk result (self.new.cells.items
             ≡ self.old.cells.items
@@ -69,7 +70,7 @@ impl Adder {
     /// Adds up a column, and answers its output: the literal that is left.
     pub fn add_up(&mut self, column: &mut Vec<Lit>) -> Result<Option<Lit>, AllocError>
         requires from_one { 0 < self.old.fresh }
-        requires small { (column_from self.old.fresh column.old.items).fresh ≤ 2 ^ 26 }
+        requires small { (column_from self.old.fresh column.old.items).fresh ≤ FORMULA_VARIABLE_LIMIT }
         ensures output { IfOk result
             (λ o. o ≡ (column_from self.old.fresh column.old.items).output) }
         ensures cells { OnOk result (self.new.cells.items
@@ -96,7 +97,7 @@ impl Adder {
     pub fn add_column(&mut self, column: &mut Vec<Lit>) -> Result<Option<Lit>, AllocError>
         requires from_one { 0 < self.old.fresh }
         requires small { (column_from self.old.fresh
-            (column.old.items ++ self.old.carries.items)).fresh ≤ 2 ^ 26 }
+            (column.old.items ++ self.old.carries.items)).fresh ≤ FORMULA_VARIABLE_LIMIT }
         ensures output { IfOk result (λ o. o
             ≡ (column_from self.old.fresh
             (column.old.items ++ self.old.carries.items)).output) }

@@ -1,6 +1,7 @@
 // Numbers, and their sums in pairs along a balanced tree.
 ghost use Rattle.std.specs.Prelude.{◌≡◌, ◌+◌, ◌*◌, ◌<◌, ◌≤◌, ◌^◌, ◌++◌, Some, None, length};
 ghost use Rattle.std.specs.Prelude.{slice_index_or, if◌then◌else◌, IfOk, OnOk};
+ghost use Rattle.cnf.specs.declared.limits.TheConstants.{FORMULA_VARIABLE_LIMIT};
 ghost use Rattle.adder.specs.Network.{addition, bit, lightest_first, literal_at, number_of, round};
 ghost use Rattle.adder.specs.Parts.{lightest_numbers, most_of, numbers_with, tree_from};
 
@@ -73,7 +74,7 @@ impl Number {
         requires from_one { 0 < adder.old.fresh }
         requires most { self.now.most + other.now.most < 2 ^ 63 }
         requires small { adder.old.fresh
-            + 2 * length (addition adder.old.fresh self.now other.now).cells ≤ 2 ^ 26 }
+            + 2 * length (addition adder.old.fresh self.now other.now).cells ≤ FORMULA_VARIABLE_LIMIT }
         ensures bits { IfOk result
             (λ n. n.bits ≡ (addition adder.old.fresh self.now other.now).outputs) }
         ensures most { IfOk result (λ n. n.most ≡ self.now.most + other.now.most) }
@@ -129,7 +130,7 @@ pub(crate) fn add_tree(alloc: Global, relaxations: Relaxations) -> Result<Networ
     requires from_one { 0 < relaxations.fresh }
     requires most { most_of (lightest_numbers relaxations.each.items) < 2 ^ 63 }
     requires small { relaxations.fresh + 2 * length
-        (tree_from relaxations.fresh (lightest_numbers relaxations.each.items)).cells ≤ 2 ^ 26 }
+        (tree_from relaxations.fresh (lightest_numbers relaxations.each.items)).cells ≤ FORMULA_VARIABLE_LIMIT }
     ensures { IfOk result (λ n. n
         ≡ tree_from relaxations.fresh (lightest_numbers relaxations.each.items)) }
 {
@@ -164,7 +165,7 @@ fn numbers_of(alloc: Global, relaxations: &[Relaxation]) -> Result<Vec<Number>, 
 fn add_rounds(alloc: Global, fresh: u32, numbers: Vec<Number>) -> Result<Network, AllocError>
     requires from_one { 0 < fresh }
     requires most { most_of numbers.items < 2 ^ 63 }
-    requires small { fresh + 2 * length (tree_from fresh numbers.items).cells ≤ 2 ^ 26 }
+    requires small { fresh + 2 * length (tree_from fresh numbers.items).cells ≤ FORMULA_VARIABLE_LIMIT }
     ensures { IfOk result (λ n. n ≡ tree_from fresh numbers.items) }
 {
     let mut adder = Adder::new(alloc, fresh);
@@ -188,7 +189,7 @@ fn add_round(
     requires from_one { 0 < adder.old.fresh }
     requires most { most_of numbers.now < 2 ^ 63 }
     requires small { adder.old.fresh
-        + 2 * length (round adder.old.fresh numbers.now).cells ≤ 2 ^ 26 }
+        + 2 * length (round adder.old.fresh numbers.now).cells ≤ FORMULA_VARIABLE_LIMIT }
     ensures numbers { IfOk result (λ ns. ns.items ≡ (round adder.old.fresh numbers.now).numbers) }
     ensures cells { OnOk result (adder.new.cells.items
         ≡ adder.old.cells.items ++ (round adder.old.fresh numbers.now).cells) }

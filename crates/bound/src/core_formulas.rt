@@ -1,6 +1,7 @@
 // The formula of an instance with cores.
 ghost use Rattle.std.specs.Prelude.{◌≡◌, ◌<◌, ◌^◌, ◌++◌, [], ◌∷◌, List, length, map, All, IfOk};
 ghost use Rattle.std.specs.Prelude.{OnOk};
+ghost use Rattle.cnf.specs.declared.limits.TheConstants.{CLAUSE_LIMIT};
 ghost use Rattle.cnf.specs.Literal.{negative};
 ghost use Rattle.cnf.specs.Numbers.{RisesFrom};
 ghost use Rattle.cores.specs.Cores.{Core, AreCounted, first_relaxation};
@@ -32,7 +33,7 @@ pub fn formula_of_cores(instance: &Instance, counter: &Counter) -> Result<Formul
     ensures clauses { IfOk result (λ f. f ≡ core_cnf instance.now counter.now.counted) }
     ensures cheaper { OnOk result (RefutesCheaper instance.now counter.now.counted) }
     ensures few { OnOk result
-        (length (core_cnf instance.now counter.now.counted).clauses < 2 ^ 28) }
+        (length (core_cnf instance.now counter.now.counted).clauses < CLAUSE_LIMIT) }
 {
     instance.limits();
     let mut clauses = ClauseList::new(instance.allocator());

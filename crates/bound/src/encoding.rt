@@ -4,6 +4,7 @@ ghost use Rattle.std.specs.Prelude.{◌≡◌, ◌+◌, ◌*◌, ◌<◌, ◌≤
 ghost use Rattle.std.specs.Prelude.{OnErr, IfErr};
 ghost use Rattle.std.specs.List.{flat_map};
 ghost use Rattle.std.specs.Io.KnownBytes.{Appends};
+ghost use Rattle.cnf.specs.declared.limits.TheConstants.{NUMBER_LIMIT};
 ghost use Rattle.text.specs.Writing.{AppendsPart, PassesOn};
 ghost use Rattle.bound.specs.Bound.{kept, bound_as, cell_clauses, comparator_for, dimacs_clause};
 ghost use Rattle.bound.specs.Bound.{dimacs_text, relaxed_clauses, addition_as, addition_clauses};
@@ -69,7 +70,7 @@ pub fn write_formula<W: Write>(
     profile: Profile,
     writer: &mut WatchedWriter<'_, W>,
 ) -> Result<(), EncodeFault>
-    requires { k ≤ 2 ^ 62 }
+    requires { k ≤ NUMBER_LIMIT }
     ensures ok { OnOk result (Appends (W.contents writer.old.writer.now)
         (W.contents writer.new.writer.now) (dimacs_text (bound_as profile instance.now k))) }
     ensures fault { OnErr result (AppendsPart (W.contents writer.old.writer.now)
@@ -100,7 +101,7 @@ fn write_parts<W: Write>(
     profile: Profile,
     writer: &mut W,
 ) -> Result<(), EncodeFault>
-    requires { k ≤ 2 ^ 62 }
+    requires { k ≤ NUMBER_LIMIT }
     ensures ok { OnOk result (Appends (W.contents writer.old) (W.contents writer.new)
         (dimacs_text (bound_as profile instance.now k))) }
     ensures fault { OnErr result (AppendsPart (W.contents writer.old) (W.contents writer.new)
@@ -158,7 +159,7 @@ impl Outline {
         profile: Profile,
         marks: &mut Marks,
     ) -> Result<Self, AllocError>
-        requires bound { k ≤ 2 ^ 62 }
+        requires bound { k ≤ NUMBER_LIMIT }
         requires places { 2 * (instance.now.variables + length instance.now.soft)
             ≤ length marks.old }
         ensures relaxed { IfOk result

@@ -1,5 +1,6 @@
 // The formula that a solution costs below a bound.
 ghost use Rattle.std.specs.Prelude.{◌≡◌, ◌<◌, ◌≤◌, ◌^◌, [], ◌++◌, length, IfOk, OnOk};
+ghost use Rattle.cnf.specs.declared.limits.TheConstants.{CLAUSE_LIMIT, NUMBER_LIMIT};
 ghost use Rattle.adder.specs.Network.{relaxed_variables};
 ghost use Rattle.bound.specs.Bound.{kept, relaxed_clauses, bound_as, comparator_for, SaysCheaper};
 
@@ -29,11 +30,11 @@ use std::alloc::AllocError;
 ///
 /// `AllocError` where memory was refused.
 pub fn formula(instance: &Instance, k: u64) -> Result<Formula, AllocError>
-    requires { k ≤ 2 ^ 62 }
+    requires { k ≤ NUMBER_LIMIT }
     ensures clauses { IfOk result (λ f. f ≡ bound_as Profile.One instance.now k) }
     ensures cheaper { OnOk result (SaysCheaper Profile.One instance.now k) }
-    ensures few { OnOk result (length (bound_as Profile.One instance.now k).clauses < 2 ^ 28) }
-    ensures without_bound { OnOk result (comparator_for Profile.One instance.now (2 ^ 62) ≡ []) }
+    ensures few { OnOk result (length (bound_as Profile.One instance.now k).clauses < CLAUSE_LIMIT) }
+    ensures without_bound { OnOk result (comparator_for Profile.One instance.now (NUMBER_LIMIT) ≡ []) }
 {
     formula_as(instance, k, Profile::One)
 }
@@ -48,11 +49,11 @@ pub fn formula(instance: &Instance, k: u64) -> Result<Formula, AllocError>
 ///
 /// `AllocError` where memory was refused.
 pub fn formula_as(instance: &Instance, k: u64, profile: Profile) -> Result<Formula, AllocError>
-    requires { k ≤ 2 ^ 62 }
+    requires { k ≤ NUMBER_LIMIT }
     ensures clauses { IfOk result (λ f. f ≡ bound_as profile instance.now k) }
     ensures cheaper { OnOk result (SaysCheaper profile instance.now k) }
-    ensures few { OnOk result (length (bound_as profile instance.now k).clauses < 2 ^ 28) }
-    ensures without_bound { OnOk result (comparator_for profile instance.now (2 ^ 62) ≡ []) }
+    ensures few { OnOk result (length (bound_as profile instance.now k).clauses < CLAUSE_LIMIT) }
+    ensures without_bound { OnOk result (comparator_for profile instance.now (NUMBER_LIMIT) ≡ []) }
 {
     instance.limits();
     let mut clauses = ClauseList::new(instance.allocator());

@@ -1,5 +1,6 @@
 // The hard clauses as a formula.
 ghost use Rattle.std.specs.Prelude.{◌≡◌, ◌*◌, ◌<◌, ◌≤◌, ◌^◌, ◌++◌, length, All, IfOk, OnOk, ◌↔◌};
+ghost use Rattle.cnf.specs.declared.limits.TheConstants.{CLAUSE_LIMIT};
 ghost use Rattle.cnf.specs.Literal.{Assignment};
 ghost use Rattle.cnf.specs.Clause.{Satisfies};
 ghost use Rattle.cnf.specs.Problem.{IsFeasible};
@@ -23,7 +24,7 @@ pub fn hard_formula(instance: &Instance) -> Result<Formula, AllocError>
     ensures feasible { OnOk result
         ((t : Assignment) → All (Satisfies t) (hard_cnf instance.now).clauses
         ↔ IsFeasible instance.now t) }
-    ensures few { OnOk result (length (hard_cnf instance.now).clauses < 2 ^ 28) }
+    ensures few { OnOk result (length (hard_cnf instance.now).clauses < CLAUSE_LIMIT) }
 {
     let vars = instance.vars();
     let mut marks = Marks::new(instance.allocator(), vars)?;

@@ -9,7 +9,7 @@ ghost use Rattle.cnf.specs.Marks.{HasPlace};
 use crate::repeats::has_repeat;
 use cnf::clause_list::ClauseList;
 use cnf::marks::Marks;
-use cnf::opposites::{are_opposed, contains, has_opposites};
+use cnf::opposites::{are_opposed, has_opposites};
 use cnf::types::Lit;
 use std::alloc::{AllocError, Global};
 
@@ -71,7 +71,7 @@ fn distinct(alloc: Global, lits: &[Lit]) -> Result<Vec<Lit>, AllocError>
 {
     let mut once = Vec::with_capacity(alloc, lits.len())?;
     for lit in lits {
-        if !contains(&once, *lit) {
+        if !once.contains(lit) {
             once.push(*lit)?;
         }
     }

@@ -2,6 +2,7 @@
 // falsified.
 ghost use Rattle.std.specs.Prelude.{◌≡◌, ◌+◌, ◌*◌, ◌<◌, ◌≤◌, ◌^◌, [], ◌∷◌, ◌++◌, length, IfOk};
 ghost use Rattle.std.specs.Prelude.{OnOk};
+ghost use Rattle.cnf.specs.declared.limits.TheConstants.{VARIABLE_LIMIT};
 ghost use Rattle.cnf.specs.Literal.{positive};
 ghost use Rattle.adder.specs.Network.{relaxed_variables};
 ghost use Rattle.bound.specs.Bound.{kept, relaxed_clauses};
@@ -55,7 +56,7 @@ fn is_given_variable(relaxing: Relaxing, lits: &[Lit]) -> bool
 /// The literals, and the variable last.
 fn with_variable(alloc: Global, lits: &[Lit], variable: u32) -> Result<Vec<Lit>, AllocError>
     requires from_one { 0 < variable }
-    requires small { variable < 2 ^ 27 }
+    requires small { variable < VARIABLE_LIMIT }
     ensures { IfOk result (λ c. c.items ≡ lits.now ++ positive variable ∷ []) }
 {
     let mut relaxed = Vec::with_capacity(alloc, lits.len().saturating_add(1))?;

@@ -2,7 +2,6 @@
 ghost use Rattle.std.specs.Prelude.{◌≡◌, length};
 ghost use Rattle.cnf.specs.Clause.{has_repeat};
 
-use cnf::opposites::contains;
 use cnf::types::Lit;
 
 /// Whether some literal stands twice: pair by pair, for a few literals.
@@ -11,7 +10,7 @@ pub fn has_repeat(lits: &[Lit]) -> bool
 {
     let mut rest = lits;
     while let [first, more @ ..] = rest {
-        if contains(more, *first) {
+        if more.contains(first) {
             return true;
         }
         rest = more;

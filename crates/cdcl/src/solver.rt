@@ -24,7 +24,7 @@ use cdcl_search::given::GivenClauses;
 use cdcl_search::giving::{ask_variables, give};
 use cdcl_search::input::Input;
 use cdcl_search::search::Search;
-use cdcl_search::starting::{copy_of, start, store_of};
+use cdcl_search::starting::{start, store_of};
 use cnf::types::{Formula, Lit};
 use eliminate::elimination::eliminate;
 use lrat_log::lines::Name;
@@ -95,7 +95,7 @@ impl<S: Sink> Solver<S> {
         ensures lines { IfOk result (λ s. IsLogOver (given_to s) (S.lines s.sink)) }
         ensures none_learned { IfOk result (λ s. learned_count (S.lines s.sink) ≡ 0) }
     {
-        let copy = copy_of(formula)?;
+        let copy = formula.try_clone()?;
         let frozen = Vec::from_slice(formula.allocator(), frozen)?;
         Solver::of(copy, frozen, sink)
     }

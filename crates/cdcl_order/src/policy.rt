@@ -4,6 +4,7 @@
 // variable has one; a restart is due only after a conflict; what is chosen for deletion is any list
 // of clauses, each of which the search tests.
 ghost use Rattle.std.specs.Prelude.{◌≡◌, ◌<◌, ◌≤◌, ◌^◌, true, false, All, IfOk, IfSome, IfNone};
+ghost use Rattle.cnf.specs.declared.limits.TheConstants.{VARIABLE_LIMIT};
 ghost use Rattle.propagate.specs.Watches.{is_attached};
 ghost use Rattle.propagate.specs.Fits.{Fits};
 ghost use Rattle.cdcl_order.specs.Orders.{IsOpenVariable, AreClosed};
@@ -68,7 +69,7 @@ impl Policy {
     ///
     /// `AllocError` where memory was refused.
     pub fn new(alloc: Global, variables: u32) -> Result<Self, AllocError>
-        requires { variables < 2 ^ 27 }
+        requires { variables < VARIABLE_LIMIT }
         ensures { IfOk result (λ p. p ≡ record { variables = variables; has_learned = false }) }
     {
         let order = Order::new(alloc, variables)?;

@@ -1,5 +1,6 @@
 // Clauses that come after the formula.
 ghost use Rattle.std.specs.Prelude.{◌≡◌, ◌<◌, ◌^◌, false, All, OnOk, OnErr};
+ghost use Rattle.cnf.specs.declared.limits.TheConstants.{NUMBER_LIMIT};
 ghost use Rattle.propagate.specs.Fits.{IsWithin};
 ghost use Rattle.lrat_log.specs.declared.lines.Name.TheVariants.{Formula};
 ghost use Rattle.cdcl_search.specs.Running.{IsReady};
@@ -13,7 +14,7 @@ use std::alloc::AllocError;
 
 /// Searches on with one clause more, from level 0.
 fn take_clause(search: &mut Search, number: u64, lits: &[Lit]) -> Result<(), AllocError>
-    requires number { (0 < number) × (number < 2 ^ 62) }
+    requires number { (0 < number) × (number < NUMBER_LIMIT) }
     requires ready { IsReady search.old }
     requires within { IsWithin search.old.engine.variables lits.now }
     ensures { OnOk result (TakesClause search.old search.new (Formula number) lits.now) }
@@ -25,7 +26,7 @@ fn take_clause(search: &mut Search, number: u64, lits: &[Lit]) -> Result<(), All
 
 /// Keeps the clause among those given.
 fn keep_clause(input: &mut Input, number: u64, lits: &[Lit]) -> Result<(), AllocError>
-    requires number { (0 < number) × (number < 2 ^ 62) }
+    requires number { (0 < number) × (number < NUMBER_LIMIT) }
     ensures given { OnOk result (GivesOne input.old input.new (Formula number) lits.now) }
     ensures unchanged { OnErr result (input.new ≡ input.old) }
 {
@@ -41,7 +42,7 @@ pub fn give(
     number: u64,
     lits: &[Lit],
 ) -> Result<(), AllocError>
-    requires number { (0 < number) × (number < 2 ^ 62) }
+    requires number { (0 < number) × (number < NUMBER_LIMIT) }
     requires ready { refuted ≡ false → IsReady search.old }
     requires within { refuted ≡ false → IsWithin search.old.engine.variables lits.now }
     ensures takes { OnOk result (refuted ≡ false

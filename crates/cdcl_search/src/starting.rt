@@ -1,5 +1,6 @@
 // A search over what elimination has left of a formula.
 ghost use Rattle.std.specs.Prelude.{◌≡◌, ◌+◌, ◌<◌, ◌^◌, [], Some, map, length, All, IfOk, OnOk};
+ghost use Rattle.cnf.specs.declared.limits.TheConstants.{VARIABLE_LIMIT};
 ghost use Rattle.cnf.specs.Lrat.{IsId};
 ghost use Rattle.lrat_log.specs.Log.{number_in};
 ghost use Rattle.cdcl_search.specs.Starts.{AreAttachedBelow, AreWithin, IsLiveWithin, IsStarted};
@@ -24,18 +25,6 @@ pub fn store_of(clauses: &ClauseList) -> Result<Store, AllocError>
         store.add(clause)?;
     }
     Ok(store)
-}
-
-/// The same formula once more.
-pub fn copy_of(formula: &Formula) -> Result<Formula, AllocError>
-    ensures { IfOk result (λ copy. copy ≡ formula.now) }
-{
-    let vars = formula.vars();
-    let mut clauses = ClauseList::new(formula.allocator());
-    for clause in formula.clauses().iter() {
-        clauses.push(clause)?;
-    }
-    Ok(Formula::new(vars, clauses))
 }
 
 /// Attaches the clause at this place, where it is live.
@@ -69,7 +58,7 @@ fn engine_of(store: &Store, variables: u32) -> Result<Engine, AllocError>
 
 /// A search at level 0 over a store. It takes the names out of the stack.
 pub fn start(store: Store, stack: &mut Stack, additions: u64) -> Result<Search, AllocError>
-    requires few { stack.old.variables < 2 ^ 27 }
+    requires few { stack.old.variables < VARIABLE_LIMIT }
     requires long { length stack.old.names ≡ length store.slots }
     requires numbers { All (λ n. IsId (number_in n.1)) stack.old.names }
     requires live { All (λ n. IsLiveWithin store.slots stack.old.variables n.0) stack.old.names }

@@ -1,6 +1,6 @@
 // A list of clauses in flat memory: four bytes for each literal, and four for each clause.
 ghost use Rattle.std.specs.Prelude.{◌≡◌, ◌<◌, [], ◌∷◌, ◌++◌, ◌≤◌, Some, length, slice_get};
-ghost use Rattle.std.specs.Prelude.{slice_range, OnOk, OnErr};
+ghost use Rattle.std.specs.Prelude.{slice_range, IfOk, OnOk, OnErr};
 ghost use Rattle.std.specs.Iterator.{YieldsFirstRef, item_count};
 ghost use Rattle.std.specs.List.{flat_map};
 ghost use Rattle.cnf.specs.Flat.{start_at};
@@ -89,6 +89,20 @@ impl ClauseList {
     {
         self.lits.clear();
         self.ends.clear();
+    }
+
+    /// The same clauses in memory of their own.
+    ///
+    /// # Errors
+    ///
+    /// `AllocError` where memory was refused.
+    pub fn try_clone(&self) -> Result<ClauseList, AllocError>
+        ensures { IfOk result (λ copy. copy ≡ self.now) }
+    {
+        Ok(ClauseList {
+            lits: Vec::from_slice(self.allocator(), &self.lits)?,
+            ends: Vec::from_slice(self.allocator(), &self.ends)?,
+        })
     }
 
     /// The clauses, in their order.

@@ -45,22 +45,10 @@ pub fn has_opposites(lits: &[Lit]) -> bool
 {
     let mut rest = lits;
     while let [first, more @ ..] = rest {
-        if contains(more, first.negation()) {
+        if more.contains(&first.negation()) {
             return true;
         }
         rest = more;
-    }
-    false
-}
-
-/// Whether the literal stands in the list.
-pub fn contains(lits: &[Lit], lit: Lit) -> bool
-    ensures { result ≡ contains_literal lit lits.now }
-{
-    for other in lits {
-        if *other == lit {
-            return true;
-        }
     }
     false
 }

@@ -1,6 +1,7 @@
 // Literals, clauses, instances and formulas: the values that the other crates speak of, whose types
 // keep the limits of the text form.
-ghost use Rattle.std.specs.Prelude.{◌≡◌, ◌*◌, ◌<◌, ◌^◌, false, List};
+ghost use Rattle.std.specs.Prelude.{◌≡◌, ◌*◌, ◌<◌, ◌^◌, false, IfOk, List};
+ghost use Rattle.cnf.specs.declared.limits.TheConstants.{VARIABLE_LIMIT};
 ghost use Rattle.cnf.specs.Literal.{Literal, negation, index_of};
 ghost use Rattle.cnf.specs.Clause.{has_repeat};
 ghost use Rattle.cnf.specs.Problem.{Problem, SoftClause};
@@ -8,7 +9,7 @@ ghost use Rattle.cnf.specs.Instance.{IsInstance};
 ghost use Rattle.cnf.specs.Formula.{Cnf, IsFormula};
 
 use crate::clause_list::ClauseList;
-use std::alloc::Global;
+use std::alloc::{AllocError, Global};
 use std::marker::Model;
 
 /// A literal: a variable or its negation (Handbook of Satisfiability). It takes four bytes.
@@ -42,7 +43,7 @@ impl Lit {
     /// The variable itself, or its negation where `negated` is set.
     pub fn new(variable: u32, negated: bool) -> Self
         requires from_one { 0 < variable }
-        requires small { variable < 2 ^ 27 }
+        requires small { variable < VARIABLE_LIMIT }
         ensures { result ≡ record { variable = variable; negated = negated } }
     {
         Lit {
@@ -54,7 +55,7 @@ impl Lit {
     pub fn variable(self) -> u32
         ensures variable { result ≡ self.variable }
         ensures from_one { 0 < result }
-        ensures small { result < 2 ^ 27 }
+        ensures small { result < VARIABLE_LIMIT }
     {
         self.code / 2
     }
@@ -298,6 +299,20 @@ impl Formula {
         ensures { result.now ≡ self.now.clauses }
     {
         &self.clauses
+    }
+
+    /// The same formula in memory of its own.
+    ///
+    /// # Errors
+    ///
+    /// `AllocError` where memory was refused.
+    pub fn try_clone(&self) -> Result<Formula, AllocError>
+        ensures { IfOk result (λ copy. copy ≡ self.now) }
+    {
+        Ok(Formula {
+            vars: self.vars,
+            clauses: self.clauses.try_clone()?,
+        })
     }
 
     /// The clauses, taken out of the formula.

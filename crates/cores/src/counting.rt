@@ -1,6 +1,7 @@
 // What cores leave of the weights, and the clauses of their outputs.
 ghost use Rattle.std.specs.Prelude.{◌≡◌, ℕ, ◌+◌, ◌<◌, ◌≤◌, ◌^◌, ◌↔◌, length, map, IfOk, IfNone};
 ghost use Rattle.std.specs.Prelude.{IfSome, IsTrue, Ok, Err};
+ghost use Rattle.cnf.specs.declared.limits.TheConstants.{NUMBER_LIMIT};
 ghost use Rattle.cores.specs.Cores.{CounterState, first_relaxation, no_cores, rest_of_soft};
 ghost use Rattle.cores.specs.Cores.{counters, count_core, is_right};
 ghost use Rattle.cores.specs.Counter.{IsCounter};
@@ -117,7 +118,7 @@ impl Counter {
     /// What the cores are worth together, below 2^62.
     pub fn weight(&self) -> u64
         ensures weight { result ≡ self.now.counted.weight }
-        ensures small { result < 2 ^ 62 }
+        ensures small { result < NUMBER_LIMIT }
     {
         self.state.weight
     }

@@ -1,5 +1,6 @@
 // Variables one after another: the outputs of a node of a totalizer. An input is a list of one.
 ghost use Rattle.std.specs.Prelude.{◌≡◌, ◌+◌, ◌-◌, ◌<◌, ◌≤◌, ◌^◌};
+ghost use Rattle.cnf.specs.declared.limits.TheConstants.{VARIABLE_LIMIT};
 
 use std::marker::Model;
 
@@ -20,7 +21,7 @@ impl Model for Span {
 
     ghost view = { λ s. record { first = s.first; count = s.count } };
 
-    ghost invariant = { λ s. (0 < s.first) × (s.first + s.count ≤ 2 ^ 27) };
+    ghost invariant = { λ s. (0 < s.first) × (s.first + s.count ≤ VARIABLE_LIMIT) };
 
     ghost inverse = { λ s. record { first = s.first; count = s.count } };
 }
@@ -29,7 +30,7 @@ impl Span {
     /// So many variables from this one on.
     pub fn new(first: u32, count: u32) -> Self
         requires from_one { 0 < first }
-        requires small { first + count ≤ 2 ^ 27 }
+        requires small { first + count ≤ VARIABLE_LIMIT }
         ensures { result ≡ record { first = first; count = count } }
     {
         Span { first, count }
@@ -39,7 +40,7 @@ impl Span {
     pub fn first(self) -> u32
         ensures first { result ≡ self.first }
         ensures from_one { 0 < result }
-        ensures small { result + self.count ≤ 2 ^ 27 }
+        ensures small { result + self.count ≤ VARIABLE_LIMIT }
     {
         self.first
     }
@@ -47,7 +48,7 @@ impl Span {
     /// How many there are.
     pub fn count(self) -> u32
         ensures count { result ≡ self.count }
-        ensures small { result < 2 ^ 27 }
+        ensures small { result < VARIABLE_LIMIT }
     {
         self.count
     }

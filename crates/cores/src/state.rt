@@ -1,6 +1,7 @@
 // What a counter holds, and the outputs of one core more.
 ghost use Rattle.std.specs.Prelude.{◌≡◌, ℕ, ◌-◌, ◌<◌, ◌≤◌, ◌^◌, true, [], ◌∷◌, ◌++◌, length, take};
 ghost use Rattle.std.specs.Prelude.{All, OnOk, IfOk};
+ghost use Rattle.cnf.specs.declared.limits.TheConstants.{FORMULA_VARIABLE_LIMIT};
 ghost use Rattle.cores.specs.Cores.{CounterState, counters, is_right, with_core};
 ghost use Rattle.cores.specs.Counter.{IsCounter};
 ghost use Rattle.cores.specs.Spans.{IsNamed};
@@ -106,7 +107,7 @@ fn push_outputs(clauses: &mut ClauseList, fresh: u32, core: &Core) -> Result<Out
     requires few { core.now.outputs ≤ length core.now.inputs }
     requires from_one { 0 < fresh }
     requires inputs { All (IsNamed fresh) core.now.inputs }
-    requires room { (counters fresh core.now).fresh ≤ 2 ^ 26 }
+    requires room { (counters fresh core.now).fresh ≤ FORMULA_VARIABLE_LIMIT }
     ensures first { IfOk result (λ o. o.first ∷ [] ≡ take 1 (counters fresh core.now).outputs) }
     ensures clauses { OnOk result
         (clauses.new ≡ clauses.old ++ (counters fresh core.now).clauses) }

@@ -4,6 +4,7 @@
 // and a number, and no vector: no memory is taken but for the clauses.
 ghost use Rattle.std.specs.Prelude.{◌≡◌, ℕ, ◌+◌, ◌*◌, ◌<◌, ◌≤◌, ◌^◌, [], ◌∷◌, ◌++◌, length, All};
 ghost use Rattle.std.specs.Prelude.{map, min, IfOk, OnOk};
+ghost use Rattle.cnf.specs.declared.limits.TheConstants.{FORMULA_VARIABLE_LIMIT, VARIABLE_LIMIT};
 ghost use Rattle.cnf.specs.Literal.{Literal, positive, negative};
 ghost use Rattle.cores.specs.Totalizer.{right_clauses, left_clauses, order_clauses, sum_clauses};
 ghost use Rattle.cores.specs.Totalizer.{totalizer};
@@ -34,7 +35,7 @@ pub(crate) fn push_totalizer(
     requires some { 0 < length inputs.now }
     requires variables { All IsLiteralVariable inputs.now }
     requires from_one { 0 < fresh }
-    requires room { (totalizer most fresh inputs.now).fresh ≤ 2 ^ 26 }
+    requires room { (totalizer most fresh inputs.now).fresh ≤ FORMULA_VARIABLE_LIMIT }
     ensures outputs { IfOk result
         (λ t. variables_of t.outputs ≡ (totalizer most fresh inputs.now).outputs) }
     ensures clauses { OnOk result
@@ -148,7 +149,7 @@ pub(crate) fn push_any(
 ) -> Result<(), AllocError>
     requires variables { All IsLiteralVariable inputs.now }
     requires from_one { 0 < output }
-    requires small { output < 2 ^ 27 }
+    requires small { output < VARIABLE_LIMIT }
     ensures { OnOk result (clauses.new
         ≡ clauses.old ++ map (λ x. negative x ∷ positive output ∷ []) inputs.now) }
 {

@@ -3,6 +3,7 @@
 // each takes eight. So all names are narrow, or all are wide.
 ghost use Rattle.std.specs.Prelude.{◌≡◌, ◌<◌, ◌≤◌, ◌^◌, [], ◌∷◌, ◌++◌, length, take, slice_set};
 ghost use Rattle.std.specs.Prelude.{IfOk, OnOk, OnErr};
+ghost use Rattle.cnf.specs.declared.limits.TheConstants.{NUMBER_LIMIT};
 ghost use Rattle.eliminate_names.specs.Work.{name_at};
 
 use lrat_log::lines::Name;
@@ -34,7 +35,7 @@ impl NameList {
     /// No names, with room for so many, of which memory holds fewer than 2^62.
     pub(crate) fn with_capacity(alloc: Global, count: usize) -> Result<Self, AllocError>
         ensures none { IfOk result (λ n. n ≡ []) }
-        ensures few { OnOk result (count < 2 ^ 62) }
+        ensures few { OnOk result (count < NUMBER_LIMIT) }
     {
         Ok(NameList {
             narrow: Vec::with_capacity(alloc, count)?,

@@ -9,6 +9,7 @@
 ghost use Rattle.std.specs.Prelude.{◌≡◌, ◌+◌, ◌<◌, ◌≤◌, ◌^◌, List, [], ◌∷◌, ◌++◌, length};
 ghost use Rattle.std.specs.Prelude.{IsTrue, IfOk, OnOk, OnErr, Some};
 ghost use Rattle.std.specs.List.{AllByRecursion};
+ghost use Rattle.cnf.specs.declared.limits.TheConstants.{VARIABLE_LIMIT};
 ghost use Rattle.cnf.specs.Literal.{Literal};
 ghost use Rattle.cnf.specs.Clause.{contains_literal};
 ghost use Rattle.cnf.specs.Lrat.{IsId};
@@ -60,7 +61,7 @@ pub fn define_pairs<S: Sink>(
     most: u32,
 ) -> Result<u32, AllocError>
     requires room { vars ≤ most }
-    requires most { most < 2 ^ 27 }
+    requires most { most < VARIABLE_LIMIT }
     requires fit { FitNames names.old store.old.slots (S.lines sink.old) }
     ensures { Passes result (stage_of vars store.old.slots names.old (S.lines sink.old))
         most store.new.slots names.new (S.lines sink.new) }
@@ -99,7 +100,7 @@ fn define_counted<S: Sink>(
     most: u32,
 ) -> Result<u32, AllocError>
     requires room { vars ≤ most }
-    requires most { most < 2 ^ 27 }
+    requires most { most < VARIABLE_LIMIT }
     requires fit { FitNames names.old store.old.slots (S.lines sink.old) }
     ensures { Passes result (stage_of vars store.old.slots names.old (S.lines sink.old))
         most store.new.slots names.new (S.lines sink.new) }
@@ -130,7 +131,7 @@ fn define_found<S: Sink>(
     candidate: &Candidate,
     table: &mut PairTable,
 ) -> Result<u32, AllocError>
-    requires room { vars + 1 < 2 ^ 27 }
+    requires room { vars + 1 < VARIABLE_LIMIT }
     requires fit { FitNames names.old store.old.slots (S.lines sink.old) }
     ensures often { IfOk result (λ v. vars < v
         → StandOften store.old.slots candidate.now.left candidate.now.right) }
@@ -194,19 +195,7 @@ fn stand_at(store: &Store, candidate: &Candidate, place: usize) -> bool
 fn has_both(lits: &[Lit], left: Lit, right: Lit) -> bool
     ensures { result ≡ together left right lits.now }
 {
-    contains(lits, left) && contains(lits, right) && lits.len() >= SHORTEST
-}
-
-/// Whether the literal is one of these.
-fn contains(lits: &[Lit], lit: Lit) -> bool
-    ensures { result ≡ contains_literal lit lits.now }
-{
-    for other in lits {
-        if lit == *other {
-            return true;
-        }
-    }
-    false
+    lits.contains(&left) && lits.contains(&right) && lits.len() >= SHORTEST
 }
 
 /// Whether both literals are among these, and the variable is not.
@@ -214,8 +203,8 @@ fn has_pair(lits: &[Lit], definition: &Fresh) -> bool
     ensures { IsTrue result
         → HasPairOf definition.now.variable definition.now.left definition.now.right lits.now }
 {
-    contains(lits, definition.left)
-        && contains(lits, definition.right)
+    lits.contains(&definition.left)
+        && lits.contains(&definition.right)
         && lacks(lits, definition.variable)
 }
 
@@ -240,7 +229,7 @@ fn define<S: Sink>(
     left: Lit,
     right: Lit,
 ) -> Result<Fresh, AllocError>
-    requires room { vars + 1 < 2 ^ 27 }
+    requires room { vars + 1 < VARIABLE_LIMIT }
     requires often { StandOften store.old.slots left right }
     requires fit { FitNames names.old store.old.slots (S.lines sink.old) }
     ensures variable { IfOk result (λ d. d.variable ≡ vars + 1) }
@@ -278,7 +267,7 @@ fn add_side<S: Sink>(
     whole: CRef,
 ) -> Result<CRef, AllocError>
     requires from_one { 0 < variable }
-    requires small { variable < 2 ^ 27 }
+    requires small { variable < VARIABLE_LIMIT }
     requires named { whole < length names.old.names }
     requires counted { names.old.additions ≡ added_count (S.lines sink.old) }
     ensures reference { IfOk result (λ r. r ≡ length store.old.slots) }
@@ -308,7 +297,7 @@ fn replace<S: Sink>(
     reference: CRef,
 ) -> Result<CRef, AllocError>
     requires from_one { 0 < definition.now.variable }
-    requires small { definition.now.variable < 2 ^ 27 }
+    requires small { definition.now.variable < VARIABLE_LIMIT }
     requires defined { IsDefined store.old.slots definition.now }
     requires live { IsLive store.old.slots reference }
     requires pair { (c : List Literal) → clause_at store.old.slots reference ≡ Some c
@@ -344,7 +333,7 @@ fn plain(names: &Names, reference: CRef) -> Hint
 /// The variable, and then the literals without the pair.
 fn replaced_lits(alloc: Global, lits: &[Lit], definition: &Fresh) -> Result<Vec<Lit>, AllocError>
     requires from_one { 0 < definition.now.variable }
-    requires small { definition.now.variable < 2 ^ 27 }
+    requires small { definition.now.variable < VARIABLE_LIMIT }
     ensures { IfOk result (λ v. v.items
         ≡ replaced definition.now.variable definition.now.left definition.now.right lits.now) }
 {

@@ -2,6 +2,7 @@
 // values back.
 ghost use Rattle.std.specs.Prelude.{◌≡◌, ◌+◌, ◌-◌, ◌<◌, ◌≤◌, ◌^◌, false, List};
 ghost use Rattle.std.specs.Prelude.{[], ◌∷◌, ◌++◌, length, All, IfOk, OnErr};
+ghost use Rattle.cnf.specs.declared.limits.TheConstants.{VARIABLE_LIMIT};
 ghost use Rattle.cnf.specs.Literal.{Literal, literal_value};
 ghost use Rattle.cnf.specs.Bits.{assignment_of};
 ghost use Rattle.eliminate_tables.specs.Removals.{Removed, extended, is_needed};
@@ -78,7 +79,7 @@ impl Removals {
         store: &Store,
     ) -> Result<(), AllocError>
         requires from_one { 0 < variable }
-        requires small { variable < 2 ^ 27 }
+        requires small { variable < VARIABLE_LIMIT }
         requires live { All (IsLive store.now.slots) references.now }
         ensures { IfOk result (λ _. self.new ≡ self.old ++ record {
           variable = variable;
@@ -163,7 +164,7 @@ fn copy_clause(
 
 /// Whether some clause needs the variable to be true.
 fn some_needed(pieces: &[Piece], literals: &[Lit], variable: u32, bits: &[bool]) -> bool
-    requires variable { (0 < variable) × (variable < 2 ^ 27) }
+    requires variable { (0 < variable) × (variable < VARIABLE_LIMIT) }
     requires within { All (IsWithin (length literals.now)) pieces.now }
     ensures { result ≡ becomes_true (assignment_of bits.now) (record {
       variable = variable;

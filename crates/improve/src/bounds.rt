@@ -3,6 +3,7 @@
 // formula has the clauses of the last bound alone: at the end the log is told over that one.
 ghost use Rattle.std.specs.Prelude.{◌≡◌, ◌+◌, ◌<◌, ◌≤◌, ◌^◌, [], ◌∷◌, ◌++◌};
 ghost use Rattle.std.specs.Prelude.{ℕ, false, List, length, All, IfOk, OnOk};
+ghost use Rattle.cnf.specs.declared.limits.TheConstants.{NUMBER_LIMIT};
 ghost use Rattle.cnf.specs.Literal.{Literal};
 ghost use Rattle.cnf.specs.Clause.{has_repeat, has_opposites};
 ghost use Rattle.lrat_log.specs.Log.{clauses_in};
@@ -91,7 +92,7 @@ impl Bounds {
     /// Gives the clauses of a further bound: the cost has to be below it.
     pub fn add(&mut self, instance: &Instance, cost: u64) -> Result<(), AllocError>
         requires over { IsOver instance.now self.old }
-        requires small { cost ≤ 2 ^ 62 }
+        requires small { cost ≤ NUMBER_LIMIT }
         ensures over { OnOk result (IsOver instance.now self.new) }
         ensures costs { OnOk result (self.new.costs.items ≡ self.old.costs.items ++ cost ∷ []) }
         ensures profile { OnOk result (self.new.profile ≡ self.old.profile) }
@@ -109,7 +110,7 @@ impl Bounds {
     /// Gives the clauses of bounds for these costs, in their order.
     pub fn add_all(&mut self, instance: &Instance, costs: &[u64]) -> Result<(), AllocError>
         requires over { IsOver instance.now self.old }
-        requires small { All (λ c. c ≤ 2 ^ 62) costs.now }
+        requires small { All (λ c. c ≤ NUMBER_LIMIT) costs.now }
         ensures over { OnOk result (IsOver instance.now self.new) }
         ensures costs { OnOk result
             (self.new.costs.items ≡ self.old.costs.items ++ costs.now) }

@@ -6,6 +6,7 @@
 // steps as it has literals. Memory is linear in the clauses and the variables.
 ghost use Rattle.std.specs.Prelude.{◌≡◌, ◌+◌, ◌*◌, ◌<◌, ◌≤◌, ◌^◌, ℕ, true, List, length, drop};
 ghost use Rattle.std.specs.Prelude.{All, IfOk};
+ghost use Rattle.cnf.specs.declared.limits.TheConstants.{NUMBER_LIMIT, VARIABLE_LIMIT};
 ghost use Rattle.cnf.specs.Literal.{Literal, index_of};
 ghost use Rattle.cnf.specs.Clause.{contains_literal};
 ghost use Rattle.cnf.specs.Marks.{IsMarked, HasPlace};
@@ -37,7 +38,7 @@ impl Firsts {
         start: usize,
         vars: u32,
     ) -> Result<Self, AllocError>
-        requires few { vars < 2 ^ 27 }
+        requires few { vars < VARIABLE_LIMIT }
         requires within { start ≤ length given.now }
         requires places { HavePlaces (2 * vars) given.now start (length given.now) }
         ensures { IfOk result (AreFirsts (2 * vars) (clauses_in (drop start given.now))) }
@@ -56,7 +57,7 @@ impl Firsts {
         marks: &Marks,
         lits: &[Lit],
     ) -> u32
-        requires few { length given.now < 2 ^ 62 }
+        requires few { length given.now < NUMBER_LIMIT }
         requires within { start ≤ length given.now }
         requires places { HavePlaces (length marks.now) given.now start (length given.now) }
         requires firsts { AreFirsts (length marks.now) (clauses_in (drop start given.now))
@@ -82,7 +83,7 @@ impl Firsts {
         row: usize,
         lits: &[Lit],
     ) -> u32
-        requires few { length given.now < 2 ^ 62 }
+        requires few { length given.now < NUMBER_LIMIT }
         requires within { start ≤ length given.now }
         requires places { HavePlaces (length marks.now) given.now start (length given.now) }
         requires firsts { AreFirsts (length marks.now) (clauses_in (drop start given.now))
@@ -111,7 +112,7 @@ fn count_literals(
     start: usize,
     vars: u32,
 ) -> Result<Vec<u32>, AllocError>
-    requires few { vars < 2 ^ 27 }
+    requires few { vars < VARIABLE_LIMIT }
     requires within { start ≤ length given.now }
     requires places { HavePlaces (2 * vars) given.now start (length given.now) }
     ensures { IfOk result (λ counts. length counts.items ≡ 2 * vars) }

@@ -3,6 +3,7 @@
 // speaks of a network's outputs, and up to 2^17 + 64 where it speaks of sums.
 ghost use Rattle.std.specs.Prelude.{◌≡◌, ℕ, ◌+◌, ◌*◌, ◌-◌, ◌<◌, ◌≤◌, ◌^◌, List, length, map, drop};
 ghost use Rattle.std.specs.Prelude.{take, All, IfOk};
+ghost use Rattle.cnf.specs.declared.limits.TheConstants.{NUMBER_LIMIT, VARIABLE_LIMIT};
 ghost use Rattle.cnf.specs.Literal.{Literal};
 ghost use Rattle.cnf.specs.Marks.{HasPlace};
 ghost use Rattle.lrat_log.specs.Log.{clauses_in};
@@ -28,7 +29,7 @@ pub fn pair_with_subsets(
 ) -> Result<Vec<(Vec<Lit>, u64)>, AllocError>
     requires order { start ≤ end }
     requires within { end ≤ length given.now }
-    requires few { first + length given.now < 2 ^ 62 }
+    requires few { first + length given.now < NUMBER_LIMIT }
     ensures { IfOk result (λ weaker. weaker_list weaker.items
         ≡ weaker_among first (clauses_in (drop end given.now))
         (clauses_in (take (end - start) (drop start given.now)))) }
@@ -49,7 +50,7 @@ pub fn pair_with_subsets(
 /// The greatest variable of the clauses from the place `start` on.
 fn greatest_variable(given: &GivenClauses, start: usize) -> u32
     requires { start ≤ length given.now }
-    ensures small { result < 2 ^ 27 }
+    ensures small { result < VARIABLE_LIMIT }
     ensures places { HavePlaces (2 * result) given.now start (length given.now) }
 {
     let mut vars = 0;
@@ -61,8 +62,8 @@ fn greatest_variable(given: &GivenClauses, start: usize) -> u32
 
 /// The greatest variable of the literals, and at least `least`.
 fn greatest_of(lits: &[Lit], least: u32) -> u32
-    requires { least < 2 ^ 27 }
-    ensures small { result < 2 ^ 27 }
+    requires { least < VARIABLE_LIMIT }
+    ensures small { result < VARIABLE_LIMIT }
     ensures least { least ≤ result }
     ensures places { All (HasPlace (2 * result)) lits.now }
 {

@@ -2,6 +2,7 @@
 // that for a lower cost where there is no core.
 ghost use Rattle.std.specs.Prelude.{◌≡◌, ℕ, ◌+◌, ◌<◌, ◌≤◌, ◌^◌, ◌++◌, [], true, false, List};
 ghost use Rattle.std.specs.Prelude.{length, IfOk, OnOk, Ok};
+ghost use Rattle.cnf.specs.declared.limits.TheConstants.{NUMBER_LIMIT};
 ghost use Rattle.cnf.specs.Formula.{IsUnsatisfiable};
 ghost use Rattle.cnf.specs.Literal.{Literal};
 ghost use Rattle.text.specs.Text.{token_lines};
@@ -36,7 +37,7 @@ pub(crate) fn formula_behind(
     instance: &Instance,
     cost: u64,
 ) -> Result<Formula, AllocError>
-    requires small { cost ≤ 2 ^ 62 }
+    requires small { cost ≤ NUMBER_LIMIT }
     requires is { IsHeadOf instance.now cores.now }
     requires enough { cores.now.some ≡ true → cost ≤ (cores.now.counted).weight }
     ensures same { IfOk result (λ f. (first : ℕ)
@@ -58,7 +59,7 @@ pub(crate) fn checker_behind(
     instance: &Instance,
     cost: u64,
 ) -> Result<Option<Checker>, AllocError>
-    requires small { cost ≤ 2 ^ 62 }
+    requires small { cost ≤ NUMBER_LIMIT }
     requires is { IsHeadOf instance.now head.now.cores }
     requires room { head.now.cores.lines + length head.now.rest < 2 ^ 64 }
     ensures { IfOk result (λ c. IsBehind instance.now cost (head_reading head.now) c) }
@@ -103,7 +104,7 @@ pub(crate) fn judge_behind(
     cost: u64,
     left: &[u8],
 ) -> Result<Verdict, AllocError>
-    requires small { cost ≤ 2 ^ 62 }
+    requires small { cost ≤ NUMBER_LIMIT }
     requires is { IsHeadOf instance.now head.now.cores }
     requires room { head.now.cores.lines + length head.now.rest + length left.now < 2 ^ 64 }
     requires line { head.now.cores.lines + 1 < 2 ^ 64 }
@@ -132,7 +133,7 @@ fn verdict_at_end(cores: &CoreLines, instance: &Instance, cost: u64) -> Verdict
 
 /// The verdict, where nothing follows the pieces of the head.
 pub(crate) fn end_head(head: Head, instance: &Instance, cost: u64) -> Result<Verdict, AllocError>
-    requires small { cost ≤ 2 ^ 62 }
+    requires small { cost ≤ NUMBER_LIMIT }
     requires is { IsHeadOf instance.now head.cores }
     requires room { head.cores.lines + length head.rest < 2 ^ 64 }
     ensures verdict { IfOk result (λ v. (bytes : List ℕ)

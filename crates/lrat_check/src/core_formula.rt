@@ -1,5 +1,6 @@
 //! The formula that a certificate with core lines refutes.
 ghost use Rattle.std.specs.Prelude.{◌≡◌, ℕ, ◌+◌, ◌<◌, ◌≤◌, ◌^◌, List, length, IfOk};
+ghost use Rattle.cnf.specs.declared.limits.TheConstants.{NUMBER_LIMIT};
 ghost use Rattle.lrat_check.specs.CoreFormula.{refuted};
 ghost use Rattle.lrat_check.specs.CoreLines.{IsHeadOf};
 ghost use Rattle.lrat_check.specs.Heads.{IsOpenHead, head_reading};
@@ -32,7 +33,7 @@ pub enum Refuted {
 ///
 /// `AllocError` where memory was refused.
 pub fn core_formula(instance: &Instance, cost: u64, proof: &[u8]) -> Result<Refuted, AllocError>
-    requires { cost ≤ 2 ^ 62 }
+    requires { cost ≤ NUMBER_LIMIT }
     ensures { IfOk result (λ r. refuted r ≡ refuted_formula instance.now cost proof.now) }
 {
     if cost == 0 {
@@ -53,7 +54,7 @@ fn formula_of(
     cost: u64,
     first: u64,
 ) -> Result<Refuted, AllocError>
-    requires small { cost ≤ 2 ^ 62 }
+    requires small { cost ≤ NUMBER_LIMIT }
     requires is { IsHeadOf instance.now cores.now }
     ensures { IfOk result (λ r. refuted r
         ≡ formula_behind instance.now cost cores.now.some cores.now.counted first) }
@@ -66,7 +67,7 @@ fn formula_of(
 
 /// The formula, where nothing follows the pieces of the head.
 fn end_formula(head: Head, instance: &Instance, cost: u64) -> Result<Refuted, AllocError>
-    requires small { cost ≤ 2 ^ 62 }
+    requires small { cost ≤ NUMBER_LIMIT }
     requires is { IsHeadOf instance.now head.cores }
     requires room { head.cores.lines + length head.rest < 2 ^ 64 }
     ensures { IfOk result (λ r. (bytes : List ℕ)

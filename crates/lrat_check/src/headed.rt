@@ -1,6 +1,7 @@
 // Certificates that may begin with core lines, whole or from a reader.
 ghost use Rattle.std.specs.Prelude.{◌≡◌, ℕ, ◌+◌, ◌<◌, ◌≤◌, ◌^◌, ◌++◌, List, length, IfOk, IfSome};
 ghost use Rattle.std.specs.Prelude.{OnOk};
+ghost use Rattle.cnf.specs.declared.limits.TheConstants.{NUMBER_LIMIT};
 ghost use Rattle.text.specs.Text.{token_lines};
 ghost use Rattle.lrat_check.specs.Checks.{CostsAtLeast};
 ghost use Rattle.lrat_check.specs.CoreLines.{IsHeadOf};
@@ -23,7 +24,7 @@ pub(crate) fn check_headed(
     cost: u64,
     proof: &[u8],
 ) -> Result<Verdict, AllocError>
-    requires { cost ≤ 2 ^ 62 }
+    requires { cost ≤ NUMBER_LIMIT }
     ensures verdict { IfOk result (λ v. v ≡ headed_verdict instance.now cost proof.now) }
     ensures sound { IfOk result (λ v. v ≡ Verdict.Yes → CostsAtLeast instance.now cost) }
 {
@@ -42,7 +43,7 @@ pub(crate) fn check_headed_stream<R: Read>(
     cost: u64,
     proof: &mut R,
 ) -> Result<Verdict, CheckFault>
-    requires { cost ≤ 2 ^ 62 }
+    requires { cost ≤ NUMBER_LIMIT }
     ensures verdict { IfOk result (λ v. IfSome (R.remaining proof.old)
         (λ bytes. v ≡ headed_verdict instance.now cost bytes)) }
     ensures stops { OnOk result (StopsInTime (headed_verdict instance.now cost)
@@ -59,7 +60,7 @@ pub(crate) fn check_headed_stream<R: Read>(
 
 /// The verdict, where the certificate ends with the pieces of the head.
 fn conclude(head: Head, instance: &Instance, cost: u64) -> Result<Verdict, CheckFault>
-    requires small { cost ≤ 2 ^ 62 }
+    requires small { cost ≤ NUMBER_LIMIT }
     requires is { IsHeadOf instance.now head.cores }
     requires room { head.cores.lines + length head.rest < 2 ^ 64 }
     ensures verdict { IfOk result (λ v. (bytes : List ℕ)
@@ -80,7 +81,7 @@ fn judge_rest<R: Read>(
     cost: u64,
     proof: &mut R,
 ) -> Result<Verdict, CheckFault>
-    requires small { cost ≤ 2 ^ 62 }
+    requires small { cost ≤ NUMBER_LIMIT }
     requires is { IsHeadOf instance.now head.now.cores }
     requires room { head.now.cores.lines + length head.now.rest < 2 ^ 64 }
     requires line { head.now.cores.lines + 1 < 2 ^ 64 }

@@ -4,7 +4,6 @@
 mod behind;
 pub mod certificate;
 pub mod checking;
-mod copies;
 pub mod core_formula;
 mod core_lines;
 mod head_streams;

@@ -6,7 +6,6 @@ ghost use Rattle.cnf.specs.Literal.{Literal};
 ghost use Rattle.lrat_check.specs.Pieces.{HasJudged};
 ghost use Rattle.lrat_check.specs.Verdict.{proof_verdict};
 
-use crate::copies::copy_formula;
 use crate::reading::Reading;
 use crate::verdicts::{FeedFault, Verdict};
 use cnf::types::Formula;
@@ -55,7 +54,7 @@ impl Checker {
         ensures judged { IfOk result (λ c. HasJudged c formula.now.clauses []) }
         ensures works { IfOk result (λ c. c.failed ≡ false) }
     {
-        Checker::over(copy_formula(formula)?)
+        Checker::over(formula.try_clone()?)
     }
 
     /// As `new`, over a formula whose memory the checker takes.

@@ -3,6 +3,7 @@
 // name: a clause of the formula by its number there, and a clause that the log added by its number
 // among the additions.
 ghost use Rattle.std.specs.Prelude.{◌≡◌, ℕ, ◌<◌, ◌≤◌, ◌^◌};
+ghost use Rattle.cnf.specs.declared.limits.TheConstants.{NUMBER_LIMIT};
 
 use cnf::types::Lit;
 use std::marker::Model;
@@ -21,7 +22,7 @@ impl Model for Number {
 
     ghost view = { λ n. n.value };
 
-    ghost invariant = { λ n. (0 < n.value) × (n.value < 2 ^ 62) };
+    ghost invariant = { λ n. (0 < n.value) × (n.value < NUMBER_LIMIT) };
 
     ghost inverse = { λ v. record { value = v } };
 }
@@ -30,7 +31,7 @@ impl Number {
     /// The number with this value.
     pub fn new(value: u64) -> Self
         requires from_one { 0 < value }
-        requires small { value < 2 ^ 62 }
+        requires small { value < NUMBER_LIMIT }
         ensures { result ≡ value }
     {
         Number { value }
@@ -40,7 +41,7 @@ impl Number {
     pub fn get(self) -> u64
         ensures value { result ≡ self }
         ensures from_one { 0 < result }
-        ensures small { result < 2 ^ 62 }
+        ensures small { result < NUMBER_LIMIT }
     {
         self.value
     }

@@ -8,6 +8,7 @@
 ghost use Rattle.std.specs.Prelude.{◌≡◌, ℕ, ◌+◌, ◌<◌, ◌≤◌, ◌^◌, ◌++◌, List, [], Some, length, All};
 ghost use Rattle.std.specs.Prelude.{IfOk, OnOk, OnErr, slice_get, slice_range, ◌==◌};
 ghost use Rattle.std.specs.Io.KnownBytes.{Appends};
+ghost use Rattle.cnf.specs.declared.limits.TheConstants.{NUMBER_LIMIT};
 ghost use Rattle.text.specs.LratText.{IsTextOf};
 ghost use Rattle.text.specs.Writing.{AppendsPart, PassesOn};
 ghost use Rattle.lrat_log.specs.Steps.{HoldsAtEachBase, added_count};
@@ -200,7 +201,7 @@ fn cut_out<T>(items: &[T], start: usize, end: usize) -> &[T]
 ///
 /// `AllocError` where memory for the text was refused.
 pub fn render(log: &Log, base: u64) -> Result<Vec<u8>, AllocError>
-    requires room { base + added_count log.now < 2 ^ 62 }
+    requires room { base + added_count log.now < NUMBER_LIMIT }
     requires ids { HasSmallIds base log.now }
     ensures text { IfOk result (λ bytes. bytes.items ≡ text_of base log.now) }
     ensures lines { IfOk result (λ bytes. IsTextOf bytes.items (numbered_lines base log.now)) }
@@ -221,7 +222,7 @@ pub fn render(log: &Log, base: u64) -> Result<Vec<u8>, AllocError>
 /// `WriteFault` where the writer answered `Err`, or took none of the bytes that it was given. It
 /// has then a beginning of the text, and is not called again.
 pub fn write_to<W: Write>(log: &Log, base: u64, writer: &mut W) -> Result<(), WriteFault>
-    requires room { base + added_count log.now < 2 ^ 62 }
+    requires room { base + added_count log.now < NUMBER_LIMIT }
     requires ids { HasSmallIds base log.now }
     ensures ok { OnOk result (Appends (W.contents writer.old) (W.contents writer.new)
         (text_of base log.now)) }
@@ -251,7 +252,7 @@ fn put_line<W: Write>(
     last: u64,
 ) -> Result<u64, WriteFault>
     requires line { line < length log.now }
-    requires last { last < 2 ^ 62 }
+    requires last { last < NUMBER_LIMIT }
     requires ids { HasSmallIds base log.now }
     ensures ok { OnOk result (PassesOn (W.contents writer.old) block.old
         (line_text (numbered_after base last (line_at log.now line)))

@@ -1,6 +1,7 @@
 // Hints as the log keeps them: a log has many more hints than lines, so each takes one word, of
 // four bytes where its number is small.
 ghost use Rattle.std.specs.Prelude.{◌≡◌, ◌<◌, ◌≤◌, ◌-◌, ◌^◌, ◌↔◌, IsTrue};
+ghost use Rattle.cnf.specs.declared.limits.TheConstants.{NUMBER_LIMIT};
 ghost use Rattle.lrat_log.specs.Log.{id_of, name_of, is_group, is_added};
 ghost use Rattle.lrat_log.specs.Packed.{name_code, hint_code};
 
@@ -75,7 +76,7 @@ impl PackedHint {
 
     /// The id of the clause that the hint names, where the first addition has the id `base + 1`.
     pub fn id(self, base: u64) -> u64
-        requires { id_of base (name_of self) < 2 ^ 62 }
+        requires { id_of base (name_of self) < NUMBER_LIMIT }
         ensures { result ≡ id_of base (name_of self) }
     {
         let number = self.code / 4;

@@ -3,6 +3,7 @@
 // the last bound alone. Each clause of the others has a clause of the last as a subset: so it comes
 // as a line of its own, and the lines of the log name it by that.
 ghost use Rattle.std.specs.Prelude.{◌≡◌, ◌+◌, ◌<◌, ◌^◌, length, map, All, IfOk, OnOk};
+ghost use Rattle.cnf.specs.declared.limits.TheConstants.{NUMBER_LIMIT};
 ghost use Rattle.cnf.specs.Lrat.{IsId};
 ghost use Rattle.lrat_log.specs.Log.{HasSmallIds, id_of, line_at};
 ghost use Rattle.lrat_log.specs.Rebase.{KeepsLog, moved_hint, moved_line, moved_name, rebased};
@@ -25,7 +26,7 @@ use std::alloc::{AllocError, Global};
 pub fn rebase(log: &Log, fixed: u64, weaker: &[(Vec<Lit>, u64)]) -> Result<Log, AllocError>
     requires numbers { All (λ e. IsId e.1) weaker.now }
     requires literals { All (λ e. All (λ l. IsId l.variable) (e.0).items) weaker.now }
-    requires room { fixed + length weaker.now < 2 ^ 62 }
+    requires room { fixed + length weaker.now < NUMBER_LIMIT }
     requires ids { HasSmallIds (length weaker.now) log.now }
     ensures lines { IfOk result (λ new. new ≡ rebased fixed (weaker_list weaker.now) log.now) }
 
@@ -60,7 +61,7 @@ fn weaken(alloc: Global, lits: &[Lit], number: u64) -> Result<Line, AllocError>
 /// Copies the line in this place, with its names moved.
 fn move_line(log: &Log, line: usize, fixed: u64, count: u64) -> Result<Line, AllocError>
     requires line { line < length log.now }
-    requires room { fixed + count < 2 ^ 62 }
+    requires room { fixed + count < NUMBER_LIMIT }
     requires ids { HasSmallIds count log.now }
     ensures { IfOk result (λ new. new ≡ moved_line fixed count (line_at log.now line)) }
 {
@@ -73,7 +74,7 @@ fn move_line(log: &Log, line: usize, fixed: u64, count: u64) -> Result<Line, All
 /// Copies the hints of the line in this place, with their names moved.
 fn move_hints(log: &Log, line: usize, fixed: u64, count: u64) -> Result<Vec<Hint>, AllocError>
     requires line { line < length log.now }
-    requires room { fixed + count < 2 ^ 62 }
+    requires room { fixed + count < NUMBER_LIMIT }
     requires ids { HasSmallIds count log.now }
     ensures { IfOk result (λ hints. hints.items
         ≡ map (moved_hint fixed count) (line_at log.now line).hints) }
@@ -93,8 +94,8 @@ fn move_hints(log: &Log, line: usize, fixed: u64, count: u64) -> Result<Vec<Hint
 /// The new name, where the `count` clauses after the first `fixed` ones come as lines before all
 /// others.
 fn move_name(name: Name, fixed: u64, count: u64) -> Name
-    requires room { fixed + count < 2 ^ 62 }
-    requires id { id_of count name < 2 ^ 62 }
+    requires room { fixed + count < NUMBER_LIMIT }
+    requires id { id_of count name < NUMBER_LIMIT }
     ensures { result ≡ moved_name fixed count name }
 {
     match name {

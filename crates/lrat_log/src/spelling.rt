@@ -1,6 +1,7 @@
 // The lines of a certificate, on their way to a writer.
 ghost use Rattle.std.specs.Prelude.{◌≡◌, ◌<◌, ◌≤◌, ◌^◌, ◌++◌, length, map, drop, slice_index, All};
 ghost use Rattle.std.specs.Prelude.{OnOk, OnErr};
+ghost use Rattle.cnf.specs.declared.limits.TheConstants.{NUMBER_LIMIT};
 ghost use Rattle.cnf.specs.Lrat.{Addition, Deletion};
 ghost use Rattle.text.specs.Writing.{AppendsPart, PassesOn};
 ghost use Rattle.lrat_log.specs.Log.{IsPlain, id_of, name_of, leading_ids, group_ids};
@@ -26,7 +27,7 @@ pub fn put_addition<W: Write>(
     lits: &[Lit],
     hints: &HintSlice<'_>,
 ) -> Result<(), WriteFault>
-    requires { All (λ h. id_of base (name_of h) < 2 ^ 62) hints.now }
+    requires { All (λ h. id_of base (name_of h) < NUMBER_LIMIT) hints.now }
     ensures ok { OnOk result (PassesOn (W.contents writer.old) block.old
         (line_text (Addition id lits.now (leading_ids base hints.now)
         (group_ids base hints.now))) (W.contents writer.new) block.new) }
@@ -47,7 +48,7 @@ pub fn put_deletion<W: Write>(
     lead: u64,
     hints: &HintSlice<'_>,
 ) -> Result<(), WriteFault>
-    requires small { All (λ h. id_of base (name_of h) < 2 ^ 62) hints.now }
+    requires small { All (λ h. id_of base (name_of h) < NUMBER_LIMIT) hints.now }
     requires plain { All IsPlain hints.now }
     ensures ok { OnOk result (PassesOn (W.contents writer.old) block.old
         (line_text (Deletion lead (map (λ h. id_of base (name_of h)) hints.now)))
@@ -67,7 +68,7 @@ fn put_end<W: Write>(
     base: u64,
     hints: &HintSlice<'_>,
 ) -> Result<(), WriteFault>
-    requires { All (λ h. id_of base (name_of h) < 2 ^ 62) hints.now }
+    requires { All (λ h. id_of base (name_of h) < NUMBER_LIMIT) hints.now }
     ensures ok { OnOk result (PassesOn (W.contents writer.old) block.old
         (end_text word.now base hints.now) (W.contents writer.new) block.new) }
     ensures fault { OnErr result (AppendsPart (W.contents writer.old) (W.contents writer.new)
@@ -85,7 +86,7 @@ fn put_hints<W: Write>(
     base: u64,
     hints: &HintSlice<'_>,
 ) -> Result<(), WriteFault>
-    requires { All (λ h. id_of base (name_of h) < 2 ^ 62) hints.now }
+    requires { All (λ h. id_of base (name_of h) < NUMBER_LIMIT) hints.now }
     ensures ok { OnOk result (PassesOn (W.contents writer.old) block.old
         (hints_text base hints.now) (W.contents writer.new) block.new) }
     ensures fault { OnErr result (AppendsPart (W.contents writer.old) (W.contents writer.new)
@@ -107,7 +108,7 @@ fn put_hint<W: Write>(
     base: u64,
     hint: PackedHint,
 ) -> Result<(), WriteFault>
-    requires { id_of base (name_of hint) < 2 ^ 62 }
+    requires { id_of base (name_of hint) < NUMBER_LIMIT }
     ensures ok { OnOk result (PassesOn (W.contents writer.old) block.old
         (hint_text base hint) (W.contents writer.new) block.new) }
     ensures fault { OnErr result (AppendsPart (W.contents writer.old) (W.contents writer.new)

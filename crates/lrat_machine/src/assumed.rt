@@ -2,6 +2,7 @@
 // list of those that are undoes them, so that the table is never cleared as a whole.
 ghost use Rattle.std.specs.Prelude.{◌≡◌, ℕ, ◌<◌, ◌≤◌, ◌^◌, ◌∷◌, [], ◌++◌, false, OnOk, OnErr};
 ghost use Rattle.std.specs.Prelude.{length, take};
+ghost use Rattle.cnf.specs.declared.limits.TheConstants.{VARIABLE_LIMIT};
 ghost use Rattle.cnf.specs.Clause.{contains_literal};
 ghost use Rattle.lrat_machine.specs.Assumed.{AreValues};
 
@@ -58,7 +59,7 @@ impl Assumed {
 
     /// Lets the variables up to this one be assumed.
     pub(crate) fn grow(&mut self, variable: u32) -> Result<(), AllocError>
-        requires { variable < 2 ^ 27 }
+        requires { variable < VARIABLE_LIMIT }
         ensures ok { OnOk result (variable ≤ self.new.variables) }
         ensures more { self.old.variables ≤ self.new.variables }
         ensures literals { self.new.literals ≡ self.old.literals }

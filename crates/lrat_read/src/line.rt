@@ -1,5 +1,6 @@
 // What was read of a line, lent by the buffers that hold it.
 ghost use Rattle.std.specs.Prelude.{◌≡◌, ◌<◌, ◌^◌};
+ghost use Rattle.cnf.specs.declared.limits.TheConstants.{NUMBER_LIMIT};
 
 use crate::types::{Form, SignedId};
 use cnf::types::Lit;
@@ -31,7 +32,7 @@ impl<'a> Model for Line<'a> {
       hints = l.hints.now;
     } };
 
-    ghost invariant = { λ l. l.id < 2 ^ 62 };
+    ghost invariant = { λ l. l.id < NUMBER_LIMIT };
 }
 
 /// A line with its form.
@@ -46,7 +47,7 @@ pub struct ReadLine<'a> {
 impl<'a> Line<'a> {
     /// A line from its parts.
     pub(crate) fn new(id: u64, lits: &'a [Lit], is_large: bool, hints: &'a [SignedId]) -> Self
-        requires { id < 2 ^ 62 }
+        requires { id < NUMBER_LIMIT }
         ensures { result
             ≡ record { id = id; clause = lits.now; is_large = is_large; hints = hints.now } }
     {
@@ -61,7 +62,7 @@ impl<'a> Line<'a> {
     /// The leading number of the line, below 2^62.
     pub fn id(&self) -> u64
         ensures id { result ≡ self.now.id }
-        ensures small { result < 2 ^ 62 }
+        ensures small { result < NUMBER_LIMIT }
     {
         self.id
     }

@@ -1,5 +1,6 @@
 // The reader of lines, with its buffers.
 ghost use Rattle.std.specs.Prelude.{◌≡◌, ◌<◌, ◌≤◌, ◌^◌, [], drop, length, false, IfOk};
+ghost use Rattle.cnf.specs.declared.limits.TheConstants.{NUMBER_LIMIT};
 ghost use Rattle.text.specs.Text.{tokens_of};
 ghost use Rattle.lrat_read.specs.Reader.{IsReadAs, IsAdditionRead, IsDeletionRead};
 
@@ -37,7 +38,7 @@ impl Model for LineReader {
       hints = r.hints.items;
     } };
 
-    ghost invariant = { λ r. r.id < 2 ^ 62 };
+    ghost invariant = { λ r. r.id < NUMBER_LIMIT };
 }
 
 impl LineReader {

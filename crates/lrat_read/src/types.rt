@@ -1,5 +1,6 @@
 // What a line can be, and the numbers of its hints.
 ghost use Rattle.std.specs.Prelude.{◌≡◌, ◌<◌, ◌^◌};
+ghost use Rattle.cnf.specs.declared.limits.TheConstants.{NUMBER_LIMIT};
 
 use std::marker::Model;
 
@@ -44,7 +45,7 @@ impl SignedId {
     /// The id, with a dash before it or without.
     pub fn new(id: u64, is_dashed: bool) -> Self
         requires from_one { 0 < id }
-        requires small { id < 2 ^ 62 }
+        requires small { id < NUMBER_LIMIT }
         ensures { result ≡ (is_dashed, id) }
     {
         SignedId {
@@ -56,7 +57,7 @@ impl SignedId {
     pub fn id(self) -> u64
         ensures id { result ≡ self.1 }
         ensures from_one { 0 < result }
-        ensures small { result < 2 ^ 62 }
+        ensures small { result < NUMBER_LIMIT }
     {
         self.code / 2
     }

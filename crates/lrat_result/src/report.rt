@@ -1,5 +1,6 @@
 //! A result as it is read.
 ghost use Rattle.std.specs.Prelude.{◌<◌, ◌^◌};
+ghost use Rattle.cnf.specs.declared.limits.TheConstants.{NUMBER_LIMIT};
 
 /// What an `s` line says.
 #[derive(Clone, Copy, Debug, PartialEq, Eq, Drop)]
@@ -21,7 +22,7 @@ pub struct Cost {
     pub cost: u64,
     /// From 1.
     pub line: u64,
-    ghost small: { cost < 2 ^ 62 },
+    ghost small: { cost < NUMBER_LIMIT },
 }
 
 /// A solution: the last cost that was told, and the bits, from variable 1 on, with their line.

@@ -2,6 +2,7 @@
 //! where that has a solution one `v` line.
 ghost use Rattle.std.specs.Prelude.{◌≡◌, ℕ, List, ◌<◌, ◌^◌, IfOk, IfErr, IfSome, false, [], ◌∷◌};
 ghost use Rattle.std.specs.Option.{option_map};
+ghost use Rattle.cnf.specs.declared.limits.TheConstants.{NUMBER_LIMIT};
 ghost use Rattle.text.specs.Text.{tokens_of};
 ghost use Rattle.lrat_result.specs.Result.{same_bytes, bits_on, cost_of, claim_of, bits_of};
 ghost use Rattle.lrat_result.specs.Result.{is_ignored};
@@ -145,7 +146,7 @@ fn begins_with_c(token: &[u8]) -> bool
 // The cost that an `o` line tells.
 fn cost_in(words: Words<'_>) -> Option<u64>
     ensures cost { (ts : List (List ℕ)) → HasWords ts words.entry → result ≡ cost_of ts }
-    ensures small { IfSome result (λ cost. cost < 2 ^ 62) }
+    ensures small { IfSome result (λ cost. cost < NUMBER_LIMIT) }
 {
     match words {
         Words::Two(first, digits) if is(first, b"o") => {

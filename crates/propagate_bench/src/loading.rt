@@ -1,6 +1,7 @@
 // From a text in the DIMACS form to clauses that are attached. A clause may span lines, and a line
 // may hold several.
 ghost use Rattle.std.specs.Prelude.{◌≡◌, ◌<◌, ◌≤◌, ◌^◌, IsTrue, IfOk, OnOk};
+ghost use Rattle.cnf.specs.declared.limits.TheConstants.{VARIABLE_LIMIT};
 ghost use Rattle.propagate.specs.Fits.{Fits, IsWithin};
 
 use crate::faults::Fault;
@@ -40,7 +41,7 @@ fn is_remark(line: &[u8]) -> bool {
 
 /// The greatest variable of the formula, 0 where it has none.
 pub(crate) fn greatest_variable(text: &[u8]) -> Result<u32, Fault>
-    ensures { IfOk result (λ greatest. greatest < 2 ^ 27) }
+    ensures { IfOk result (λ greatest. greatest < VARIABLE_LIMIT) }
 {
     let mut greatest = 0;
     for (_number, line) in lines(text) {

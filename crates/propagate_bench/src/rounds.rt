@@ -1,5 +1,6 @@
 // Rounds of decisions, in an order and with signs that depend on the round alone.
 ghost use Rattle.std.specs.Prelude.{◌≡◌, ◌<◌, ◌^◌, OnOk};
+ghost use Rattle.cnf.specs.declared.limits.TheConstants.{VARIABLE_LIMIT};
 ghost use Rattle.propagate.specs.Fits.{Fits};
 
 use crate::faults::Fault;
@@ -48,7 +49,7 @@ pub(crate) fn play_rounds(
 ) -> Result<Counts, Fault>
     requires fits { Fits engine.old store.now.slots }
     requires vars { engine.old.variables ≡ vars }
-    requires few { vars < 2 ^ 27 }
+    requires few { vars < VARIABLE_LIMIT }
 {
     let mut counts = Counts {
         rounds: 0,
@@ -78,7 +79,7 @@ fn play(
 ) -> Result<(), Fault>
     requires fits { Fits engine.old store.now.slots }
     requires vars { engine.old.variables ≡ vars }
-    requires few { vars < 2 ^ 27 }
+    requires few { vars < VARIABLE_LIMIT }
     requires first { first < vars }
     ensures fits { OnOk result (Fits engine.new store.now.slots) }
     ensures vars { OnOk result (engine.new.variables ≡ vars) }
@@ -118,7 +119,7 @@ fn play(
 fn next_place(at: u32, step: u32, places: u32) -> u32
     requires at { at < places }
     requires step { step < places }
-    requires few { places < 2 ^ 27 }
+    requires few { places < VARIABLE_LIMIT }
     ensures { result < places }
 {
     let next = at + step;

@@ -5,6 +5,7 @@
 #![tactic(auto)]
 
 ghost use Rattle.std.specs.Prelude.{◌≡◌, ◌<◌, ◌≤◌, ◌^◌, All, IfOk};
+ghost use Rattle.cnf.specs.declared.limits.TheConstants.{NUMBER_LIMIT};
 ghost use Rattle.cnf.specs.Lrat.{IsId};
 ghost use Rattle.lrat_log.specs.Log.{HasSmallIds, id_of, name_of, number_in};
 
@@ -50,7 +51,7 @@ impl Random {
 
     fn name(&mut self) -> Name
         ensures number { IsId (number_in result) }
-        ensures id { id_of BASE result < 2 ^ 62 }
+        ensures id { id_of BASE result < NUMBER_LIMIT }
     {
         let id = self.up_to(2 * BASE);
         if id > BASE {
@@ -73,7 +74,7 @@ fn lits(alloc: Global, random: &mut Random) -> Result<Vec<Lit>, AllocError>
 
 fn hints(alloc: Global, random: &mut Random) -> Result<Vec<Hint>, AllocError>
     ensures numbers { IfOk result (λ v. All (λ h. IsId (number_in (name_of h))) v.items) }
-    ensures ids { IfOk result (λ v. All (λ h. id_of BASE (name_of h) < 2 ^ 62) v.items) }
+    ensures ids { IfOk result (λ v. All (λ h. id_of BASE (name_of h) < NUMBER_LIMIT) v.items) }
 {
     let mut hints = Vec::with_capacity(alloc, HINTS)?;
     for _k in 0..HINTS {
@@ -83,7 +84,7 @@ fn hints(alloc: Global, random: &mut Random) -> Result<Vec<Hint>, AllocError>
 }
 
 fn line(alloc: Global, random: &mut Random) -> Result<Line, AllocError>
-    ensures { IfOk result (λ l. All (λ h. id_of BASE (name_of h) < 2 ^ 62) l.hints) }
+    ensures { IfOk result (λ l. All (λ h. id_of BASE (name_of h) < NUMBER_LIMIT) l.hints) }
 {
     let lits = lits(alloc, random)?;
     let hints = hints(alloc, random)?;

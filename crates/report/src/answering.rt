@@ -3,6 +3,7 @@
 ghost use Rattle.std.specs.Prelude.{◌≡◌, ◌+◌, ◌<◌, ◌^◌, ◌++◌, ◌∷◌, []};
 ghost use Rattle.std.specs.Prelude.{length, codes, OnOk, OnErr, IfErr, All};
 ghost use Rattle.std.specs.Io.KnownBytes.{Appends};
+ghost use Rattle.cnf.specs.declared.limits.TheConstants.{CLAUSE_LIMIT, NUMBER_LIMIT};
 ghost use Rattle.text.specs.LratText.{IsTextOf};
 ghost use Rattle.text.specs.Writing.{AppendsPart, PassesOn};
 ghost use Rattle.lrat_log.specs.Log.{HasSmallIds, numbered_lines, text_of};
@@ -68,8 +69,8 @@ pub(crate) fn deliver_headed<P: Write>(
     clauses: u64,
     proof: &mut P,
 ) -> Result<(), RunFault>
-    requires few { clauses < 2 ^ 28 }
-    requires ids { clauses + length log.now < 2 ^ 62 → HasSmallIds clauses log.now }
+    requires few { clauses < CLAUSE_LIMIT }
+    requires ids { clauses + length log.now < NUMBER_LIMIT → HasSmallIds clauses log.now }
     requires numbers { All HasCoreNumbers cores.now }
     ensures ok { OnOk result (Appends (P.contents proof.old) (P.contents proof.new)
         (head_text cores.now ++ text_of clauses log.now)) }
@@ -86,8 +87,8 @@ pub(crate) fn deliver_headed<P: Write>(
 
 /// Says how a log is spelled; of no interest is what `write_to` does on a writer without room.
 fn is_spelled(log: &Log, clauses: u64)
-    requires few { clauses < 2 ^ 28 }
-    requires ids { clauses + length log.now < 2 ^ 62 → HasSmallIds clauses log.now }
+    requires few { clauses < CLAUSE_LIMIT }
+    requires ids { clauses + length log.now < NUMBER_LIMIT → HasSmallIds clauses log.now }
     ensures { IsTextOf (text_of clauses log.now) (numbered_lines clauses log.now) }
 {
     log.is_short();
@@ -97,8 +98,8 @@ fn is_spelled(log: &Log, clauses: u64)
 
 /// Writes the log as a certificate whose formula has so many clauses, and flushes.
 fn deliver_proof<P: Write>(log: &Log, clauses: u64, proof: &mut P) -> Result<(), RunFault>
-    requires few { clauses < 2 ^ 28 }
-    requires ids { clauses + length log.now < 2 ^ 62 → HasSmallIds clauses log.now }
+    requires few { clauses < CLAUSE_LIMIT }
+    requires ids { clauses + length log.now < NUMBER_LIMIT → HasSmallIds clauses log.now }
     ensures ok { OnOk result (Appends (P.contents proof.old) (P.contents proof.new)
         (text_of clauses log.now)) }
     ensures fault { IfErr result (λ fault. fault ≡ RunFault.ProofOutput) }

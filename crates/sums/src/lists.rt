@@ -1,5 +1,6 @@
 // Numbers with the variables that say that a sum is at least them.
 ghost use Rattle.std.specs.Prelude.{◌≡◌, ◌<◌, ◌^◌};
+ghost use Rattle.cnf.specs.declared.limits.TheConstants.{VARIABLE_LIMIT};
 ghost use Rattle.sums.specs.Sums.{yes, no};
 
 use cnf::types::Lit;
@@ -22,7 +23,7 @@ impl Model for AtLeast {
 
     ghost view = { λ a. record { number = a.number; variable = a.variable } };
 
-    ghost invariant = { λ a. (0 < a.variable) × (a.variable < 2 ^ 27) };
+    ghost invariant = { λ a. (0 < a.variable) × (a.variable < VARIABLE_LIMIT) };
 
     ghost inverse = { λ a. record { number = a.number; variable = a.variable } };
 }
@@ -31,7 +32,7 @@ impl AtLeast {
     /// The variable is true where the sum is at least the number.
     pub(crate) fn new(number: u64, variable: u32) -> Self
         requires from_one { 0 < variable }
-        requires small { variable < 2 ^ 27 }
+        requires small { variable < VARIABLE_LIMIT }
         ensures { result ≡ record { number = number; variable = variable } }
     {
         AtLeast { number, variable }
@@ -49,7 +50,7 @@ impl AtLeast {
     pub fn variable(self) -> u32
         ensures variable { result ≡ self.variable }
         ensures from_one { 0 < result }
-        ensures small { result < 2 ^ 27 }
+        ensures small { result < VARIABLE_LIMIT }
     {
         self.variable
     }

@@ -1,5 +1,6 @@
 // The numbers of a new list: each once, by rising size, with a new variable each.
 ghost use Rattle.std.specs.Prelude.{◌≡◌, ℕ, ◌+◌, ◌<◌, ◌≤◌, ◌^◌, ◌++◌, map, length, OnOk, IfOk};
+ghost use Rattle.cnf.specs.declared.limits.TheConstants.{FORMULA_VARIABLE_LIMIT};
 ghost use Rattle.sums.specs.Sums.{literal_of, named_from, numbers, rising, sums_with};
 
 use crate::lists::AtLeast;
@@ -55,7 +56,7 @@ fn sort_once(all: &mut Vec<u64>)
 fn name(alloc: Global, fresh: u32, all: &[u64]) -> Result<Vec<AtLeast>, AllocError>
     requires { 0 < fresh }
     ensures list { IfOk result (λ l. l.items ≡ named_from fresh all.now) }
-    ensures small { OnOk result (fresh + length all.now ≤ 2 ^ 26) }
+    ensures small { OnOk result (fresh + length all.now ≤ FORMULA_VARIABLE_LIMIT) }
 {
     if fresh > FORMULA_VARIABLE_LIMIT || all.len() > (FORMULA_VARIABLE_LIMIT - fresh) as usize {
         return Err(AllocError);
@@ -96,7 +97,7 @@ impl Named {
     pub fn of(fresh: u32, mut all: Vec<u64>) -> Result<Self, AllocError>
         requires { 0 < fresh }
         ensures list { IfOk result (λ n. n ≡ named_from fresh (rising all.items)) }
-        ensures small { IfOk result (λ n. fresh + length n ≤ 2 ^ 26) }
+        ensures small { IfOk result (λ n. fresh + length n ≤ FORMULA_VARIABLE_LIMIT) }
     {
         sort_once(&mut all);
         let list = name(*all.allocator(), fresh, &all)?;

@@ -1,4 +1,5 @@
-// What every text is made of: lines, the tokens of a line, and numbers.
+// What every text is made of: lines, the tokens of a line, and numbers. The iterators stand in
+// `pieces`: the toolchain makes a file of each name, so `Lines` and `lines` cannot share a module.
 ghost use Rattle.std.specs.Prelude.{◌≡◌};
 ghost use Rattle.text.specs.Text.{numbered_text, tokens_of};
 

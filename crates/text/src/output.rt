@@ -5,6 +5,7 @@ ghost use Rattle.std.specs.Prelude.{◌≡◌, ◌<◌, ◌≤◌, ◌+◌, ◌^
 ghost use Rattle.std.specs.Prelude.{OnErr};
 ghost use Rattle.std.specs.Fmt.{decimal};
 ghost use Rattle.std.specs.Io.KnownBytes.{Appends};
+ghost use Rattle.cnf.specs.declared.limits.TheConstants.{VARIABLE_LIMIT};
 ghost use Rattle.text.specs.Text.{literal_text};
 ghost use Rattle.text.specs.Writing.{AppendsPart, PassesOn};
 
@@ -156,7 +157,7 @@ impl Block {
 
 /// Writes the number from `start` on, and a space; answers where the space ends.
 fn write_spaced(bytes: &mut [u8], start: usize, number: u32) -> usize
-    requires small { number < 2 ^ 27 }
+    requires small { number < VARIABLE_LIMIT }
     requires room { start + 10 ≤ length bytes.old }
     ensures written { take result bytes.new ≡ take start bytes.old ++ (decimal number ++ 32 ∷ []) }
     ensures within { result ≤ length bytes.old }
@@ -169,7 +170,7 @@ fn write_spaced(bytes: &mut [u8], start: usize, number: u32) -> usize
 
 /// How many digits the number has, told without a branch.
 fn digit_count(number: u32) -> usize
-    requires { number < 2 ^ 27 }
+    requires { number < VARIABLE_LIMIT }
     ensures count { result ≡ length (decimal number) }
     ensures most { result ≤ 9 }
 {

@@ -4,6 +4,7 @@
 // of a large text with short clauses.
 ghost use Rattle.std.specs.Prelude.{◌≡◌, false, ℕ, ◌<◌, ◌≤◌, ◌^◌, max, List, [], ◌∷◌, ◌++◌, length};
 ghost use Rattle.std.specs.Prelude.{All, MatchResult, Ok, Err, OnOk, IfOk, ◌⊎◌};
+ghost use Rattle.cnf.specs.declared.limits.TheConstants.{MOST_LITERALS};
 ghost use Rattle.cnf.specs.Clause.{contains_literal, has_repeat};
 ghost use Rattle.cnf.specs.Literal.{Literal};
 ghost use Rattle.cnf.specs.Marks.{HasPlace, IsMarked};
@@ -128,10 +129,10 @@ impl Gathering {
         most: u32,
         mut words: Tokens<'_>,
     ) -> Result<usize, FaultKind>
-        requires before { before ≤ 2 ^ 26 }
+        requires before { before ≤ MOST_LITERALS }
         requires most { most ≤ 4194304 }
         requires covered { self.now.variables ≤ most }
-        ensures within { IfOk result (λ n. n ≤ 2 ^ 26) }
+        ensures within { IfOk result (λ n. n ≤ MOST_LITERALS) }
         ensures covered { self.new.variables ≤ most }
         ensures read { MatchResult result
             (λ n. gathered_at most (emptied self.old.variables) before words.entry

@@ -2,6 +2,7 @@
 ghost use Rattle.std.specs.Prelude.{◌≡◌, ℕ, false, ◌&&◌, [], ◌∷◌, ◌++◌, length, MatchOption, ◌+◌};
 ghost use Rattle.std.specs.Prelude.{◌<◌, ◌≤◌, ◌^◌, Ok, Err, None, OnOk, IfOk, IfSome, MatchResult};
 ghost use Rattle.std.specs.Prelude.{◌⊎◌};
+ghost use Rattle.cnf.specs.declared.limits.TheConstants.{MOST_LITERALS, NUMBER_LIMIT};
 ghost use Rattle.text.specs.Text.{tokens_of, capped};
 ghost use Rattle.wcnf.specs.Heads.{most_variable, one_hard, one_soft, weighed, head_of, is_p};
 ghost use Rattle.cnf.specs.Clause.{has_repeat};
@@ -60,7 +61,7 @@ impl Model for Draft {
           weight = d.weight;
         } };
 
-    ghost invariant = { λ d. (d.weight < 2 ^ 62) × (d.literals ≤ 2 ^ 26)
+    ghost invariant = { λ d. (d.weight < NUMBER_LIMIT) × (d.literals ≤ MOST_LITERALS)
         × (d.clause.variables ≤ most_variable d.header) };
 }
 
@@ -169,7 +170,7 @@ impl Draft {
     fn head(&self, token: &[u8]) -> Result<Option<u64>, FaultKind>
         ensures head { result ≡ head_of self.now.header (totals_of self.now) token.now }
         ensures limits { IfOk result
-            (λ o. IfSome o (λ w. (0 < w) × (self.now.weight + w < 2 ^ 62))) }
+            (λ o. IfSome o (λ w. (0 < w) × (self.now.weight + w < NUMBER_LIMIT))) }
     {
         match token {
             [b'0'..=b'9', ..] => self.weighed(number(token).ok_or(FaultKind::Weight)?),
@@ -184,7 +185,7 @@ impl Draft {
         ensures weighed { (v : ℕ) → weight ≡ capped v
             → result ≡ weighed self.now.header (totals_of self.now) v }
         ensures limits { IfOk result
-            (λ o. IfSome o (λ w. (0 < w) × (self.now.weight + w < 2 ^ 62))) }
+            (λ o. IfSome o (λ w. (0 < w) × (self.now.weight + w < NUMBER_LIMIT))) }
     {
         let Some(header) = &self.header else {
             return if weight == 0 || weight >= NUMBER_LIMIT {
@@ -222,10 +223,10 @@ impl Draft {
 
     /// The weight of a soft clause, if the limits allow one more of it.
     fn soft(&self, weight: u64) -> Result<Option<u64>, FaultKind>
-        requires { weight < 2 ^ 62 }
+        requires { weight < NUMBER_LIMIT }
         ensures soft { result ≡ one_soft (totals_of self.now) weight }
         ensures limits { IfOk result
-            (λ o. IfSome o (λ w. (w ≡ weight) × (self.now.weight + w < 2 ^ 62))) }
+            (λ o. IfSome o (λ w. (w ≡ weight) × (self.now.weight + w < NUMBER_LIMIT))) }
     {
         if self.weight + weight >= NUMBER_LIMIT {
             Err(FaultKind::WeightSum)
