@@ -312,7 +312,7 @@ class Instance:
 
     def solve(self, *, time_limit: Optional[float] = None, conflicts: Optional[int] = None,
               lower: bool = False, profile: Optional[int] = None, program: Optional[str] = None,
-              folder: Union[str, "os.PathLike[str]", None] = None) -> Solution:
+              folder: Union[str, "os.PathLike[str]", None] = None, resume: bool = False) -> Solution:
         """A solution of least cost, whose certificate `wmax check` has said YES to.
 
         time_limit  seconds, after which `wmax solve` is stopped. What it has found by then is given,
@@ -326,6 +326,8 @@ class Instance:
         folder      where the files stay: instance.wcnf, instance.result, instance.lrat,
                     instance.best (the last result that was kept meanwhile) and instance.bound (the
                     certificate of a lower bound); it is made if need be. Else they are removed.
+        resume      whether to go on from the solution and the lower bound that an earlier call left in
+                    the folder for this instance; else they are removed at the start
 
         Unsatisfiable: the hard clauses cannot all hold, which was checked.
         NoSolutionFound: time or effort ran out before a solution.
@@ -335,7 +337,7 @@ class Instance:
         with contextlib.ExitStack() as stack:
             if folder is None:
                 folder = stack.enter_context(tempfile.TemporaryDirectory(prefix="wmax-"))
-            run = _Run(program or find_program(), pathlib.Path(folder), profile)
+            run = _Run(program or find_program(), pathlib.Path(folder), profile, resume)
             run.instance.write_text(self.text(), encoding="utf-8")
             status, said = run.solve(time_limit, conflicts, lower)
             if said.status in ("OPTIMUM FOUND", "UNSATISFIABLE") and status is not None:
@@ -424,12 +426,12 @@ class _Run:
 
     STATUSES = {30: "OPTIMUM FOUND", 20: "UNSATISFIABLE", 10: "SATISFIABLE", 0: "UNKNOWN"}
 
-    def __init__(self, program: str, folder: pathlib.Path, profile: Optional[int]) -> None:
+    def __init__(self, program: str, folder: pathlib.Path, profile: Optional[int], resume: bool) -> None:
         folder.mkdir(parents=True, exist_ok=True)
         self.program = program
         self.instance, self.result, self.best, self.proof, self.bound = (
             folder / f"instance.{end}" for end in ("wcnf", "result", "best", "lrat", "bound"))
-        for old in (self.result, self.best, self.proof, self.bound):
+        for old in (self.result, self.proof) if resume else (self.result, self.best, self.proof, self.bound):
             with contextlib.suppress(FileNotFoundError):
                 old.unlink()
         self.profile = str(profile if profile is not None else self._last_profile())

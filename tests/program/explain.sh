@@ -50,6 +50,12 @@ lines result 'o 7' 's SATISFIABLE' 'v 11'
 explained 'names, in the order of the comments' 0 'cost 7' 'given up: 2 of 2 soft clauses' '+ 4 = 4, line 7: 4 -2 0' '+ 3 = 7, line 6: 3 -1 0' \
     'true: tea' 'true: coffee with milk' 'true: ?[1mmocha'
 
+# A comment that names a variable says nothing of the clauses below it.
+lines text 'c why' 'c 2 = coffee' '4 -2 0' 'c 1 = tea' '3 -1 0' '' 'c 1 = tea once more' '1 -2 0'
+lines result 'o 8' 's SATISFIABLE' 'v 11'
+explained 'a name is no reason' 0 'cost 8' 'given up: 3 of 3 soft clauses' '+ 4 = 4, line 3: 4 -2 0' '    c why' \
+    '+ 3 = 7, line 5: 3 -1 0' '    c why' '+ 1 = 8, line 8: 1 -2 0' 'true: coffee' 'true: tea' 'true: tea once more'
+
 # The sum of what is listed is the cost that `solve` told, and nothing is broken.
 awk -v dir="$work" -v count=60 -f tests/program/random.awk > "$work/wanted"
 while read -r number wanted; do

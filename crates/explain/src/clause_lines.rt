@@ -2,6 +2,7 @@
 // what is no clause there is blank, a comment, or the header of the older form.
 ghost use Rattle.std.specs.Prelude.{◌≡◌};
 
+use crate::names::is_name;
 use std::alloc::{AllocError, Global};
 use std::marker::Model;
 use text::cutting::{lines, tokens};
@@ -13,7 +14,8 @@ pub(crate) struct ClauseLine<'a> {
     line: u64,
     // The line.
     text: &'a [u8],
-    // The last comment above it, unless a blank line or an empty comment is between; else empty.
+    // The last comment above it that names no variable, unless a blank line or an empty comment is
+    // between; else empty.
     comment: &'a [u8],
 }
 
@@ -40,7 +42,8 @@ impl<'a> ClauseLine<'a> {
         self.text
     }
 
-    /// The last comment above it, unless a blank line or an empty comment is between; else empty.
+    /// The last comment above it that names no variable, unless a blank line or an empty comment is
+    /// between; else empty.
     pub(crate) fn comment(&self) -> &[u8]
         ensures { result.now ≡ self.now.comment }
     {
@@ -79,6 +82,7 @@ impl<'a> ClauseLines<'a> {
             };
             match tokens(text).next() {
                 None => comment = b"",
+                Some([b'c']) if is_name(text) => (),
                 Some([b'c']) => comment = comment_in(text),
                 Some([b'c', ..]) => comment = text,
                 Some([b'p']) => hard_word = last_token(text),

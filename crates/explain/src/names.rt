@@ -53,6 +53,17 @@ fn put_name<W: Write>(sheet: &mut Sheet, writer: &mut W, line: &[u8], bits: &[bo
     }
 }
 
+/// Whether the line is a comment that names a variable.
+pub(crate) fn is_name(line: &[u8]) -> bool {
+    let mut rest = tokens(line);
+    let (Some(first), Some(variable)) = (rest.next(), rest.next()) else {
+        return false;
+    };
+    let is_named = rest.next() == Some(IS) && rest.next().is_some();
+    let is_variable = matches!(read_word(variable), Word::Literal(lit) if !lit.is_negated());
+    first == COMMENT && is_named && is_variable
+}
+
 /// Whether the token is a variable that the bits make true.
 fn is_true_variable(token: &[u8], bits: &[bool]) -> bool
     ensures { result ≡ is_true_variable bits.now token.now }

@@ -266,6 +266,41 @@ With --profile 5: prints the formula that the lines of CERTIFICATE
 after its core lines refute, if they show that nothing costs less than
 COST";
 
+/// What is found under these names where a command line was read. First the commands.
+pub const SOLVE: &str = "solve";
+
+pub const CHECK: &str = "check";
+
+pub const LOWER: &str = "lower";
+
+pub const EXPLAIN: &str = "explain";
+
+pub const ENCODE: &str = "encode";
+
+/// Their files, and the bound of `encode`.
+pub const FILE: &str = "FILE";
+
+pub const RESULT: &str = "RESULT";
+
+pub const PROOF: &str = "PROOF";
+
+pub const COST: &str = "COST";
+
+/// Their options.
+pub const CONFLICTS_OPTION: &str = "conflicts";
+
+pub const PROOF_OPTION: &str = "proof";
+
+pub const BEST_OPTION: &str = "best";
+
+pub const LOWER_OPTION: &str = "lower";
+
+pub const FROM_OPTION: &str = "from";
+
+pub const PROGRESS_OPTION: &str = "progress";
+
+pub const PROFILE_OPTION: &str = "profile";
+
 /// A file that has to be named.
 fn make_path<'a>(alloc: Global, id: &'a str, help: &'a str) -> Arg<'a> {
     Arg::new(alloc, id)
@@ -285,8 +320,8 @@ const PROFILES_OR_ANY: [&str; 6] = ["1", "2", "3", "4", "5", ANY];
 
 /// Which clauses say 'cheaper': `check` wants the profile that the certificate was made in.
 fn make_profile<'a>(alloc: Global) -> Arg<'a> {
-    Arg::new(alloc, "profile")
-        .long("profile")
+    Arg::new(alloc, PROFILE_OPTION)
+        .long(PROFILE_OPTION)
         .value_name("1|2|3|4|5")
         .value_parser(ValueParser::Names(&PROFILES))
         .hide_possible_values(true)
@@ -295,8 +330,8 @@ fn make_profile<'a>(alloc: Global) -> Arg<'a> {
 
 /// As `make_profile`, or each in turn.
 fn make_profile_or_any<'a>(alloc: Global) -> Arg<'a> {
-    Arg::new(alloc, "profile")
-        .long("profile")
+    Arg::new(alloc, PROFILE_OPTION)
+        .long(PROFILE_OPTION)
         .value_name("1|2|3|4|5|any")
         .value_parser(ValueParser::Names(&PROFILES_OR_ANY))
         .hide_possible_values(true)
@@ -319,33 +354,33 @@ pub fn pick_profile(name: &str) -> Option<Profile>
 
 /// `wmax solve`. The error, here and below, is want of memory.
 fn make_solve<'a>(alloc: Global) -> Result<Command<'a>, Error> {
-    let conflicts = Arg::new(alloc, "conflicts")
-        .long("conflicts")
+    let conflicts = Arg::new(alloc, CONFLICTS_OPTION)
+        .long(CONFLICTS_OPTION)
         .value_name("N")
         .value_parser(ValueParser::unsigned(0, MOST_CONFLICTS))
         .default_value("1000000000")
         .help(CONFLICTS_HELP);
-    let proof = Arg::new(alloc, "proof")
-        .long("proof")
+    let proof = Arg::new(alloc, PROOF_OPTION)
+        .long(PROOF_OPTION)
         .value_name("PATH")
         .help(PROOF_HELP);
-    let best = Arg::new(alloc, "best")
-        .long("best")
+    let best = Arg::new(alloc, BEST_OPTION)
+        .long(BEST_OPTION)
         .value_name("PATH")
         .help(BEST_HELP);
-    let lower = Arg::new(alloc, "lower")
-        .long("lower")
+    let lower = Arg::new(alloc, LOWER_OPTION)
+        .long(LOWER_OPTION)
         .value_name("PATH")
         .help(LOWER_HELP);
-    let from = Arg::new(alloc, "from")
-        .long("from")
+    let from = Arg::new(alloc, FROM_OPTION)
+        .long(FROM_OPTION)
         .value_name("RESULT")
         .help(FROM_HELP);
-    let progress = Arg::new(alloc, "progress")
-        .long("progress")
+    let progress = Arg::new(alloc, PROGRESS_OPTION)
+        .long(PROGRESS_OPTION)
         .action(ArgAction::SetTrue)
         .help(PROGRESS_HELP);
-    let command = Command::new(alloc, "solve")
+    let command = Command::new(alloc, SOLVE)
         .about("Finds a solution of least cost, and proves that nothing is cheaper")
         .after_help(SOLVE_NOTES)
         .next_line_help(true)
@@ -356,50 +391,50 @@ fn make_solve<'a>(alloc: Global) -> Result<Command<'a>, Error> {
         .arg(from)?
         .arg(progress)?
         .arg(make_profile(alloc))?
-        .arg(make_path(alloc, "FILE", "The instance, a WCNF text"))?;
+        .arg(make_path(alloc, FILE, "The instance, a WCNF text"))?;
     Ok(command)
 }
 
 /// `wmax check`.
 fn make_check<'a>(alloc: Global) -> Result<Command<'a>, Error> {
-    let command = Command::new(alloc, "check")
+    let command = Command::new(alloc, CHECK)
         .about("Checks a result and the certificate that proves it")
         .after_help(CHECK_NOTES)
         .next_line_help(true)
-        .arg(make_path(alloc, "FILE", "The instance, a WCNF text"))?
+        .arg(make_path(alloc, FILE, "The instance, a WCNF text"))?
         .arg(make_path(
             alloc,
-            "RESULT",
+            RESULT,
             "The result, as a solver printed it: o, s and v lines",
         ))?
-        .arg(make_path(alloc, "PROOF", "The certificate, LRAT as text"))?
+        .arg(make_path(alloc, PROOF, "The certificate, LRAT as text"))?
         .arg(make_profile_or_any(alloc))?;
     Ok(command)
 }
 
 /// `wmax lower`.
 fn make_lower<'a>(alloc: Global) -> Result<Command<'a>, Error> {
-    let command = Command::new(alloc, "lower")
+    let command = Command::new(alloc, LOWER)
         .about("Prints the lower bound that an LRAT certificate proves by itself")
         .after_help(LOWER_NOTES)
-        .arg(make_path(alloc, "FILE", "The instance, a WCNF text"))?
-        .arg(make_path(alloc, "PROOF", "The certificate, LRAT as text"))?;
+        .arg(make_path(alloc, FILE, "The instance, a WCNF text"))?
+        .arg(make_path(alloc, PROOF, "The certificate, LRAT as text"))?;
     Ok(command)
 }
 
 /// `wmax explain`.
 fn make_explain<'a>(alloc: Global) -> Result<Command<'a>, Error> {
-    let command = Command::new(alloc, "explain")
+    let command = Command::new(alloc, EXPLAIN)
         .about("Says what a result gives up and breaks, or how large an instance is")
         .after_help(EXPLAIN_NOTES)
-        .arg(make_path(alloc, "FILE", "The instance, a WCNF text"))?
+        .arg(make_path(alloc, FILE, "The instance, a WCNF text"))?
         .arg(
-            Arg::new(alloc, "RESULT")
+            Arg::new(alloc, RESULT)
                 .action(ArgAction::Set)
                 .help("The result, as a solver printed it: o, s and v lines"),
         )?
         .arg(
-            Arg::new(alloc, "PROOF").action(ArgAction::Set).help(
+            Arg::new(alloc, PROOF).action(ArgAction::Set).help(
                 "A certificate of a lower bound, as solve --lower keeps it",
             ),
         )?;
@@ -408,20 +443,20 @@ fn make_explain<'a>(alloc: Global) -> Result<Command<'a>, Error> {
 
 /// `wmax encode`.
 fn make_encode<'a>(alloc: Global) -> Result<Command<'a>, Error> {
-    let cost = Arg::new(alloc, "COST")
+    let cost = Arg::new(alloc, COST)
         .required(true)
         .action(ArgAction::Set)
         .value_parser(ValueParser::unsigned(0, MOST_COST))
         .help("The bound: the formula says 'cheaper than COST'");
-    let proof = Arg::new(alloc, "proof")
-        .long("proof")
+    let proof = Arg::new(alloc, PROOF_OPTION)
+        .long(PROOF_OPTION)
         .value_name("CERTIFICATE")
         .help(CERTIFICATE_HELP);
-    let command = Command::new(alloc, "encode")
+    let command = Command::new(alloc, ENCODE)
         .about("Prints the formula that a certificate refutes, as DIMACS CNF")
         .after_help(ENCODE_NOTES)
         .next_line_help(true)
-        .arg(make_path(alloc, "FILE", "The instance, a WCNF text"))?
+        .arg(make_path(alloc, FILE, "The instance, a WCNF text"))?
         .arg(cost)?
         .arg(proof)?
         .arg(make_profile(alloc))?;

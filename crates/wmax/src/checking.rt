@@ -3,9 +3,9 @@ ghost use Rattle.std.specs.Prelude.{◌≡◌, IfOk};
 ghost use Rattle.lrat_check.specs.Checks.{IsTrueResult};
 ghost use Rattle.wmax.specs.Checking.{later};
 
+use crate::arguments::CheckRequest;
 use crate::profiles::{choose_profile, refuse_profile};
 use adder::cells::Profile;
-use clap::ArgMatches;
 use lrat_check::checking::check_from_as;
 use lrat_check::verdicts::{Cause, CheckFault, Verdict};
 use report::fault::RunFault;
@@ -25,25 +25,18 @@ const NO_FILE: &str = "error: check --profile any needs a regular file as PROOF,
 pub fn check<R: Files + AllocGlobal + Print + Env, E: Write>(
     rt: &R,
     messages: &mut Messages<'_, E>,
-    matches: &ArgMatches<'_>,
+    request: &CheckRequest<'_>,
 ) -> Result<u8, RunFault> {
-    let (Some(text), Some(answer), Some(proof)) = (
-        matches.get_str("FILE"),
-        matches.get_str("RESULT"),
-        matches.get_str("PROOF"),
-    ) else {
-        return Err(UNREADABLE);
-    };
-    if matches.get_str("profile") == Some(ANY) {
-        return check_any(rt, messages, text, answer, proof);
+    if request.profile == Some(ANY) {
+        return check_any(rt, messages, request);
     }
-    let profile = match choose_profile(rt, matches) {
+    let profile = match choose_profile(rt, request.profile) {
         Ok(profile) => profile,
         Err(why) => return refuse_profile(messages, why),
     };
-    let mut text = File::open(rt, text).map_err(|_| UNREADABLE)?;
-    let mut answer = File::open(rt, answer).map_err(|_| UNREADABLE)?;
-    let mut proof = File::open(rt, proof).map_err(|_| UNREADABLE)?;
+    let mut text = File::open(rt, request.text).map_err(|_| UNREADABLE)?;
+    let mut answer = File::open(rt, request.result).map_err(|_| UNREADABLE)?;
+    let mut proof = File::open(rt, request.proof).map_err(|_| UNREADABLE)?;
     let text = read_file(rt, &mut text)?;
     let answer = read_file(rt, &mut answer)?;
     let verdict = check_as(rt, &text, &answer, &mut proof, profile)?;
@@ -54,20 +47,18 @@ pub fn check<R: Files + AllocGlobal + Print + Env, E: Write>(
 fn check_any<R: Files + AllocGlobal + Print, E: Write>(
     rt: &R,
     messages: &mut Messages<'_, E>,
-    text: &str,
-    answer: &str,
-    proof: &str,
+    request: &CheckRequest<'_>,
 ) -> Result<u8, RunFault> {
-    let mut text = File::open(rt, text).map_err(|_| UNREADABLE)?;
-    let mut answer = File::open(rt, answer).map_err(|_| UNREADABLE)?;
-    let data = fs::metadata(rt, proof).map_err(|_| UNREADABLE)?;
+    let mut text = File::open(rt, request.text).map_err(|_| UNREADABLE)?;
+    let mut answer = File::open(rt, request.result).map_err(|_| UNREADABLE)?;
+    let data = fs::metadata(rt, request.proof).map_err(|_| UNREADABLE)?;
     if !data.is_file() {
         let _ = writeln!(messages.below(), "{NO_FILE}");
         return Ok(2);
     }
     let text = read_file(rt, &mut text)?;
     let answer = read_file(rt, &mut answer)?;
-    let verdict = check_each(rt, &text, &answer, proof)?;
+    let verdict = check_each(rt, &text, &answer, request.proof)?;
     show(rt, &verdict)
 }
 

@@ -1,12 +1,14 @@
 //! `wmax encode`: the formula that a certificate refutes.
+ghost use Rattle.std.specs.Prelude.{◌<◌};
+ghost use Rattle.cnf.specs.declared.limits.TheConstants.{NUMBER_LIMIT};
+
+use crate::arguments::EncodeRequest;
 use crate::profiles::{choose_profile, refuse_profile};
 use adder::cells::Profile;
 use bound::encoding::{WatchedWriter, write_formula};
 use bound::formulas::write_dimacs;
-use clap::ArgMatches;
 use lrat_check::core_formula::{Refuted, core_formula};
 use report::fault::RunFault;
-use report::options::MOST_COST;
 use report::printing::deliver;
 use std::fs::File;
 use std::io::{self, Read, Write};
@@ -24,26 +26,23 @@ const NO_CORES: &str = "error: encode takes --proof only with --profile 5";
 pub fn encode<R: Files + AllocGlobal + Print + Env, E: Write>(
     rt: &R,
     messages: &mut Messages<'_, E>,
-    matches: &ArgMatches<'_>,
+    request: &EncodeRequest<'_>,
 ) -> Result<u8, RunFault> {
-    let (Some(text), Some(cost)) = (matches.get_str("FILE"), matches.get_one::<u64>("COST")) else {
-        return Err(UNREADABLE);
-    };
-    let profile = match choose_profile(rt, matches) {
+    let profile = match choose_profile(rt, request.profile) {
         Ok(profile) => profile,
         Err(why) => return refuse_profile(messages, why),
     };
-    let Some(proof) = matches.get_str("proof") else {
-        let mut text = File::open(rt, text).map_err(|_| UNREADABLE)?;
-        return encode_bound(rt, &mut text, cost, profile);
+    let Some(proof) = request.proof else {
+        let mut text = File::open(rt, request.text).map_err(|_| UNREADABLE)?;
+        return encode_bound(rt, &mut text, request.cost, profile);
     };
     if !matches!(profile, Profile::Five) {
         let _ = writeln!(messages.below(), "{NO_CORES}");
         return Ok(2);
     }
-    let mut text = File::open(rt, text).map_err(|_| UNREADABLE)?;
+    let mut text = File::open(rt, request.text).map_err(|_| UNREADABLE)?;
     let mut proof = File::open(rt, proof).map_err(|_| UNREADABLE)?;
-    encode_refuted(rt, messages, &mut text, &mut proof, cost)
+    encode_refuted(rt, messages, &mut text, &mut proof, request.cost)
 }
 
 /// Prints the formula for 'cost below COST'. The process ends after it, so the clauses of the text
@@ -53,12 +52,13 @@ fn encode_bound<R: AllocGlobal + Print, T: Read>(
     text: &mut T,
     cost: u64,
     profile: Profile,
-) -> Result<u8, RunFault> {
+) -> Result<u8, RunFault>
+    requires { cost < NUMBER_LIMIT }
+{
     let instance = ManuallyDrop::new(read_from(rt.alloc(), text)?);
     let mut out = io::writer(rt);
     let mut watched = WatchedWriter::new(&mut out);
-    // `clap` lets no greater cost pass; said again, since nothing is known of that here.
-    write_formula(&instance, cost.min(MOST_COST), profile, &mut watched)?;
+    write_formula(&instance, cost, profile, &mut watched)?;
     deliver(Ok(()), &mut watched)?;
     Ok(0)
 }
@@ -71,10 +71,12 @@ fn encode_refuted<R: AllocGlobal + Print, E: Write, T: Read, P: Read>(
     text: &mut T,
     proof: &mut P,
     cost: u64,
-) -> Result<u8, RunFault> {
+) -> Result<u8, RunFault>
+    requires { cost < NUMBER_LIMIT }
+{
     let instance = ManuallyDrop::new(read_from(rt.alloc(), text)?);
     let proof = read_file(rt, proof)?;
-    match core_formula(&instance, cost.min(MOST_COST), &proof) {
+    match core_formula(&instance, cost, &proof) {
         Ok(Refuted::Formula(formula)) => {
             let mut out = io::writer(rt);
             deliver(write_dimacs(&formula, &mut out), &mut out)?;

@@ -1,8 +1,8 @@
 //! `wmax explain`: what there is of an instance, or what a result comes to, and how much less a
 //! solution could cost.
+use crate::arguments::ExplainRequest;
 use crate::checking::show;
 use crate::lower_bounds::verdict_of;
-use clap::ArgMatches;
 use explain::explaining::{ExplainFault, write_explanation};
 use explain::judging::{Judgement, judge};
 use explain::mending::write_mending;
@@ -23,18 +23,15 @@ use wmax_onlooker::standard_error::Messages;
 pub fn explain<R: Files + AllocGlobal + Print, E: Write>(
     rt: &R,
     messages: &mut Messages<'_, E>,
-    matches: &ArgMatches<'_>,
+    request: &ExplainRequest<'_>,
 ) -> Result<u8, RunFault> {
-    let Some(text) = matches.get_str("FILE") else {
-        return Err(UNREADABLE);
-    };
-    let mut text = File::open(rt, text).map_err(|_| UNREADABLE)?;
-    let Some(answer) = matches.get_str("RESULT") else {
+    let mut text = File::open(rt, request.text).map_err(|_| UNREADABLE)?;
+    let Some(answer) = request.result else {
         let text = read_file(rt, &mut text)?;
         return explain_instance(rt, messages, &text);
     };
     let mut answer = File::open(rt, answer).map_err(|_| UNREADABLE)?;
-    let Some(proof) = matches.get_str("PROOF") else {
+    let Some(proof) = request.proof else {
         let text = read_file(rt, &mut text)?;
         let answer = read_file(rt, &mut answer)?;
         return explain_result(rt, messages, &text, &answer);

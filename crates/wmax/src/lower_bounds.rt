@@ -2,7 +2,7 @@
 ghost use Rattle.std.specs.Prelude.{IfOk};
 ghost use Rattle.lrat_check.specs.Lower.{IsTrueLower};
 
-use clap::ArgMatches;
+use crate::arguments::LowerRequest;
 use lrat_check::lower::{LowerVerdict, check_lower_from};
 use lrat_check::verdicts::CheckFault;
 use report::fault::RunFault;
@@ -16,13 +16,10 @@ use wmax_onlooker::files::{UNREADABLE, read_file};
 /// it is kept but the clauses that are live.
 pub fn lower<R: Files + AllocGlobal + Print>(
     rt: &R,
-    matches: &ArgMatches<'_>,
+    request: &LowerRequest<'_>,
 ) -> Result<u8, RunFault> {
-    let (Some(text), Some(proof)) = (matches.get_str("FILE"), matches.get_str("PROOF")) else {
-        return Err(UNREADABLE);
-    };
-    let mut text = File::open(rt, text).map_err(|_| UNREADABLE)?;
-    let mut proof = File::open(rt, proof).map_err(|_| UNREADABLE)?;
+    let mut text = File::open(rt, request.text).map_err(|_| UNREADABLE)?;
+    let mut proof = File::open(rt, request.proof).map_err(|_| UNREADABLE)?;
     let text = read_file(rt, &mut text)?;
     let verdict = verdict_of(rt, &text, &mut proof)?;
     let mut out = io::writer(rt);

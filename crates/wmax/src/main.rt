@@ -2,6 +2,7 @@
 //! libraries.
 #![tactic(auto)]
 
+mod arguments;
 mod checking;
 mod encoding;
 mod explaining;
@@ -9,9 +10,10 @@ mod lower_bounds;
 mod profiles;
 mod solving;
 
+use arguments::Request;
 use checking::check;
+use clap::Error;
 use clap::error::ErrorKind;
-use clap::{ArgMatches, Error};
 use encoding::encode;
 use explaining::explain;
 use lower_bounds::lower;
@@ -102,42 +104,31 @@ fn run_command<R: Files + AllocGlobal + Print + Env + Clock, E: Write>(
     let words: Vec<String> = words;
     match options::make_command(rt.alloc()) {
         Ok(command) => match command.try_get_matches_from(words.as_slice()) {
-            Ok(matches) => run_matches(rt, messages, &matches),
+            Ok(matches) => match Request::of(&matches) {
+                Some(request) => do_request(rt, messages, &request),
+                // `clap` lets no such command line pass.
+                None => 2,
+            },
             Err(error) => refuse(rt, messages, &error),
         },
         Err(_) => tell(messages, Err(RunFault::Memory)),
     }
 }
 
-/// Does what a command line says that was read.
-fn run_matches<R: Files + AllocGlobal + Print + Env + Clock, E: Write>(
+/// Does what is asked for; the exit status.
+fn do_request<R: Files + AllocGlobal + Print + Env + Clock, E: Write>(
     rt: &R,
     messages: &mut Messages<'_, E>,
-    matches: &ArgMatches<'_>,
+    request: &Request<'_>,
 ) -> u8 {
-    match matches.subcommand() {
-        Some(("solve", found)) => {
-            let outcome = solve(rt, messages, found);
-            tell(messages, outcome)
-        }
-        Some(("check", found)) => {
-            let outcome = check(rt, messages, found);
-            tell(messages, outcome)
-        }
-        Some(("lower", found)) => {
-            let outcome = lower(rt, found);
-            tell(messages, outcome)
-        }
-        Some(("explain", found)) => {
-            let outcome = explain(rt, messages, found);
-            tell(messages, outcome)
-        }
-        Some(("encode", found)) => {
-            let outcome = encode(rt, messages, found);
-            tell(messages, outcome)
-        }
-        _ => 2,
-    }
+    let outcome = match request {
+        Request::Solve(request) => solve(rt, messages, request),
+        Request::Check(request) => check(rt, messages, request),
+        Request::Lower(request) => lower(rt, request),
+        Request::Explain(request) => explain(rt, messages, request),
+        Request::Encode(request) => encode(rt, messages, request),
+    };
+    tell(messages, outcome)
 }
 
 /// The exit status where `clap` gives no matches: refused memory, help, or a mistake.

@@ -1,7 +1,6 @@
 //! Which profile a command takes: the one of `--profile`, else that of the environment, else the
 //! first.
 use adder::cells::Profile;
-use clap::ArgMatches;
 use report::fault::RunFault;
 use report::options::pick_profile;
 use std::env::{self, VarError};
@@ -21,16 +20,16 @@ pub enum NoProfile {
     Memory,
 }
 
-/// The profile that `--profile` names, else that of the environment.
+/// The profile of this name, which `--profile` gives, else that of the environment.
 ///
 /// # Errors
 ///
 /// `Named` where that of the environment is none; `Memory`.
 pub fn choose_profile<R: Env + AllocGlobal>(
     rt: &R,
-    matches: &ArgMatches<'_>,
+    named: Option<&str>,
 ) -> Result<Profile, NoProfile> {
-    match matches.get_str("profile") {
+    match named {
         Some(name) => pick_profile(name).ok_or(NoProfile::Named),
         None => usual_profile(rt),
     }

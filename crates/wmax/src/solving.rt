@@ -1,15 +1,14 @@
 //! `wmax solve`: a result and its certificate.
+use crate::arguments::SolveRequest;
 use crate::checking::show;
 use crate::profiles::{choose_profile, refuse_profile};
 use adder::cells::Profile;
 use cdcl::budget::Budget;
-use clap::ArgMatches;
 use explain::judging::{Judgement, read_bits};
 use lrat_check::checking::check_as;
 use lrat_check::lower::{LowerVerdict, check_lower};
 use lrat_check::verdicts::Cause;
 use report::fault::RunFault;
-use report::options::MOST_CONFLICTS;
 use report::running::run_from;
 use std::alloc::Global;
 use std::fs::File;
@@ -62,37 +61,30 @@ struct Start {
 pub fn solve<R: Files + AllocGlobal + Print + Env + Clock, E: Write>(
     rt: &R,
     messages: &mut Messages<'_, E>,
-    matches: &ArgMatches<'_>,
+    request: &SolveRequest<'_>,
 ) -> Result<u8, RunFault> {
-    // `clap` lets no command line pass that lacks one of these; nothing is known of that here.
-    let (Some(text), Some(limit)) = (matches.get_str("FILE"), matches.get_one::<u64>("conflicts"))
-    else {
-        return Err(UNREADABLE);
-    };
-    let profile = match choose_profile(rt, matches) {
+    let profile = match choose_profile(rt, request.profile) {
         Ok(profile) => profile,
         Err(why) => return refuse_profile(messages, why),
     };
     let search = Search {
         profile,
-        // Said again, since nothing is known here of the greatest that `clap` lets pass.
-        budget: Budget::new(limit.min(MOST_CONFLICTS)),
+        budget: Budget::new(request.limit),
         start: None,
-        best: matches.get_str("best"),
-        lower: matches.get_str("lower"),
+        best: request.best,
+        lower: request.lower,
         bounds: None,
-        is_told: matches.get_flag("progress"),
-        has_proof: matches.contains_id("proof"),
+        is_told: request.is_told,
+        has_proof: request.proof.is_some(),
     };
-    let mut text = File::open(rt, text).map_err(|_| UNREADABLE)?;
-    let proof = matches.get_str("proof");
-    match matches.get_str("from") {
-        Some(from) => solve_from(rt, messages, search, &mut text, from, proof),
+    let mut text = File::open(rt, request.text).map_err(|_| UNREADABLE)?;
+    match request.from {
+        Some(from) => solve_from(rt, messages, search, &mut text, from, request.proof),
         None => {
             let Some(here) = find_file_id(&text) else {
                 return Err(UNREADABLE);
             };
-            solve_bounded(rt, messages, search, &mut text, proof, [here, here])
+            solve_bounded(rt, messages, search, &mut text, request.proof, [here, here])
         }
     }
 }

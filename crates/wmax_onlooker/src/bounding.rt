@@ -7,11 +7,11 @@ ghost use Rattle.wmax_onlooker.specs.Bounding.{IsRaised};
 use crate::file_id::FileId;
 use crate::standard_error::Messages;
 use crate::whole_file::{WholeFile, WholePaths};
+use cnf::types::Instance;
 use improve_trials::found::ByCores;
 use report::lower::write_lower;
 use std::io::Write;
 use std::rt::Files;
-use wcnf::types::Instance;
 
 /// Where a lower bound is kept.
 #[derive(Drop)]

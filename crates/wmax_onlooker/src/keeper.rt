@@ -9,6 +9,7 @@ ghost use Rattle.wmax_onlooker.specs.Keeper.{IsLeft};
 use crate::file_id::FileId;
 use crate::standard_error::Messages;
 use crate::whole_file::{WholeFile, WholePaths};
+use cnf::types::Instance;
 use explain::explaining::ExplainFault;
 use explain::judging::{Judgement, judge};
 use improve::found::Found;
@@ -17,7 +18,6 @@ use report::fault::RunFault;
 use std::alloc::Global;
 use std::io::Write;
 use std::rt::Files;
-use wcnf::types::Instance;
 
 /// Judges what an earlier run left, by the text of the instance. What is no result is wrong.
 ///

@@ -4,13 +4,13 @@ use crate::keeper::Keeper;
 use crate::progress::Meter;
 use crate::standard_error::Messages;
 use cdcl::watch::SearchReport;
+use cnf::types::Instance;
 use improve::found::Found;
 use improve::watch::Watch;
 use improve_trials::found::ByCores;
 use report::best::Keep;
 use std::io::Write;
 use std::rt::{Clock, Files};
-use wcnf::types::Instance;
 
 /// Keeps the best solution and the best lower bound, and tells how far the run is: all of it, some
 /// or nothing.

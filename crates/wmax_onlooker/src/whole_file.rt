@@ -12,7 +12,7 @@ use std::alloc::{AllocError, Global};
 use std::fs::{self, File};
 use std::io::Write;
 use std::rt::Files;
-use wcnf::output::WriteFault;
+use text::output::WriteFault;
 
 /// What stands behind the path in the name of the file that is renamed.
 const ENDING: &str = ".part";

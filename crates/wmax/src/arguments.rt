@@ -1,0 +1,170 @@
+//! What a command line asks for, read once: which command, of which files, and how.
+ghost use Rattle.std.specs.Prelude.{◌<◌, ◌≤◌, ◌^◌};
+ghost use Rattle.cnf.specs.declared.limits.TheConstants.{NUMBER_LIMIT};
+
+use clap::ArgMatches;
+use report::options::{
+    BEST_OPTION, CHECK, CONFLICTS_OPTION, COST, ENCODE, EXPLAIN, FILE, FROM_OPTION, LOWER,
+    LOWER_OPTION, MOST_CONFLICTS, MOST_COST, PROFILE_OPTION, PROGRESS_OPTION, PROOF, PROOF_OPTION,
+    RESULT, SOLVE,
+};
+
+/// A command with its files and options.
+#[derive(Clone, Copy, Drop)]
+pub enum Request<'a> {
+    /// To solve an instance.
+    Solve(SolveRequest<'a>),
+    /// To check a result and its certificate.
+    Check(CheckRequest<'a>),
+    /// To say what a certificate proves by itself.
+    Lower(LowerRequest<'a>),
+    /// To say what a result gives up, or how large an instance is.
+    Explain(ExplainRequest<'a>),
+    /// To print the formula that a certificate refutes.
+    Encode(EncodeRequest<'a>),
+}
+
+/// What `solve` is asked for.
+#[derive(Clone, Copy, Drop)]
+pub struct SolveRequest<'a> {
+    /// The file of the instance.
+    pub text: &'a str,
+    /// The greatest effort, at most 2^62.
+    pub limit: u64,
+    ghost effort: { limit ≤ 2 ^ 62 },
+    /// The name of the profile, where one is named.
+    pub profile: Option<&'a str>,
+    /// Where the certificate is written.
+    pub proof: Option<&'a str>,
+    /// Where the best solution is kept.
+    pub best: Option<&'a str>,
+    /// Where the certificate of a lower bound is kept.
+    pub lower: Option<&'a str>,
+    /// The result with which the search begins.
+    pub from: Option<&'a str>,
+    /// Whether it is to be told how far the run is.
+    pub is_told: bool,
+}
+
+/// What `check` is asked for.
+#[derive(Clone, Copy, Drop)]
+pub struct CheckRequest<'a> {
+    /// The file of the instance.
+    pub text: &'a str,
+    /// The file of the result.
+    pub result: &'a str,
+    /// The file of the certificate.
+    pub proof: &'a str,
+    /// The name of the profile, or that of all, where one is named.
+    pub profile: Option<&'a str>,
+}
+
+/// What `lower` is asked for.
+#[derive(Clone, Copy, Drop)]
+pub struct LowerRequest<'a> {
+    /// The file of the instance.
+    pub text: &'a str,
+    /// The file of the certificate.
+    pub proof: &'a str,
+}
+
+/// What `explain` is asked for.
+#[derive(Clone, Copy, Drop)]
+pub struct ExplainRequest<'a> {
+    /// The file of the instance.
+    pub text: &'a str,
+    /// The file of the result.
+    pub result: Option<&'a str>,
+    /// The file of the certificate; only behind a result.
+    pub proof: Option<&'a str>,
+}
+
+/// What `encode` is asked for.
+#[derive(Clone, Copy, Drop)]
+pub struct EncodeRequest<'a> {
+    /// The file of the instance.
+    pub text: &'a str,
+    /// The bound, below 2^62.
+    pub cost: u64,
+    ghost small: { cost < NUMBER_LIMIT },
+    /// The certificate whose core lines are counted.
+    pub proof: Option<&'a str>,
+    /// The name of the profile, where one is named.
+    pub profile: Option<&'a str>,
+}
+
+impl<'a> Request<'a> {
+    /// What a command line asks for that `clap` has read; `None` for one that it lets not pass:
+    /// with no command, or without what that needs.
+    pub fn of(matches: &'a ArgMatches<'_>) -> Option<Self> {
+        let (name, found) = matches.subcommand()?;
+        match name {
+            SOLVE => Some(Request::Solve(SolveRequest::of(found)?)),
+            CHECK => Some(Request::Check(CheckRequest::of(found)?)),
+            LOWER => Some(Request::Lower(LowerRequest::of(found)?)),
+            EXPLAIN => Some(Request::Explain(ExplainRequest::of(found)?)),
+            ENCODE => Some(Request::Encode(EncodeRequest::of(found)?)),
+            _ => None,
+        }
+    }
+}
+
+impl<'a> SolveRequest<'a> {
+    fn of(matches: &'a ArgMatches<'_>) -> Option<Self> {
+        Some(SolveRequest {
+            text: matches.get_str(FILE)?,
+            // Said again, since nothing is known here of the greatest that `clap` lets pass.
+            limit: matches
+                .get_one::<u64>(CONFLICTS_OPTION)?
+                .min(MOST_CONFLICTS),
+            profile: matches.get_str(PROFILE_OPTION),
+            proof: matches.get_str(PROOF_OPTION),
+            best: matches.get_str(BEST_OPTION),
+            lower: matches.get_str(LOWER_OPTION),
+            from: matches.get_str(FROM_OPTION),
+            is_told: matches.get_flag(PROGRESS_OPTION),
+        })
+    }
+}
+
+impl<'a> CheckRequest<'a> {
+    fn of(matches: &'a ArgMatches<'_>) -> Option<Self> {
+        Some(CheckRequest {
+            text: matches.get_str(FILE)?,
+            result: matches.get_str(RESULT)?,
+            proof: matches.get_str(PROOF)?,
+            profile: matches.get_str(PROFILE_OPTION),
+        })
+    }
+}
+
+impl<'a> LowerRequest<'a> {
+    fn of(matches: &'a ArgMatches<'_>) -> Option<Self> {
+        Some(LowerRequest {
+            text: matches.get_str(FILE)?,
+            proof: matches.get_str(PROOF)?,
+        })
+    }
+}
+
+impl<'a> ExplainRequest<'a> {
+    fn of(matches: &'a ArgMatches<'_>) -> Option<Self> {
+        Some(ExplainRequest {
+            text: matches.get_str(FILE)?,
+            result: matches.get_str(RESULT),
+            proof: matches.get_str(PROOF),
+        })
+    }
+}
+
+impl<'a> EncodeRequest<'a> {
+    fn of(matches: &'a ArgMatches<'_>) -> Option<Self> {
+        Some(EncodeRequest {
+            text: matches.get_str(FILE)?,
+            // As above.
+            cost: matches.get_one::<u64>(COST)?.min(MOST_COST),
+            proof: matches.get_str(PROOF_OPTION),
+            profile: matches.get_str(PROFILE_OPTION),
+        })
+    }
+}
