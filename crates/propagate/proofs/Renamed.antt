@@ -12,15 +12,16 @@ use Rattle.cnf.specs.Literal.{Literal}
 use Rattle.cnf.specs.Refute.{Clauses}
 use Rattle.cnf.proofs.Laws.{all_weaker}
 use Rattle.clauses.specs.Slots.{Slots, clause_at, Renaming, renamed, IsRenaming}
-use Rattle.clauses.proofs.Laws.{same_origin, same_clause}
+use Rattle.clauses.specs.Moved.{named}
+use Rattle.clauses.proofs.Laws.{same_origin, same_clause, named_listed}
 use Rattle.propagate_watches.specs.declared.pool.Entry.{Entry}
 use Rattle.propagate_watches.specs.declared.table.Attachment.{Attachment}
 use Rattle.propagate_watches.specs.declared.table.Attachment.TheVariants.{Detached, Waiting}
 use Rattle.propagate_watches.specs.declared.table.Attachment.TheVariants.{Satisfied, Watching}
 use Rattle.propagate_watches.specs.Pool.{row_at}
 use Rattle.propagate_watches.specs.Table.{IsWatching, is_kept, attachment_in}
-use Rattle.propagate_watches.specs.Renames.{IsMoved, named, named_entry, named_rows}
-use Rattle.propagate_watches.proofs.Laws.{moved_to, moved_from, named_listed}
+use Rattle.propagate_watches.specs.Renames.{IsMoved, named_entry, named_rows}
+use Rattle.propagate_watches.proofs.Laws.{moved_to, moved_from}
 use Rattle.propagate_trail.specs.Trail.{Assigned, TrailState, HasReasons, IsJustified}
 use Rattle.propagate.specs.Watches.{EngineState, engine_state, IsEngine, is_attached, watches_at}
 use Rattle.propagate.specs.Watches.{count_in, one_at}
