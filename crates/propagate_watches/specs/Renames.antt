@@ -2,14 +2,14 @@
 use Rattle.std.specs.Prelude.{◌≡◌, ℕ, ◌<◌, ◌≤◌, true, List, length, map}
 use Rattle.clauses.specs.Slots.{Renaming, old_at, new_at}
 use Rattle.clauses.specs.Moved.{named}
-use Rattle.propagate_watches.specs.declared.pool.Entry.{Entry}
+use Rattle.propagate_watches.specs.declared.pool.WatchEntry.{WatchEntry}
 use Rattle.propagate_watches.specs.declared.table.Attachment.{Attachment}
 use Rattle.propagate_watches.specs.Table.{attachment_in, is_kept}
 
-abbrev pub named_entry : Renaming → Entry → Entry
+abbrev pub named_entry : Renaming → WatchEntry → WatchEntry
 named_entry moves w = record { reference = named moves w.reference; blocker = w.blocker }
 
-abbrev pub named_rows : Renaming → List (List Entry) → List (List Entry)
+abbrev pub named_rows : Renaming → List (List WatchEntry) → List (List WatchEntry)
 named_rows moves rows = map (map (named_entry moves)) rows
 
 -- each place went to the new reference, and nothing else is left

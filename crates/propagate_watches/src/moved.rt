@@ -3,16 +3,16 @@ ghost use Rattle.std.specs.Prelude.{◌≡◌, ◌≤◌, All, map};
 ghost use Rattle.std.specs.List.Sorted.{IsStrictlyIncreasing};
 ghost use Rattle.propagate_watches.specs.Renames.{named_entry, IsMoved};
 
-use crate::pool::Entry;
+use crate::pool::WatchEntry;
 use crate::table::{Attachment, Table};
 use clauses::moved::new_reference;
 use clauses::store::{CRef, Moves};
 
 /// The entry under the new reference of its clause.
-pub(crate) fn new_entry(moves: &Moves, entry: Entry) -> Entry
+pub(crate) fn new_entry(moves: &Moves, entry: WatchEntry) -> WatchEntry
     ensures { result ≡ named_entry moves.now entry }
 {
-    Entry {
+    WatchEntry {
         reference: new_reference(moves, entry.reference),
         blocker: entry.blocker,
     }
