@@ -1,6 +1,5 @@
 // The reader of lines, with its buffers.
 ghost use Rattle.std.specs.Prelude.{◌≡◌, ◌<◌, ◌≤◌, ◌^◌, [], drop, length, false, IfOk};
-ghost use Rattle.cnf.specs.declared.limits.TheConstants.{NUMBER_LIMIT};
 ghost use Rattle.text.specs.Text.{tokens_of};
 ghost use Rattle.lrat_read.specs.Reader.{IsReadAs, IsAdditionRead, IsDeletionRead};
 
@@ -27,6 +26,7 @@ pub struct LineReader {
 
 impl Model for LineReader {
     ghost use Rattle.std.specs.Prelude.{◌<◌, ◌^◌};
+    ghost use Rattle.cnf.specs.declared.limits.TheConstants.{NUMBER_LIMIT};
     ghost use Rattle.lrat_read.specs.Reader.{LineState};
 
     ghost Value = { LineState };

@@ -2,7 +2,7 @@
 ghost use Rattle.std.specs.Prelude.{◌≡◌, ℕ, false, ◌&&◌, [], ◌∷◌, ◌++◌, length, MatchOption, ◌+◌};
 ghost use Rattle.std.specs.Prelude.{◌<◌, ◌≤◌, ◌^◌, Ok, Err, None, OnOk, IfOk, IfSome, MatchResult};
 ghost use Rattle.std.specs.Prelude.{◌⊎◌};
-ghost use Rattle.cnf.specs.declared.limits.TheConstants.{MOST_LITERALS, NUMBER_LIMIT};
+ghost use Rattle.cnf.specs.declared.limits.TheConstants.{NUMBER_LIMIT};
 ghost use Rattle.text.specs.Text.{tokens_of, capped};
 ghost use Rattle.wcnf.specs.Heads.{most_variable, one_hard, one_soft, weighed, head_of, is_p};
 ghost use Rattle.cnf.specs.Clause.{has_repeat};
@@ -45,6 +45,7 @@ pub(crate) struct Draft {
 
 impl Model for Draft {
     ghost use Rattle.std.specs.Prelude.{◌≤◌, ◌<◌, ◌^◌};
+    ghost use Rattle.cnf.specs.declared.limits.TheConstants.{MOST_LITERALS, NUMBER_LIMIT};
     ghost use Rattle.wcnf.specs.Heads.{most_variable};
     ghost use Rattle.wcnf.specs.Drafts.{Drafted};
 
