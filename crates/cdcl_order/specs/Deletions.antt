@@ -6,10 +6,12 @@ use Rattle.std.specs.Ordering.{nat_cmp, ordering_then, is_lt}
 use Rattle.cdcl_order.specs.Standings.{StandingsState, standing_at, with_standing}
 use Rattle.cdcl_order.specs.declared.deletions.Candidate.{Candidate}
 use Rattle.cdcl_order.specs.declared.deletions.Ranked.{Ranked}
+use Rattle.cdcl_order.specs.declared.deletions.TheConstants.{FIRST_DELETION, DELETION_STEP}
+use Rattle.cdcl_order.specs.declared.standings.TheConstants.{KEPT}
 
 -- so many long learned clauses are live when the next deletion comes
 abbrev pub due_at : ℕ → ℕ
-due_at deletions = 2000 + 300 * deletions
+due_at deletions = FIRST_DELETION + DELETION_STEP * deletions
 
 -- Clauses that are spared.
 
@@ -18,14 +20,14 @@ pub record Sifted : Type 0 where
   pub standings : StandingsState
   pub rest : List Ranked
 
--- a clause that was used lately loses a use, one of distance 2 or less stays, another is not spared
+-- a clause that was used lately loses a use, one of distance KEPT or less stays, another is not spared
 abbrev pub sift_one : Sifted → Candidate → Sifted
 sift_one s c =
     let t = standing_at s.standings c.reference in
     if nat_lt 0 t.used then record s {
       standings = with_standing s.standings c.reference (record t { used = t.used - 1 });
     }
-    else if nat_lt 2 t.distance then record s {
+    else if nat_lt KEPT t.distance then record s {
       rest = s.rest ++ record {
         distance = t.distance;
         length = c.length;

@@ -4,6 +4,7 @@ use Rattle.std.specs.Prelude.{◌++◌, length, take, drop}
 use Rattle.std.specs.Prelude.{slice_index_or, slice_set, fold, if◌then◌else◌}
 use Rattle.cnf.specs.Literal.{Literal}
 use Rattle.cdcl_order.specs.Restarts.{at_most_64_bits}
+use Rattle.cdcl_order.specs.declared.phases.TheConstants.{WAIT}
 
 pub record PhasesState : Type 0 where
   -- by variable: its last value, and the one in the best solution
@@ -21,7 +22,7 @@ first_phases variables = record {
   best = replicate variables false;
   is_solved = false;
   conflicts = 0;
-  wait = 1000;
+  wait = WAIT;
 }
 
 abbrev pub phase_of : PhasesState → ℕ → Bool
@@ -57,5 +58,5 @@ abbrev pub restarted : PhasesState → PhasesState
 restarted p = if p.is_solved && nat_le p.wait p.conflicts then record p {
   last = p.best;
   conflicts = 0;
-  wait = at_most_64_bits (p.wait + 1000);
+  wait = at_most_64_bits (p.wait + WAIT);
 } else p

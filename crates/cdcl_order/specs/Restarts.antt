@@ -1,5 +1,6 @@
 -- When a search starts over.
 use Rattle.std.specs.Prelude.{ℕ, ◌+◌, ◌-◌, ◌/◌, ◌<◌, ◌≤◌, ◌^◌, min}
+use Rattle.cdcl_order.specs.declared.restarts.TheConstants.{RESTART}
 
 -- The powers of 1.2 in hundredths, each from the one before and rounded down.
 
@@ -35,4 +36,4 @@ one_more n = at_most_64_bits (n + 1)
 -- a hundred conflicts for each unit of the term, and at least one
 pub record IsRestartDue (p : PaceState) : Type 0 where
   pub some : 0 < p.conflicts
-  pub enough : term_of p.power ≤ p.conflicts / 100
+  pub enough : term_of p.power ≤ p.conflicts / RESTART

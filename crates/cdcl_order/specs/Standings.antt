@@ -2,6 +2,7 @@
 use Rattle.std.specs.Prelude.{ℕ, ◌-◌, ◌^◌, nat_le, nat_lt, Bool, List, slice_index_or, slice_set}
 use Rattle.std.specs.Prelude.{if◌then◌else◌}
 use Rattle.cdcl_order.specs.declared.standings.Standing.{Standing}
+use Rattle.cdcl_order.specs.declared.standings.TheConstants.{NEAR}
 
 abbrev pub unknown : Standing
 unknown = record { distance = 2 ^ 32 - 1; used = 0 }
@@ -11,7 +12,7 @@ is_known t = nat_lt t.distance (2 ^ 32 - 1)
 
 -- a clause of this distance that is new, or has served in an analysis
 abbrev pub fresh : ℕ → Standing
-fresh distance = record { distance = distance; used = if nat_le distance 6 then 2 else 1 }
+fresh distance = record { distance = distance; used = if nat_le distance NEAR then 2 else 1 }
 
 -- the standings of the clauses from a reference on
 pub record StandingsState : Type 0 where

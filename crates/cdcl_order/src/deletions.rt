@@ -9,10 +9,10 @@ use clauses::store::CRef;
 use std::alloc::{AllocError, Global};
 
 /// The first deletion comes at so many long learned clauses.
-const FIRST: u64 = 2000;
+const FIRST_DELETION: u64 = 2000;
 
 /// Each further one at so many more.
-const MORE: u64 = 300;
+const DELETION_STEP: u64 = 300;
 
 /// A learned clause that may be deleted.
 #[derive(Drop)]
@@ -40,7 +40,7 @@ pub(crate) fn is_due(live: usize, deletions: u64) -> bool
     ensures { IsTrue result ↔ due_at deletions ≤ live }
 {
     let live = live as u64;
-    live >= FIRST && (live - FIRST) / MORE >= deletions
+    live >= FIRST_DELETION && (live - FIRST_DELETION) / DELETION_STEP >= deletions
 }
 
 /// Of these clauses, the older first, those that are to go. Where memory is refused some may have

@@ -3,7 +3,7 @@ use Rattle.std.proofs.Common.{◌≡◌, ℕ, ◌+◌, ◌<◌, ◌≤◌, true,
 use Rattle.std.proofs.Common.{refl, sym, ap, subst}
 use lib.Seq.{paste}
 use Rattle.cnf.specs.Literal.{Literal}
-use Rattle.clauses.specs.declared.heads.Span.{Span}
+use Rattle.clauses.specs.declared.heads.ClauseSpan.{ClauseSpan}
 use Rattle.clauses.specs.Heads.{Head, span_of}
 use Rattle.cnf.proofs.Laws.{Layout, IsCompacting, moved_within, compacting_dead, compacting_live}
 use Rattle.clauses.proofs.Reading.{no_head}
@@ -25,9 +25,10 @@ module _ (ls : List Literal) (hs : List Head) (kept end i : ℕ) (value : List (
   pub dead_head : looked.live ≡ false → IsCompacting heads ls hs kept end (i + 1) value
   dead_head e = compacting_dead heads ls hs kept end i value no_head s h e
 
-  module _ (x : Span) (is : x ≡ span_of looked) where
+  module _ (x : ClauseSpan) (is : x ≡ span_of looked) where
     pub moves_down : (end ≤ x.start) × (x.start + x.length ≤ length ls)
-    moves_down = subst (λ (y : Span). (end ≤ y.start) × (y.start + y.length ≤ length ls)) (sym is)
+    moves_down = subst (λ (y : ClauseSpan). (end ≤ y.start) × (y.start + y.length ≤ length ls))
+        (sym is)
         (moved_within heads ls hs kept end i value no_head s h)
 
     abbrev moved_head : Head
@@ -39,8 +40,8 @@ module _ (ls : List Literal) (hs : List Head) (kept end i : ℕ) (value : List (
     live_head e n long =
         let all =
         compacting_live heads ls hs kept end i value no_head s h moved_head e refl
-        (ap (λ (y : Span). y.length) is) refl (λ c. refl) in
+        (ap (λ (y : ClauseSpan). y.length) is) refl (λ c. refl) in
         let by_span =
-        subst (λ (y : Span). IsCompacting heads (paste ls end (drop y.start ls) y.length)
+        subst (λ (y : ClauseSpan). IsCompacting heads (paste ls end (drop y.start ls) y.length)
         (set hs kept moved_head) (kept + 1) (end + y.length) (i + 1) value) (sym is) all in
         rw long by_span

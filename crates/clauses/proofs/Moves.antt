@@ -11,6 +11,7 @@ use Rattle.std.proofs.lemmas.Option.{none-some, same_Some}
 use Rattle.cnf.specs.Literal.{Literal}
 use Rattle.clauses.specs.Slots.{Slots, clause_at, places_from, Renaming, renamed, old_at, new_at}
 use Rattle.clauses.specs.Slots.{IsRenaming}
+use Rattle.clauses.specs.Moved.{name_or, named}
 use Rattle.clauses.proofs.Lookup.{renamed_here, renamed_later, rises_pairs, renamed_at}
 
 -- the place of a move
@@ -23,6 +24,9 @@ renamed_place (m ∷ ms) r q e = elim (cases_eq m.0 r) [
       let z = renamed_place ms r q (sym (renamed_later m ms r ne) ∙ e) in
       (suc z.0, omega (arith, z.1), z.2, z.3)
 ]
+
+pub named_listed : (ms : Renaming) (r q : ℕ) → renamed ms r ≡ Some q → named ms r ≡ q
+named_listed ms r q e = ap (λ o. name_or o r) e
 
 pub new_rise : (ms : Renaming) → IsStrictlyIncreasing (map (λ m. m.1) ms)
     → (i j : ℕ) → i < j → j < length ms → new_at ms i < new_at ms j

@@ -5,14 +5,14 @@ use Rattle.std.specs.Prelude.{slice_get, IsTrue, ◌↔◌}
 use Rattle.std.specs.Option.{option_map}
 use Rattle.std.proofs.lemmas.Bool.{cases_Bool}
 use Rattle.std.proofs.lemmas.Option.{slice_get-map, slice_get-get_or}
-use Rattle.clauses.specs.declared.heads.Span.{Span}
+use Rattle.clauses.specs.declared.heads.ClauseSpan.{ClauseSpan}
 use Rattle.clauses.specs.Heads.{Head, span_of}
 
 -- what stands past the last head
 abbrev pub no_head : Head
 no_head = record { start = 0; length = 0; live = false }
 
-pub span_at : (hs : List Head) (i : ℕ) (s : Span) → i < length hs
+pub span_at : (hs : List Head) (i : ℕ) (s : ClauseSpan) → i < length hs
     → slice_get (map span_of hs) i ≡ Some s → s ≡ span_of (get_or hs i no_head)
 span_at hs i s h e =
     let here : slice_get (map span_of hs) i ≡ Some (span_of (get_or hs i no_head)) =

@@ -9,7 +9,7 @@ use Rattle.std.proofs.lemmas.List.{map-set, map-append, length-set, length-appen
 use Rattle.std.proofs.lemmas.Option.{slice_get-map, slice_get_past, slice_get_cases}
 use Rattle.std.proofs.lemmas.Option.{slice_get-get_or}
 use Rattle.cnf.specs.Literal.{Literal}
-use Rattle.clauses.specs.declared.heads.Span.{Span}
+use Rattle.clauses.specs.declared.heads.ClauseSpan.{ClauseSpan}
 use Rattle.clauses.specs.Heads.{Head, span_of, literals_of, slot_of, slots_of, state_of, IsLaid}
 use Rattle.clauses.specs.Heads.{IsStore}
 use Rattle.clauses.specs.Slots.{in_slot, clause_at, IsLive}
@@ -90,7 +90,7 @@ live_within ls hs r live =
           absurd (cc)
     ]
 
-pub live_clause : (ls : List Literal) (hs : List Head) (r : ℕ) (s : Span)
+pub live_clause : (ls : List Literal) (hs : List Head) (r : ℕ) (s : ClauseSpan)
     → IsLive (slots_of ls hs) r → s ≡ span_of (get_or hs r no_head)
     → clause_at (slots_of ls hs) r ≡ Some (slice_range ls s.start (s.start + s.length))
 live_clause ls hs r s live is =

@@ -3,7 +3,7 @@ use Rattle.std.specs.Prelude.{◌≡◌, ℕ, ◌+◌, ◌<◌, ◌^◌, Bool, t
 use Rattle.std.specs.Prelude.{map, length, slice_range, if◌then◌else◌}
 use Rattle.std.specs.List.{AllByRecursion}
 use Rattle.cnf.specs.Literal.{Literal}
-use Rattle.clauses.specs.declared.heads.Span.{Span}
+use Rattle.clauses.specs.declared.heads.ClauseSpan.{ClauseSpan}
 use Rattle.clauses.specs.Slots.{StoreState}
 
 -- where the literals of a clause lie, and whether it is still there
@@ -12,10 +12,10 @@ pub record Head : Type 0 where
   pub length : ℕ
   pub live : Bool
 
-abbrev pub head_of : Span → Bool → Head
+abbrev pub head_of : ClauseSpan → Bool → Head
 head_of s live = record { start = s.start; length = s.length; live = live }
 
-abbrev pub span_of : Head → Span
+abbrev pub span_of : Head → ClauseSpan
 span_of h = record { start = h.start; length = h.length }
 
 abbrev pub literals_of : List Literal → Head → List Literal

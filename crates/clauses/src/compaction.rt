@@ -7,7 +7,7 @@
 ghost use Rattle.std.specs.Prelude.{◌≡◌, ◌<◌, ◌≤◌, ◌^◌, length};
 ghost use Rattle.clauses.specs.Heads.{clauses_in, IsLaid, AllLive};
 
-use crate::heads::{Heads, Span};
+use crate::heads::{ClauseSpan, Heads};
 use cnf::types::Lit;
 
 /// Drops the dead heads and their literals.
@@ -31,7 +31,7 @@ pub(crate) fn compact(heads: &mut Heads, literals: &mut Vec<Lit>)
         let start = span.start as usize;
         let length = span.length as usize;
         literals.copy_within(start..start + length, end);
-        let moved = Span {
+        let moved = ClauseSpan {
             start: end as u32,
             length: span.length,
         };

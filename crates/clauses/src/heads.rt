@@ -9,21 +9,21 @@ use std::marker::Model;
 /// Where the literals of a clause lie among all literals: the place of the first, and how many they
 /// are.
 #[derive(Clone, Copy, Debug, PartialEq, Eq, Drop)]
-pub(crate) struct Span {
+pub(crate) struct ClauseSpan {
     // The place of the first literal, from 0 up to the number of all literals.
     pub(crate) start: u32,
     // How many literals the clause has: 0 for the empty clause.
     pub(crate) length: u32,
 }
 
-const _: () = prove!(size_of::<Span>() == 8);
+const _: () = prove!(size_of::<ClauseSpan>() == 8);
 
 /// A head for each clause: its span, and whether it is live. The spans have a vector of their own,
 /// since reading a clause needs no more.
 #[derive(Drop)]
 pub(crate) struct Heads {
     // By reference, where the literals of the clause lie.
-    spans: Vec<Span>,
+    spans: Vec<ClauseSpan>,
     // By reference, whether the clause is live; as many as spans.
     live: Vec<bool>,
 }
@@ -59,7 +59,7 @@ impl Heads {
     }
 
     /// Where the literals of the clause under this place lie, also those of a dead one.
-    pub(crate) fn span(&self, at: usize) -> Span
+    pub(crate) fn span(&self, at: usize) -> ClauseSpan
         requires { at < length self.now }
         ensures { slice_get (map span_of self.now) at ≡ Some result }
     {
@@ -81,7 +81,7 @@ impl Heads {
     /// # Errors
     ///
     /// `AllocError` where a growth was refused. The heads are then unchanged.
-    pub(crate) fn push(&mut self, span: Span) -> Result<(), AllocError>
+    pub(crate) fn push(&mut self, span: ClauseSpan) -> Result<(), AllocError>
         ensures ok { IfOk result (λ _. self.new ≡ self.old ++ head_of span true ∷ []) }
         ensures err { OnErr result (self.new ≡ self.old) }
     {
@@ -93,7 +93,7 @@ impl Heads {
     }
 
     /// Puts a live head at this place, over what stood there.
-    pub(crate) fn set(&mut self, at: usize, span: Span)
+    pub(crate) fn set(&mut self, at: usize, span: ClauseSpan)
         requires { at < length self.old }
         ensures { self.new ≡ slice_set self.old at (head_of span true) }
     {
@@ -120,7 +120,7 @@ impl Heads {
 
     /// Gives back the memory beyond that of the heads.
     pub(crate) fn shrink_to_fit(&mut self)
-        ensures { self.new ≡ self.old }
+        ensures unchanged { self.new ≡ self.old }
     {
         self.spans.shrink_to_fit();
         self.live.shrink_to_fit();

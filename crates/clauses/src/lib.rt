@@ -3,5 +3,6 @@
 
 mod compaction;
 mod heads;
+pub mod moved;
 pub mod store;
 pub mod words;

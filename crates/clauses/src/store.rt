@@ -10,7 +10,7 @@ ghost use Rattle.clauses.specs.Slots.{IsLive, clause_at, live_clauses, moves_of,
 ghost use Rattle.clauses.specs.Slots.{IsRenaming};
 
 use crate::compaction::compact;
-use crate::heads::{Heads, Span};
+use crate::heads::{ClauseSpan, Heads};
 use crate::words::MaybeWord;
 use cnf::types::Lit;
 use std::alloc::{AllocError, Global};
@@ -144,7 +144,7 @@ impl Store {
         if place >= MOST || lits.len() > MOST - start {
             return Err(AllocError);
         }
-        let span = Span {
+        let span = ClauseSpan {
             start: start as u32,
             length: lits.len() as u32,
         };
@@ -243,7 +243,7 @@ impl Store {
     /// Gives back the memory that the clauses do not need. A compaction keeps it, for clauses that
     /// come after it.
     pub fn shrink_to_fit(&mut self)
-        ensures { self.new ≡ self.old }
+        ensures unchanged { self.new ≡ self.old }
     {
         self.literals.shrink_to_fit();
         self.heads.shrink_to_fit();

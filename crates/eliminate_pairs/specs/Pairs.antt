@@ -15,6 +15,7 @@ use Rattle.lrat_log.specs.declared.lines.Kind.TheVariants.{Definition}
 use Rattle.lrat_log.specs.Log.{LogLine, Given}
 use Rattle.lrat_log.specs.Steps.{StaysLogOver, AddsNoEmptyClause, learned_count, added_count}
 use Rattle.eliminate_names.specs.Work.{IsWork, NamesState}
+use Rattle.eliminate_pairs.specs.declared.pair_table.TheConstants.{FEWEST, SHORTEST}
 use Rattle.eliminate_pairs.specs.declared.pairs.Fresh.{Fresh}
 
 -- not z, or a or b
@@ -38,7 +39,7 @@ replaced z a b c = positive z ∷ without_literal b (without_literal a c)
 
 -- a clause of three or more literals has both
 abbrev pub together : Literal → Literal → List Literal → Bool
-together a b c = contains_literal a c && contains_literal b c && nat_le 3 (length c)
+together a b c = contains_literal a c && contains_literal b c && nat_le SHORTEST (length c)
 
 -- in how many live clauses they stand so
 abbrev pub meetings : Literal → Literal → Slots → ℕ
@@ -49,7 +50,7 @@ meetings a b (Some c ∷ slots) = (if together a b c then 1 else 0) + meetings a
 -- and in four or more
 pub record StandOften (slots : Slots) (a b : Literal) : Type 0 where
   pub two : literal_eq a b ≡ false
-  pub many : 4 ≤ meetings a b slots
+  pub many : FEWEST ≤ meetings a b slots
 
 -- in the clause at this place
 pub record StandAt (slots : Slots) (a b : Literal) (place : ℕ) : Type 0 where

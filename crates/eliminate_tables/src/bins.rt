@@ -66,7 +66,7 @@ pub struct Bins {
 
 /// A clause that was found beside another one.
 #[derive(Clone, Copy, Drop)]
-pub struct Found {
+pub struct ClauseBeside {
     // The clause that was found.
     pub by: CRef,
     // How it lies against the other one.
@@ -131,7 +131,7 @@ impl Bins {
     ///
     /// `AllocError` where memory was refused.
     pub fn make_rooms(&mut self, store: &Store, clauses: &[CRef]) -> Result<(), AllocError>
-        ensures { self.new ≡ self.old }
+        ensures unchanged { self.new ≡ self.old }
     {
         let Some(fill) = clauses.first() else {
             return Ok(());
@@ -150,7 +150,7 @@ impl Bins {
 
     /// Puts a clause into the least full bin of its literals, where it is in none yet.
     pub fn connect(&mut self, reference: CRef, lits: &[Lit]) -> Result<(), AllocError>
-        ensures { self.new ≡ self.old }
+        ensures unchanged { self.new ≡ self.old }
     {
         let place = reference.index();
         for _gap in self.is_connected.len()..place + 1 {
@@ -187,7 +187,7 @@ impl Bins {
         store: &Store,
         current: CRef,
         lits: &[Lit],
-    ) -> Option<Found>
+    ) -> Option<ClauseBeside>
         requires { ArePlaced (length marks.now) store.now.slots }
         ensures kept { self.new ≡ self.old }
         ensures found { IfSome result (IsOther marks.now store.now.slots current) }
@@ -334,7 +334,7 @@ fn find(
     marks: &Marks,
     store: &Store,
     current: CRef,
-) -> Option<Found>
+) -> Option<ClauseBeside>
     requires { ArePlaced (length marks.now) store.now.slots }
     ensures { IfSome result (IsOther marks.now store.now.slots current) }
 {
@@ -355,7 +355,7 @@ fn find(
             *steps = steps.saturating_sub(lits.len());
             let against = hold_against(marks, lits);
             if against != Against::Apart {
-                return Some(Found { by: *by, against });
+                return Some(ClauseBeside { by: *by, against });
             }
         }
     }

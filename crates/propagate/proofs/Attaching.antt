@@ -12,7 +12,7 @@ use Rattle.std.proofs.lemmas.List.{length-replicate}
 use Rattle.std.proofs.lemmas.List.Elements.{Contains-append_left, Contains-push}
 use Rattle.cnf.specs.Literal.{Literal, index_of}
 use Rattle.clauses.specs.Slots.{Slots, clause_at}
-use Rattle.propagate_watches.specs.declared.pool.Entry.{Entry}
+use Rattle.propagate_watches.specs.declared.pool.WatchEntry.{WatchEntry}
 use Rattle.propagate_watches.specs.declared.table.Attachment.{Attachment}
 use Rattle.propagate_watches.specs.declared.table.Rest.{Rest}
 use Rattle.propagate_watches.specs.declared.table.Attachment.TheVariants.{Detached, Waiting}
@@ -51,7 +51,7 @@ length-grown t r =
     )
 
 -- a clause with a place in the table is attached by what is put down there
-pub sets_kept : (e : EngineState) (r : ℕ) (p : Attachment) (R : List (List Entry)) (w : List ℕ)
+pub sets_kept : (e : EngineState) (r : ℕ) (p : Attachment) (R : List (List WatchEntry)) (w : List ℕ)
     → is_kept p ≡ true
     → SetsAttached e (with_watches e (set (grown_table e.watches.table r) r p) R w) r true
 sets_kept e r p R w kept =
@@ -124,10 +124,10 @@ Contains-filter p (y ∷ xs) x e h = elim (cases_Bool (p y)) [
   ])
 ]
 
-abbrev pub without_clause : ℕ → List Entry → List Entry
+abbrev pub without_clause : ℕ → List WatchEntry → List WatchEntry
 without_clause r row = filter (λ x. not (x.reference == r)) row
 
-count_without : (r : ℕ) (row : List Entry) → count_in r (without_clause r row) ≡ 0
+count_without : (r : ℕ) (row : List WatchEntry) → count_in r (without_clause r row) ≡ 0
 count_without r [] = refl
 count_without r (x ∷ row) = elim (cases_Bool (x.reference == r)) [
   | inl same ↦ rw same (count_without r row)
@@ -135,7 +135,7 @@ count_without r (x ∷ row) = elim (cases_Bool (x.reference == r)) [
       ∙ omega (arith, one-other x.reference r (eqb-false x.reference r ne), count_without r row))
 ]
 
-count_others : (r q : ℕ) (row : List Entry) → q ≢ r
+count_others : (r q : ℕ) (row : List WatchEntry) → q ≢ r
     → count_in q (without_clause r row) ≡ count_in q row
 count_others r q [] h = refl
 count_others r q (x ∷ row) h = elim (cases_Bool (x.reference == r)) [
@@ -161,10 +161,10 @@ all_filter P p (x ∷ xs) h = elim (cases_Bool (p x)) [
   | inr e ↦ rw e (all_filter P p xs h.1)
 ]
 
-abbrev pub cleared : List (List Entry) → ℕ → ℕ → List (List Entry)
+abbrev pub cleared : List (List WatchEntry) → ℕ → ℕ → List (List WatchEntry)
 cleared R i r = with_row R i (without_clause r (row_at R i))
 
-pub cleared_others : (R : List (List Entry)) (i r q k : ℕ) → i < length R → q ≢ r
+pub cleared_others : (R : List (List WatchEntry)) (i r q k : ℕ) → i < length R → q ≢ r
     → count_in q (row_at (cleared R i r) k) ≡ count_in q (row_at R k)
 cleared_others R i r q k lt h = elim (cases_eq k i) [
   | inl same ↦ rw same (ap (count_in q) (get_or-set_same R i (without_clause r (row_at R i)) [] lt)
@@ -172,17 +172,17 @@ cleared_others R i r q k lt h = elim (cases_eq k i) [
   | inr ne ↦ ap (count_in q) (get_or-set_other R i k (without_clause r (row_at R i)) [] ne)
 ]
 
-pub cleared_here : (R : List (List Entry)) (i r : ℕ) → i < length R
+pub cleared_here : (R : List (List WatchEntry)) (i r : ℕ) → i < length R
     → count_in r (row_at (cleared R i r) i) ≡ 0
 cleared_here R i r lt = ap (count_in r) (get_or-set_same R i (without_clause r (row_at R i)) [] lt)
     ∙ count_without r (row_at R i)
 
-pub cleared_elsewhere : (R : List (List Entry)) (i r k : ℕ) → k ≢ i
+pub cleared_elsewhere : (R : List (List WatchEntry)) (i r k : ℕ) → k ≢ i
     → count_in r (row_at (cleared R i r) k) ≡ count_in r (row_at R k)
 cleared_elsewhere R i r k ne =
     ap (count_in r) (get_or-set_other R i k (without_clause r (row_at R i)) [] ne)
 
-pub cleared_all : (P : Entry → Type 0) (R : List (List Entry)) (i r : ℕ) → i < length R
+pub cleared_all : (P : WatchEntry → Type 0) (R : List (List WatchEntry)) (i r : ℕ) → i < length R
     → ((k : ℕ) → AllByRecursion P (row_at R k)) → (k : ℕ)
     → AllByRecursion P (row_at (cleared R i r) k)
 cleared_all P R i r lt h k = elim (cases_eq k i) [
@@ -193,7 +193,8 @@ cleared_all P R i r lt h k = elim (cases_eq k i) [
       (sym (get_or-set_other R i k (without_clause r (row_at R i)) [] ne)) (h k)
 ]
 
-pub fits_detach : (e : EngineState) (slots : Slots) (r : ℕ) (R : List (List Entry)) (w : List ℕ)
+pub fits_detach : (e : EngineState) (slots : Slots) (r : ℕ) (R : List (List WatchEntry))
+    (w : List ℕ)
     → r < length e.watches.table → All (λ (a : Assigned). a.reason ≡ Some r → ⊥) e.trail
     → ((i q : ℕ) → q ≢ r → count_in q (row_at R i) ≡ count_in q (row_at e.watches.rows i))
     → ((i : ℕ) → count_in r (row_at R i) ≡ 0)
@@ -267,8 +268,8 @@ pub watching_is : (p : Attachment) (one other : Literal) (rest : Rest) → p ≡
 watching_is p one other rest e = subst (λ x. IsWatching x one other) (sym e) refl
 
 -- the table of an engine may change so
-pub engine_change : (e : EngineState) (t : List Attachment) (R : List (List Entry)) (w : List ℕ)
-    → IsEngine e → length R ≡ length e.watches.rows
+pub engine_change : (e : EngineState) (t : List Attachment) (R : List (List WatchEntry))
+    (w : List ℕ) → IsEngine e → length R ≡ length e.watches.rows
     → ((r : ℕ) (one other : Literal) → IsWatching (attachment_in t r) one other
     → IsVariable e.variables one × IsVariable e.variables other)
     → IsEngine (with_watches e t R w)
@@ -280,8 +281,8 @@ engine_change e t R w inv long watching =
       qhead = inv.qhead;
     }
 
-pub engine_set : (e : EngineState) (r : ℕ) (p : Attachment) (R : List (List Entry)) (w : List ℕ)
-    → IsEngine e → length R ≡ length e.watches.rows → r < length e.watches.table
+pub engine_set : (e : EngineState) (r : ℕ) (p : Attachment) (R : List (List WatchEntry))
+    (w : List ℕ) → IsEngine e → length R ≡ length e.watches.rows → r < length e.watches.table
     → ((one other : Literal) → IsWatching p one other → IsVariable e.variables one
     × IsVariable e.variables other)
     → IsEngine (with_watches e (set e.watches.table r p) R w)

@@ -8,7 +8,7 @@ use Rattle.std.proofs.lemmas.List.Elements.{All-weaker}
 use Rattle.std.proofs.lemmas.List.Sums.{sum_by-cons}
 use Rattle.cnf.specs.Literal.{Literal}
 use Rattle.clauses.specs.Slots.{Slots, clause_at}
-use Rattle.propagate_watches.specs.declared.pool.Entry.{Entry}
+use Rattle.propagate_watches.specs.declared.pool.WatchEntry.{WatchEntry}
 use Rattle.propagate_watches.specs.declared.table.Attachment.{Attachment}
 use Rattle.propagate_watches.specs.declared.table.Attachment.TheVariants.{Detached, Waiting}
 use Rattle.propagate_watches.specs.declared.table.Attachment.TheVariants.{Satisfied}
@@ -20,12 +20,13 @@ use Rattle.propagate.specs.Watches.{EngineState, is_attached, watches_at, one_at
 use Rattle.propagate.specs.Fits.{Fits, FitsAttachment, IsWithin, IsWatch, HasBlocker}
 use Rattle.propagate.proofs.Facts.{some_weaker}
 
-abbrev pub with_watches : EngineState → List Attachment → List (List Entry) → List ℕ → EngineState
+abbrev pub with_watches : EngineState → List Attachment → List (List WatchEntry) → List ℕ
+    → EngineState
 with_watches e table rows waiting =
     record e { watches = record e.watches { table = table; rows = rows; waiting = waiting } }
 
-kept_other : (e : EngineState) (t : List Attachment) (R : List (List Entry)) (w : List ℕ) (r : ℕ)
-    → ((q : ℕ) → q ≢ r → attachment_in t q ≡ attachment_in e.watches.table q)
+kept_other : (e : EngineState) (t : List Attachment) (R : List (List WatchEntry)) (w : List ℕ)
+    (r : ℕ) → ((q : ℕ) → q ≢ r → attachment_in t q ≡ attachment_in e.watches.table q)
     → is_kept (attachment_in t r) ≡ true → (q : ℕ) → is_attached e q ≡ true
     → is_attached (with_watches e t R w) q ≡ true
 kept_other e t R w r other here q h = elim (cases_eq q r) [
@@ -33,19 +34,19 @@ kept_other e t R w r other here q h = elim (cases_eq q r) [
   | inr ne ↦ ap is_kept (other q ne) ∙ h
 ]
 
-reason_kept : (e : EngineState) (t : List Attachment) (R : List (List Entry)) (w : List ℕ) (r : ℕ)
-    → ((q : ℕ) → q ≢ r → attachment_in t q ≡ attachment_in e.watches.table q)
+reason_kept : (e : EngineState) (t : List Attachment) (R : List (List WatchEntry)) (w : List ℕ)
+    (r : ℕ) → ((q : ℕ) → q ≢ r → attachment_in t q ≡ attachment_in e.watches.table q)
     → (o : Option ℕ) → IfSome o (λ q. is_attached e q ≡ true) → (o ≡ Some r → ⊥)
     → IfSome o (λ q. is_attached (with_watches e t R w) q ≡ true)
 reason_kept e t R w r other None h n = tt
 reason_kept e t R w r other (Some q) h n = ap is_kept (other q (λ same. n (ap Some same))) ∙ h
 
-pub watch_same : (e : EngineState) (t : List Attachment) (R : List (List Entry)) (w : List ℕ)
+pub watch_same : (e : EngineState) (t : List Attachment) (R : List (List WatchEntry)) (w : List ℕ)
     (c : List Literal) (l : Literal) → IsWatch e c l → IsWatch (with_watches e t R w) c l
 watch_same e t R w c l h = record { member = h.member; covered = h.covered; stays = h.stays }
 
-pub attachment_same : (e : EngineState) (t : List Attachment) (R : List (List Entry)) (w : List ℕ)
-    (c : List Literal) (p : Attachment) → FitsAttachment e c p
+pub attachment_same : (e : EngineState) (t : List Attachment) (R : List (List WatchEntry))
+    (w : List ℕ) (c : List Literal) (p : Attachment) → FitsAttachment e c p
     → FitsAttachment (with_watches e t R w) c p
 attachment_same e t R w c Detached h = h
 attachment_same e t R w c Waiting h = h
@@ -54,7 +55,7 @@ attachment_same e t R w c (Watching one other rest) h =
     (h.0, watch_same e t R w c one h.1, watch_same e t R w c other h.2, h.3)
 
 pub fits_attachment : (e : EngineState) (slots : Slots) (r : ℕ) (t : List Attachment)
-    (R : List (List Entry)) (w : List ℕ) → Fits e slots
+    (R : List (List WatchEntry)) (w : List ℕ) → Fits e slots
     → ((q : ℕ) → q ≢ r → attachment_in t q ≡ attachment_in e.watches.table q)
     → (is_kept (attachment_in t r) ≡ true → (c : List Literal) × (clause_at slots r ≡ Some c)
     × (IsWithin e.variables c × FitsAttachment e c (attachment_in t r)))
@@ -103,7 +104,7 @@ fits_attachment e slots r t R w fits other here reason rows waiting blockers = r
 
 -- the entries of a row are of attached clauses still
 pub blockers_kept : (e : EngineState) (slots : Slots) (r : ℕ) (t : List Attachment)
-    (R : List (List Entry)) (w : List ℕ) (row : List Entry)
+    (R : List (List WatchEntry)) (w : List ℕ) (row : List WatchEntry)
     → ((q : ℕ) → q ≢ r → attachment_in t q ≡ attachment_in e.watches.table q)
     → is_kept (attachment_in t r) ≡ true
     → AllByRecursion (HasBlocker e slots) row
@@ -114,9 +115,9 @@ blockers_kept e slots r t R w (x ∷ row) other kept h = (
   blockers_kept e slots r t R w row other kept h.1,
 )
 
-pub count-cons : (r : ℕ) (x : Entry) (row : List Entry)
+pub count-cons : (r : ℕ) (x : WatchEntry) (row : List WatchEntry)
     → count_in r (x ∷ row) ≡ one_at x.reference r + count_in r row
-count-cons r x row = sum_by-cons (λ (y : Entry). cond (y.reference == r) 1 0) x row
+count-cons r x row = sum_by-cons (λ (y : WatchEntry). cond (y.reference == r) 1 0) x row
 
 pub one-same : (m n : ℕ) → m ≡ n → one_at m n ≡ 1
 one-same m n e = cond-true (eqb m n) 1 0 (eq-eqb m n e)
@@ -125,7 +126,7 @@ pub one-other : (m n : ℕ) → m ≢ n → one_at m n ≡ 0
 one-other m n e = cond-false (eqb m n) 1 0 (ne_eqb m n e)
 
 pub blockers_gone : (e : EngineState) (slots : Slots) (r : ℕ) (t : List Attachment)
-    (R : List (List Entry)) (w : List ℕ) (row : List Entry)
+    (R : List (List WatchEntry)) (w : List ℕ) (row : List WatchEntry)
     → ((q : ℕ) → q ≢ r → attachment_in t q ≡ attachment_in e.watches.table q) → count_in r row ≡ 0
     → AllByRecursion (HasBlocker e slots) row
     → AllByRecursion (HasBlocker (with_watches e t R w) slots) row

@@ -11,7 +11,7 @@ use Rattle.cnf.proofs.Laws.{contains_front, member_pushed}
 use Rattle.clauses.specs.Slots.{Slots, clause_at}
 use Rattle.propagate_watches.specs.declared.table.Rest.{Rest}
 use Rattle.propagate_watches.specs.declared.table.Rest.TheVariants.{Nothing, One, Many}
-use Rattle.propagate_watches.specs.declared.pool.Entry.{Entry}
+use Rattle.propagate_watches.specs.declared.pool.WatchEntry.{WatchEntry}
 use Rattle.propagate_watches.specs.Table.{attachment_in, rest_in, IsWatchedBy}
 use Rattle.propagate_trail.specs.Trail.{literals_of, value_in}
 use Rattle.propagate.specs.Watches.{EngineState}
@@ -89,7 +89,7 @@ one_false A c w o t h f g = all_from (IsLeft A o) c (λ l m. elim (h.3 l m) [
 ])
 
 -- what is beside the watches of a clause
-pub rest_known : (slots : Slots) (e : EngineState) (w o : Literal) (x : Entry) (rest k : Rest)
+pub rest_known : (slots : Slots) (e : EngineState) (w o : Literal) (x : WatchEntry) (rest k : Rest)
     (W : IsWatched slots e w x) → IsWatchedBy (attachment_in e.watches.table x.reference) w o
     → rest ≡ rest_in (attachment_in e.watches.table x.reference) → rest ≡ k → IsRest W.clause w o k
 rest_known slots e w o x rest k W by is same =

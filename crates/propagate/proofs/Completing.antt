@@ -9,7 +9,7 @@ use Rattle.cnf.specs.Clause.{contains_literal}
 use Rattle.cnf.specs.Refute.{IsUnit, IsFalseUnder}
 use Rattle.cnf.proofs.Laws.{literal_eq-true, all_at, negation_twice, contains-push, contains_front}
 use Rattle.clauses.specs.Slots.{Slots, clause_at}
-use Rattle.propagate_watches.specs.declared.pool.Entry.{Entry}
+use Rattle.propagate_watches.specs.declared.pool.WatchEntry.{WatchEntry}
 use Rattle.propagate_watches.specs.declared.table.Attachment.{Attachment}
 use Rattle.propagate_watches.specs.declared.table.Attachment.TheVariants.{Detached, Waiting}
 use Rattle.propagate_watches.specs.declared.table.Attachment.TheVariants.{Satisfied, Watching}
@@ -25,7 +25,7 @@ use Rattle.propagate.proofs.Fitting.{with_progress, true_more}
 use Rattle.propagate.proofs.Attachments.{count-cons, one-same, one-other}
 
 -- what holds of the clauses of a row's entries holds of one that stands in the row
-pub named_in_row : (P : ℕ → Type 0) (row : List Entry) (r : ℕ) → 0 < count_in r row
+pub named_in_row : (P : ℕ → Type 0) (row : List WatchEntry) (r : ℕ) → 0 < count_in r row
     → AllByRecursion (λ w. P w.reference) row → P r
 named_in_row P [] r n h = absurd (omega arith)
 named_in_row P (x ∷ row) r n h = elim (cases_eq x.reference r) [

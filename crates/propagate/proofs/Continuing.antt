@@ -6,7 +6,7 @@ use Rattle.std.proofs.lemmas.List.{append-nil}
 use Rattle.cnf.specs.Literal.{Literal}
 use Rattle.cnf.proofs.Laws.{all_append}
 use Rattle.clauses.specs.Slots.{Slots}
-use Rattle.propagate_watches.specs.declared.pool.Entry.{Entry}
+use Rattle.propagate_watches.specs.declared.pool.WatchEntry.{WatchEntry}
 use Rattle.propagate_watches.specs.declared.table.Attachment.{Attachment}
 use Rattle.propagate_watches.specs.declared.table.Attachment.TheVariants.{Waiting}
 use Rattle.propagate_watches.specs.Table.{is_kept, attachment_in}
@@ -52,7 +52,7 @@ goes_on_then slots e f g a b =
     record { continues = continues_then e f g a.continues b.continues; fits = b.fits }
 
 -- only rows and the waiting list change
-pub continues_rows : (e : EngineState) (R : List (List Entry)) (w : List ℕ)
+pub continues_rows : (e : EngineState) (R : List (List WatchEntry)) (w : List ℕ)
     → Continues e (with_watches e e.watches.table R w)
 continues_rows e R w = continues_beside e _ refl refl refl refl
 
@@ -70,7 +70,7 @@ continues_unit e l r = record {
 }
 
 -- an attached clause gets a place
-pub continues_attachment : (e : EngineState) (r : ℕ) (p : Attachment) (R : List (List Entry))
+pub continues_attachment : (e : EngineState) (r : ℕ) (p : Attachment) (R : List (List WatchEntry))
     → is_attached e r ≡ true → is_kept p ≡ true → (p ≡ Waiting → ⊥)
     → Continues e (with_watches e (set e.watches.table r p) R e.watches.waiting)
 continues_attachment e r p R was kept new =

@@ -12,15 +12,16 @@ use Rattle.cnf.specs.Literal.{Literal}
 use Rattle.cnf.specs.Refute.{Clauses}
 use Rattle.cnf.proofs.Laws.{all_weaker}
 use Rattle.clauses.specs.Slots.{Slots, clause_at, Renaming, renamed, IsRenaming}
-use Rattle.clauses.proofs.Laws.{same_origin, same_clause}
-use Rattle.propagate_watches.specs.declared.pool.Entry.{Entry}
+use Rattle.clauses.specs.Moved.{named}
+use Rattle.clauses.proofs.Laws.{same_origin, same_clause, named_listed}
+use Rattle.propagate_watches.specs.declared.pool.WatchEntry.{WatchEntry}
 use Rattle.propagate_watches.specs.declared.table.Attachment.{Attachment}
 use Rattle.propagate_watches.specs.declared.table.Attachment.TheVariants.{Detached, Waiting}
 use Rattle.propagate_watches.specs.declared.table.Attachment.TheVariants.{Satisfied, Watching}
 use Rattle.propagate_watches.specs.Pool.{row_at}
 use Rattle.propagate_watches.specs.Table.{IsWatching, is_kept, attachment_in}
-use Rattle.propagate_watches.specs.Renames.{IsMoved, named, named_entry, named_rows}
-use Rattle.propagate_watches.proofs.Laws.{moved_to, moved_from, named_listed}
+use Rattle.propagate_watches.specs.Renames.{IsMoved, named_entry, named_rows}
+use Rattle.propagate_watches.proofs.Laws.{moved_to, moved_from}
 use Rattle.propagate_trail.specs.Trail.{Assigned, TrailState, HasReasons, IsJustified}
 use Rattle.propagate.specs.Watches.{EngineState, engine_state, IsEngine, is_attached, watches_at}
 use Rattle.propagate.specs.Watches.{count_in, one_at}
@@ -132,7 +133,7 @@ module _ (e : EngineState) (ms : Renaming) (table : List Attachment)
   attachment_named c (Watching one other rest) h =
       (h.0, watch_named c one h.1, watch_named c other h.2, h.3)
 
-  count_kept : (slots : Slots) (r q : ℕ) (row : List Entry) → renamed ms r ≡ Some q
+  count_kept : (slots : Slots) (r q : ℕ) (row : List WatchEntry) → renamed ms r ≡ Some q
       → AllByRecursion (HasBlocker e slots) row
       → count_in q (map (named_entry ms) row) ≡ count_in r row
   count_kept slots r q [] n h = refl
@@ -152,7 +153,8 @@ module _ (e : EngineState) (ms : Renaming) (table : List Attachment)
       ])
       ∙ sym (count-cons r w row)
 
-  count_gone : (slots : Slots) (q : ℕ) (row : List Entry) → is_kept (attachment_in table q) ≡ false
+  count_gone : (slots : Slots) (q : ℕ) (row : List WatchEntry)
+      → is_kept (attachment_in table q) ≡ false
       → AllByRecursion (HasBlocker e slots) row → count_in q (map (named_entry ms) row) ≡ 0
   count_gone slots q [] n h = refl
   count_gone slots q (w ∷ row) n h =
@@ -167,7 +169,7 @@ module _ (e : EngineState) (ms : Renaming) (table : List Attachment)
       (row_at e.watches.rows i)
   row_named i = get_or-map (map (named_entry ms)) e.watches.rows i []
 
-  blockers_named : (before after : Slots) (row : List Entry) → IsRenaming before after ms
+  blockers_named : (before after : Slots) (row : List WatchEntry) → IsRenaming before after ms
       → AllByRecursion (HasBlocker e before) row
       → AllByRecursion (HasBlocker (engine_named e ms table) after) (map (named_entry ms) row)
   blockers_named before after [] n h = h
@@ -240,7 +242,8 @@ module _ (e : EngineState) (ms : Renaming) (table : List Attachment)
 
 -- what holds of the renamed engine
 pub all_renamed : (now : EngineState) (ms : Renaming) (trail trail' : TrailState)
-    (table table' : List Attachment) (rows rows' : List (List Entry)) (waiting waiting' : List ℕ)
+    (table table' : List Attachment) (rows rows' : List (List WatchEntry))
+    (waiting waiting' : List ℕ)
     (stable_qhead qhead : ℕ) (failed : Bool)
     → engine_state trail table rows waiting stable_qhead qhead failed ≡ now
     → trail' ≡ record { variables = trail.variables; assigned = named_trail ms trail.assigned }

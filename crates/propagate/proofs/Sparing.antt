@@ -5,7 +5,7 @@ use Rattle.std.specs.Prelude.{All, IfSome}
 use Rattle.std.specs.List.{AllByRecursion}
 use Rattle.std.proofs.lemmas.Bool.{cases_Bool, both_ways}
 use Rattle.clauses.specs.Slots.{Slots}
-use Rattle.propagate_watches.specs.declared.pool.Entry.{Entry}
+use Rattle.propagate_watches.specs.declared.pool.WatchEntry.{WatchEntry}
 use Rattle.propagate_watches.specs.declared.table.Attachment.{Attachment}
 use Rattle.propagate_watches.specs.declared.table.Attachment.TheVariants.{Detached}
 use Rattle.propagate_watches.specs.Pool.{row_at}
@@ -20,7 +20,7 @@ use Rattle.propagate.proofs.Attaching.{Contains-filter}
 
 -- rows
 
-counted_gone : (doomed : List Bool) (q : ℕ) (row : List Entry) → is_doomed doomed q ≡ true
+counted_gone : (doomed : List Bool) (q : ℕ) (row : List WatchEntry) → is_doomed doomed q ≡ true
     → count_in q (spared_entries doomed row) ≡ 0
 counted_gone doomed q [] h = refl
 counted_gone doomed q (x ∷ row) h = elim (cases_Bool (is_doomed doomed x.reference)) [
@@ -31,7 +31,7 @@ counted_gone doomed q (x ∷ row) h = elim (cases_Bool (is_doomed doomed x.refer
       ∙ omega (arith, one-other x.reference q ne, counted_gone doomed q row h))
 ]
 
-counted_same : (doomed : List Bool) (q : ℕ) (row : List Entry) → is_doomed doomed q ≡ false
+counted_same : (doomed : List Bool) (q : ℕ) (row : List WatchEntry) → is_doomed doomed q ≡ false
     → count_in q (spared_entries doomed row) ≡ count_in q row
 counted_same doomed q [] h = refl
 counted_same doomed q (x ∷ row) h = elim (cases_Bool (is_doomed doomed x.reference)) [
@@ -47,7 +47,7 @@ counted_same doomed q (x ∷ row) h = elim (cases_Bool (is_doomed doomed x.refer
   ))
 ]
 
-row_spared : (doomed : List Bool) (R : List (List Entry)) (i : ℕ)
+row_spared : (doomed : List Bool) (R : List (List WatchEntry)) (i : ℕ)
     → row_at (spared_rows doomed R) i ≡ spared_entries doomed (row_at R i)
 row_spared doomed [] i = refl
 row_spared doomed (row ∷ R) zero = refl
@@ -56,7 +56,7 @@ row_spared doomed (row ∷ R) (suc i) = row_spared doomed R i
 -- what stays attached
 
 attached_spared : (e : EngineState) (doomed : List Bool) (t : List Attachment)
-    (R : List (List Entry)) (w : List ℕ) (q : ℕ) → IsSpared doomed e.watches.table t
+    (R : List (List WatchEntry)) (w : List ℕ) (q : ℕ) → IsSpared doomed e.watches.table t
     → is_doomed doomed q ≡ false → is_attached e q ≡ true
     → is_attached (with_watches e t R w) q ≡ true
 attached_spared e doomed t R w q s d h = ap is_kept (s.stays q d) ∙ h
@@ -73,7 +73,8 @@ spared_at doomed old t q s h = elim (cases_Bool (is_doomed doomed q)) [
 ]
 
 blockers_spared : (e : EngineState) (slots : Slots) (doomed : List Bool) (t : List Attachment)
-    (R : List (List Entry)) (w : List ℕ) (row : List Entry) → IsSpared doomed e.watches.table t
+    (R : List (List WatchEntry)) (w : List ℕ) (row : List WatchEntry)
+    → IsSpared doomed e.watches.table t
     → AllByRecursion (HasBlocker e slots) row
     → AllByRecursion (HasBlocker (with_watches e t R w) slots) (spared_entries doomed row)
 blockers_spared e slots doomed t R w [] s h = tt
@@ -86,7 +87,8 @@ blockers_spared e slots doomed t R w (x ∷ row) s h =
       )
     ]
 
-reason_spared : (e : EngineState) (doomed : List Bool) (t : List Attachment) (R : List (List Entry))
+reason_spared : (e : EngineState) (doomed : List Bool) (t : List Attachment)
+    (R : List (List WatchEntry))
     (w : List ℕ) (o : Option ℕ) → IsSpared doomed e.watches.table t
     → IfSome o (λ r. is_attached e r ≡ true) → IfSome o (λ r. is_doomed doomed r ≡ false)
     → IfSome o (λ r. is_attached (with_watches e t R w) r ≡ true)

@@ -14,7 +14,7 @@ use Rattle.cnf.specs.Refute.{IsUnit}
 use Rattle.cnf.proofs.Laws.{index_same, all_weaker, all_left, all_right, all_append, contains_front}
 use Rattle.cnf.proofs.Laws.{literal_eq-refl, contains_back}
 use Rattle.clauses.specs.Slots.{Slots, clause_at}
-use Rattle.propagate_watches.specs.declared.pool.Entry.{Entry}
+use Rattle.propagate_watches.specs.declared.pool.WatchEntry.{WatchEntry}
 use Rattle.propagate_watches.specs.declared.table.Attachment.{Attachment}
 use Rattle.propagate_watches.specs.declared.table.Attachment.TheVariants.{Detached, Waiting}
 use Rattle.propagate_watches.specs.declared.table.Attachment.TheVariants.{Satisfied, Watching}
@@ -38,10 +38,11 @@ use Rattle.propagate.proofs.Attachments.{blockers_kept, count-cons, one-same, on
 use Rattle.propagate.proofs.Attaching.{kept_within}
 use Rattle.propagate.proofs.Looking.{not_false_value, true_value, within_variable}
 
-pub count-append : (q : ℕ) (A B : List Entry) → count_in q (A ++ B) ≡ count_in q A + count_in q B
-count-append q A B = sum_by-append (λ (x : Entry). cond (x.reference == q) 1 0) A B
+pub count-append : (q : ℕ) (A B : List WatchEntry) → count_in q
+    (A ++ B) ≡ count_in q A + count_in q B
+count-append q A B = sum_by-append (λ (x : WatchEntry). cond (x.reference == q) 1 0) A B
 
-pub closed_split : (row : List Entry) (write read : ℕ) (x : Entry) → read < length row
+pub closed_split : (row : List WatchEntry) (write read : ℕ) (x : WatchEntry) → read < length row
     → x ≡ get_or row read x → closed_row write read row ≡ take write row ++ x ∷ drop (read + 1) row
 closed_split row write read x lt e =
     ap (λ r. take write row ++ r) (drop_more row read x lt
@@ -119,7 +120,7 @@ watched_by e c p w one other is fp (inr s) = (
   subst (λ y. IsRest c y one (rest_in p)) s (rest_swapped c one other (rest_in p) fp.3),
 )
 
-pub watched_from : (slots : Slots) (e : EngineState) (w : Literal) (write read : ℕ) (x : Entry)
+pub watched_from : (slots : Slots) (e : EngineState) (w : Literal) (write read : ℕ) (x : WatchEntry)
     → IsEngine e → InRow slots e w write read
     → read < length (row_at e.watches.rows (index_of w))
     → x ≡ get_or (row_at e.watches.rows (index_of w)) read x → IsWatched slots e w x
@@ -168,7 +169,7 @@ watched_from slots e w write read x inv st lt at =
     }
 
 -- rows that have the same clauses
-pub fits_rows : (e : EngineState) (slots : Slots) (R : List (List Entry)) → Fits e slots
+pub fits_rows : (e : EngineState) (slots : Slots) (R : List (List WatchEntry)) → Fits e slots
     → ((i q : ℕ) → count_in q (row_at R i) ≡ count_in q (row_at e.watches.rows i))
     → ((i : ℕ) → AllByRecursion (HasBlocker e slots) (row_at R i))
     → Fits (with_rows e R) slots
@@ -191,7 +192,7 @@ fits_rows e slots R fits counts blockers = record {
 }
 
 -- the entry stays, with a literal that is true
-pub keep_row : (slots : Slots) (e : EngineState) (w : Literal) (write read : ℕ) (x : Entry)
+pub keep_row : (slots : Slots) (e : EngineState) (w : Literal) (write read : ℕ) (x : WatchEntry)
     (b : Literal) → IsEngine e → InRow slots e w write read
     → read < length (row_at e.watches.rows (index_of w))
     → x ≡ get_or (row_at e.watches.rows (index_of w)) read x
@@ -268,13 +269,13 @@ keep_row slots e w write read x b inv st lt at is_true =
     }
 
 -- a blocker may be asked for
-pub blocker_within : (slots : Slots) (e : EngineState) (w : Literal) (x : Entry)
+pub blocker_within : (slots : Slots) (e : EngineState) (w : Literal) (x : WatchEntry)
     → IsWatched slots e w x → x.blocker.variable ≤ e.variables
 blocker_within slots e w x W =
     (within_variable e.variables W.clause x.blocker W.within W.blocker).1
 
 -- a true blocker makes its clause true
-pub true_blocker : (slots : Slots) (e : EngineState) (w : Literal) (x : Entry)
+pub true_blocker : (slots : Slots) (e : EngineState) (w : Literal) (x : WatchEntry)
     → IsWatched slots e w x → value_in e.trail x.blocker ≡ Some true
     → IsTrueIn slots e x.reference x.blocker
 true_blocker slots e w x W is_true = λ d live.
@@ -284,7 +285,7 @@ true_blocker slots e w x W is_true = λ d live.
     )
 
 -- an entry whose blocker is true stays where it is
-pub stay_row : (slots : Slots) (e : EngineState) (w : Literal) (k : ℕ) (x : Entry) → IsEngine e
+pub stay_row : (slots : Slots) (e : EngineState) (w : Literal) (k : ℕ) (x : WatchEntry) → IsEngine e
     → InRow slots e w k k → k < length (row_at e.watches.rows (index_of w))
     → x ≡ get_or (row_at e.watches.rows (index_of w)) k x
     → IsTrueIn slots e x.reference x.blocker → InRow slots e w (k + 1) (k + 1)
@@ -401,7 +402,7 @@ pub kept_by : (p : Attachment) (w other : Literal) → IsWatchedBy p w other →
 kept_by p w other by = elim by [ inl h ↦ ap is_kept h | inr h ↦ ap is_kept h ]
 
 -- each row has the clauses that the table says, still
-moved_counts : (slots : Slots) (e : EngineState) (w : Literal) (write read : ℕ) (x : Entry)
+moved_counts : (slots : Slots) (e : EngineState) (w : Literal) (write read : ℕ) (x : WatchEntry)
     (other l : Literal) → index_of l ≢ index_of w
     → InRow slots e w write read → IsWatchedBy (attachment_in e.watches.table x.reference) w other
     → ((q : ℕ) → count_in q
@@ -488,7 +489,7 @@ moved_counts slots e w write read x other l ne st by count_here count_there coun
     ]
 
 -- the clause goes to the row of another literal
-pub rewatch_row : (slots : Slots) (e : EngineState) (w : Literal) (write read : ℕ) (x : Entry)
+pub rewatch_row : (slots : Slots) (e : EngineState) (w : Literal) (write read : ℕ) (x : WatchEntry)
     (other l : Literal) → IsEngine e → InRow slots e w write read
     → read < length (row_at e.watches.rows (index_of w))
     → x ≡ get_or (row_at e.watches.rows (index_of w)) read x
@@ -624,7 +625,8 @@ rewatch_row slots e w write read x other l inv st lt at by apart may =
       within = subst (λ z. read + 1 ≤ length z) (sym row_same) (omega arith);
     }
 
-pub got_at : (row : List Entry) (k : ℕ) (x : Entry) → slice_get row k ≡ Some x → x ≡ get_or row k x
+pub got_at : (row : List WatchEntry) (k : ℕ) (x : WatchEntry) → slice_get row k ≡ Some x
+    → x ≡ get_or row k x
 got_at [] k x e = refl
 got_at (y ∷ row) zero x e = (cc)
 got_at (y ∷ row) (suc k) x e = got_at row k x e

@@ -14,7 +14,7 @@ use Rattle.cnf.specs.Marks.{mark_of, IsMarked, HasPlace, are_marked}
 use Rattle.cnf.proofs.Laws.{all_at, all_push, literal_eq-true, marked_subset, places_each}
 use Rattle.cnf.proofs.Laws.{subset_at}
 use Rattle.clauses.specs.Slots.{Slots, clause_at}
-use Rattle.propagate_watches.specs.declared.pool.Entry.{Entry}
+use Rattle.propagate_watches.specs.declared.pool.WatchEntry.{WatchEntry}
 use Rattle.propagate_watches.specs.declared.table.Attachment.{Attachment}
 use Rattle.propagate_watches.specs.declared.table.Attachment.TheVariants.{Detached, Waiting}
 use Rattle.propagate_watches.specs.declared.table.Attachment.TheVariants.{Satisfied, Watching}
@@ -37,7 +37,7 @@ have_places n rows c room w =
     (places_each n rows c room (recursion_from_All (λ l. 0 < l.variable) c w.0) w.1)
 
 -- and so has a blocker
-pub has_place : (e : EngineState) (slots : Slots) (rows : ℕ) (x : Entry) → Fits e slots
+pub has_place : (e : EngineState) (slots : Slots) (rows : ℕ) (x : WatchEntry) → Fits e slots
     → 2 * e.variables ≤ rows → HasBlocker e slots x → HasPlace rows x.blocker
 has_place e slots rows x fits room b =
     let v =
@@ -60,7 +60,7 @@ one_unmarked marks (k ∷ c) l m n =
           ]
     ]
 
-pub blocker_unmarked : (e : EngineState) (slots : Slots) (marks : List Bool) (x : Entry)
+pub blocker_unmarked : (e : EngineState) (slots : Slots) (marks : List Bool) (x : WatchEntry)
     → HasBlocker e slots x → mark_of marks x.blocker ≡ false → IsUnmarked slots marks x.reference
 blocker_unmarked e slots marks x b n c live =
     one_unmarked marks c x.blocker
@@ -68,7 +68,7 @@ blocker_unmarked e slots marks x b n c live =
 
 -- One more was looked at.
 
-pub row_more : (slots : Slots) (marks : List Bool) (row : List Entry) (k : ℕ) (x : Entry)
+pub row_more : (slots : Slots) (marks : List Bool) (row : List WatchEntry) (k : ℕ) (x : WatchEntry)
     → k < length row → slice_get row k ≡ Some x → IsUnmarked slots marks x.reference
     → AreUnmarked slots marks (take k row) → AreUnmarked slots marks (take (k + 1) row)
 row_more slots marks row k x lt got here before =

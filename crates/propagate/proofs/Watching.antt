@@ -11,7 +11,7 @@ use Rattle.cnf.specs.Literal.{Literal, negation, index_of}
 use Rattle.cnf.specs.Clause.{contains_literal}
 use Rattle.cnf.proofs.Laws.{all_append}
 use Rattle.clauses.specs.Slots.{Slots, clause_at}
-use Rattle.propagate_watches.specs.declared.pool.Entry.{Entry}
+use Rattle.propagate_watches.specs.declared.pool.WatchEntry.{WatchEntry}
 use Rattle.propagate_watches.specs.declared.table.Rest.{Rest}
 use Rattle.propagate_watches.specs.declared.table.Attachment.TheVariants.{Waiting, Satisfied}
 use Rattle.propagate_watches.specs.declared.table.Attachment.TheVariants.{Watching}
@@ -60,7 +60,8 @@ true_watch e slots c one fits m t =
     open_watch e c one m (false_from_ne_true (contains_literal (negation one) (literals_of e.trail))
     (λ f. no_opposites (clause_at slots) e.trail fits.reasons one t f))
 
-count_pushed : (R : List (List Entry)) (l : Literal) (w : Entry) (q k : ℕ) → index_of l < length R
+count_pushed : (R : List (List WatchEntry)) (l : Literal) (w : WatchEntry) (q k : ℕ)
+    → index_of l < length R
     → w.reference ≡ q → count_in q (row_at (pushed R l w) k) ≡ count_in q (row_at R k) + one_at
     (index_of l) k
 count_pushed R l w q k lt same = elim (cases_eq k (index_of l)) [
@@ -74,7 +75,7 @@ count_pushed R l w q k lt same = elim (cases_eq k (index_of l)) [
       ne) ∙ (let g = one-other (index_of l) k (λ h. ne (sym h)) in omega arith)
 ]
 
-count_pushed_other : (R : List (List Entry)) (l : Literal) (w : Entry) (q k : ℕ)
+count_pushed_other : (R : List (List WatchEntry)) (l : Literal) (w : WatchEntry) (q k : ℕ)
     → index_of l < length R → w.reference ≢ q
     → count_in q (row_at (pushed R l w) k) ≡ count_in q (row_at R k)
 count_pushed_other R l w q k lt other = elim (cases_eq k (index_of l)) [
@@ -86,7 +87,7 @@ count_pushed_other R l w q k lt other = elim (cases_eq k (index_of l)) [
       (get_or-set_other R (index_of l) k (row_at R (index_of l) ++ w ∷ []) [] ne)
 ]
 
-all_pushed : (P : Entry → Type 0) (R : List (List Entry)) (l : Literal) (w : Entry)
+all_pushed : (P : WatchEntry → Type 0) (R : List (List WatchEntry)) (l : Literal) (w : WatchEntry)
     → index_of l < length R → P w → ((k : ℕ) → AllByRecursion P (row_at R k)) → (k : ℕ)
     → AllByRecursion P (row_at (pushed R l w) k)
 all_pushed P R l w lt h all k = elim (cases_eq k (index_of l)) [
@@ -227,7 +228,7 @@ fits_satisfied e slots r c fits at live zero is_true =
     elsewhere kept (fits.blockers k))
 
 -- a pushed entry goes again
-pub unpushed : (R Ri : List (List Entry)) (i n : ℕ) (w : Entry) → i < length R
+pub unpushed : (R Ri : List (List WatchEntry)) (i n : ℕ) (w : WatchEntry) → i < length R
     → n ≡ length (row_at R i) → Ri ≡ with_row R i (row_at R i ++ w ∷ [])
     → with_row Ri i (take n (row_at Ri i)) ≡ R
 unpushed R Ri i n w lt len e =

@@ -7,7 +7,7 @@ use Rattle.cnf.specs.Clause.{contains_literal, greatest_variable}
 use Rattle.cnf.specs.Refute.{IsUnit, IsFalseUnder}
 use Rattle.clauses.specs.Slots.{Slots, clause_at, Renaming, renamed, IsRenaming}
 use Rattle.propagate_watches.specs.Pool.{row_at}
-use Rattle.propagate_watches.specs.declared.pool.Entry.{Entry}
+use Rattle.propagate_watches.specs.declared.pool.WatchEntry.{WatchEntry}
 use Rattle.propagate_watches.specs.declared.table.Attachment.{Attachment}
 use Rattle.propagate_watches.specs.declared.table.Attachment.TheVariants.{Detached, Waiting}
 use Rattle.propagate_watches.specs.declared.table.Attachment.TheVariants.{Satisfied}
@@ -62,7 +62,7 @@ abbrev pub FitsClause : EngineState → ℕ → List Literal → Type 0
 FitsClause e r c = IsWithin e.variables c × FitsAttachment e c (attachment_in e.watches.table r)
 
 -- the other literal in an entry is one of the clause
-abbrev pub HasBlocker : EngineState → Slots → Entry → Type 0
+abbrev pub HasBlocker : EngineState → Slots → WatchEntry → Type 0
 HasBlocker e slots w = (c : List Literal) × (is_attached e w.reference ≡ true)
     × (clause_at slots w.reference ≡ Some c) × (contains_literal w.blocker c ≡ true)
 

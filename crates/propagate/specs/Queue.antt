@@ -6,8 +6,9 @@ use Rattle.propagate_watches.specs.Table.{attachment_in, IsWatchedBy}
 use Rattle.propagate.specs.declared.engine.queue.Look.{Look}
 use Rattle.propagate.specs.declared.engine.queue.Look.TheVariants.{True, Watch, Unit as UnitLook}
 use Rattle.propagate.specs.declared.engine.queue.Look.TheVariants.{False}
-use Rattle.propagate.specs.declared.engine.queue.Step.{Step}
-use Rattle.propagate.specs.declared.engine.queue.Step.TheVariants.{Kept, Moved, Conflict, Refused}
+use Rattle.propagate.specs.declared.engine.queue.EntryFate.{EntryFate}
+use Rattle.propagate.specs.declared.engine.queue.EntryFate.TheVariants.{Kept, Moved, Conflict}
+use Rattle.propagate.specs.declared.engine.queue.EntryFate.TheVariants.{Refused}
 use Rattle.propagate.specs.Watches.{EngineState}
 use Rattle.propagate.specs.Steps.{IsTrueIn, MayBeWatched, IsUnitIn, IsFalseIn, InRow, IsConflict}
 
@@ -19,7 +20,7 @@ LookSays slots e w r (UnitLook l) = IsUnitIn slots e r l
 LookSays slots e w r False = IsFalseIn slots e r
 
 -- where a row is after a step
-abbrev pub StepSays : Slots → EngineState → Literal → ℕ → ℕ → Step → Type 0
+abbrev pub StepSays : Slots → EngineState → Literal → ℕ → ℕ → EntryFate → Type 0
 StepSays slots e w write read Kept = InRow slots e w (write + 1) (read + 1)
 StepSays slots e w write read Moved = InRow slots e w write (read + 1)
 StepSays slots e w write read (Conflict r) = InRow slots e w write read × IsConflict slots e r

@@ -8,7 +8,7 @@ use Rattle.cnf.specs.Literal.{Literal, negation, index_of}
 use Rattle.cnf.specs.Clause.{contains_literal}
 use Rattle.cnf.specs.Refute.{IsUnit, IsFalseUnder}
 use Rattle.clauses.specs.Slots.{Slots, clause_at}
-use Rattle.propagate_watches.specs.declared.pool.Entry.{Entry}
+use Rattle.propagate_watches.specs.declared.pool.WatchEntry.{WatchEntry}
 use Rattle.propagate_watches.specs.declared.table.Attachment.{Attachment}
 use Rattle.propagate_watches.specs.declared.table.Attachment.TheVariants.{Detached, Waiting}
 use Rattle.propagate_watches.specs.declared.table.Attachment.TheVariants.{Satisfied}
@@ -21,7 +21,7 @@ use Rattle.propagate_trail.specs.Trail.{Assigned, literals_of, is_decision, valu
 use Rattle.propagate.specs.Watches.{EngineState, SameAttached, IsVariable, is_attached}
 use Rattle.propagate.specs.Fits.{Fits, HasTrue, IsRest, IsWithin, IsFalseClause, IsComplete}
 
-abbrev pub with_rows : EngineState → List (List Entry) → EngineState
+abbrev pub with_rows : EngineState → List (List WatchEntry) → EngineState
 with_rows e rows = record e { watches = record e.watches { rows = rows } }
 
 abbrev pub with_trail : EngineState → List Assigned → EngineState
@@ -36,10 +36,10 @@ abbrev pub closed : EngineState → ℕ → ℕ → ℕ → EngineState
 closed e i write read = with_rows e (with_row e.watches.rows i
     (closed_row write read (row_at e.watches.rows i)))
 
-abbrev pub entry_of : ℕ → Literal → Entry
+abbrev pub entry_of : ℕ → Literal → WatchEntry
 entry_of r blocker = record { reference = r; blocker = blocker }
 
-abbrev pub pushed : List (List Entry) → Literal → Entry → List (List Entry)
+abbrev pub pushed : List (List WatchEntry) → Literal → WatchEntry → List (List WatchEntry)
 pushed rows l w = with_row rows (index_of l) (row_at rows (index_of l) ++ w ∷ [])
 
 -- the clause watches `l` in the place of `w`, beside `other`
@@ -105,7 +105,7 @@ IsMadeTrue old new l r = ((value_in old.trail l ≡ None) × (0 < l.variable)
     ⊎ ((value_in old.trail l ≢ None) × (new ≡ old))
 
 -- the clause of the entry is true
-abbrev pub IsTrueEntry : Slots → List Literal → Entry → Type 0
+abbrev pub IsTrueEntry : Slots → List Literal → WatchEntry → Type 0
 IsTrueEntry slots A w = (c : List Literal) → clause_at slots w.reference ≡ Some c → HasTrue c A
 
 -- a clause that is attached and false
@@ -126,7 +126,8 @@ pub record Settles (slots : Slots) (e : EngineState) (found : Option ℕ) : Type
   pub complete : IfNone found (IsComplete slots (is_attached e) e.trail)
 
 -- what is known of the clause of an entry in the row of a false literal
-pub record IsWatched (slots : Slots) (e : EngineState) (w : Literal) (entry : Entry) : Type 0 where
+pub record IsWatched (slots : Slots) (e : EngineState) (w : Literal)
+    (entry : WatchEntry) : Type 0 where
   pub clause : List Literal
   pub live : clause_at slots entry.reference ≡ Some clause
   pub within : IsWithin e.variables clause

@@ -5,7 +5,7 @@ use Rattle.cnf.specs.Literal.{Literal}
 use Rattle.cnf.specs.Clause.{is_subset}
 use Rattle.cnf.specs.Marks.{are_marked}
 use Rattle.clauses.specs.Slots.{Slots, clause_at}
-use Rattle.propagate_watches.specs.declared.pool.Entry.{Entry}
+use Rattle.propagate_watches.specs.declared.pool.WatchEntry.{WatchEntry}
 use Rattle.propagate.specs.Watches.{EngineState, is_attached}
 
 -- a live clause of the store has no literals but those of c
@@ -29,5 +29,5 @@ IsUnmarked slots marks r = (c : List Literal) → clause_at slots r ≡ Some c
     → are_marked marks c ≡ false
 
 -- nor of the clause of any of the entries
-abbrev pub AreUnmarked : Slots → List Bool → List Entry → Type 0
+abbrev pub AreUnmarked : Slots → List Bool → List WatchEntry → Type 0
 AreUnmarked slots marks row = AllByRecursion (λ w. IsUnmarked slots marks w.reference) row

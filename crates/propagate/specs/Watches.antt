@@ -2,7 +2,7 @@
 use Rattle.std.specs.Prelude.{◌≡◌, ℕ, ◌*◌, ◌+◌, ◌≤◌, Bool, false, List, [], length}
 use Rattle.std.specs.Prelude.{◌==◌, if◌then◌else◌, count_by}
 use Rattle.cnf.specs.Literal.{Literal, index_of}
-use Rattle.propagate_watches.specs.declared.pool.Entry.{Entry}
+use Rattle.propagate_watches.specs.declared.pool.WatchEntry.{WatchEntry}
 use Rattle.propagate_watches.specs.declared.table.Attachment.{Attachment}
 use Rattle.propagate_watches.specs.declared.table.Attachment.TheVariants.{Detached, Waiting}
 use Rattle.propagate_watches.specs.declared.table.Attachment.TheVariants.{Satisfied}
@@ -15,7 +15,7 @@ pub record Watches : Type 0 where
   -- for each reference, whether it is attached, and its two watches
   pub table : List Attachment
   -- for each literal, the clauses that watch it
-  pub rows : List (List Entry)
+  pub rows : List (List WatchEntry)
   -- the clauses without watches that are to be looked at, and others
   pub waiting : List ℕ
   -- how much of the trail was looked at, at its levels' ends too
@@ -29,7 +29,8 @@ pub record EngineState : Type 0 where
   pub failed : Bool
   pub watches : Watches
 
-abbrev pub engine_state : TrailState → List Attachment → List (List Entry) → List ℕ → ℕ → ℕ → Bool
+abbrev pub engine_state : TrailState → List Attachment → List (List WatchEntry) → List ℕ → ℕ → ℕ
+    → Bool
     → EngineState
 engine_state trail table rows waiting stable_qhead qhead failed = record {
   variables = trail.variables;
@@ -66,7 +67,7 @@ abbrev pub IsBare : ℕ → EngineState → Type 0
 IsBare variables e = (e.variables ≡ variables) × (e.trail ≡ []) × (e.failed ≡ false)
 
 -- how often the row has the clause
-abbrev pub count_in : ℕ → List Entry → ℕ
+abbrev pub count_in : ℕ → List WatchEntry → ℕ
 count_in r row = count_by (λ w. w.reference == r) row
 
 abbrev pub one_at : ℕ → ℕ → ℕ

@@ -7,5 +7,4 @@
 pub use propagate_watches::{pool, table};
 
 pub mod engine;
-mod moved;
 mod not_false;

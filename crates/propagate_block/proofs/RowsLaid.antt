@@ -11,7 +11,7 @@ use Rattle.std.proofs.Math.ListN.{get_or-append}
 use Rattle.std.proofs.Math.Seq.{get_or-append_seam}
 use Rattle.propagate_block.specs.Rows.{Roomed, room_at}
 use Rattle.propagate_block.specs.RowLayout.{IsLaid, no_head, row_of, rows_of, rooms_of, roomed}
-use Rattle.propagate_block.specs.declared.rows.Head.{Head}
+use Rattle.propagate_block.specs.declared.rows.RowHead.{RowHead}
 
 -- two lists of one length that agree at each place
 ext_any : {A : Type 0} (xs ys : List A) → length xs ≡ length ys
@@ -64,7 +64,7 @@ range_set_inside b i e s n h li =
     ])
 
 -- a write to a place of a row is seen in that row alone
-pub rows_set : {A : Type 0} (b : List A) (rows : List Head) (used : ℕ) → IsLaid b rows used
+pub rows_set : {A : Type 0} (b : List A) (rows : List RowHead) (used : ℕ) → IsLaid b rows used
     → (i k : ℕ) (e : A) → i < length rows → k < (get_or rows i no_head).length
     → rows_of (slice_set b ((get_or rows i no_head).start + k) e) rows ≡ slice_set (rows_of b rows)
     i (slice_set (get_or (rows_of b rows) i []) k e)
@@ -101,28 +101,29 @@ rows_set {A = A} b rows used laid i k e li lk =
     ])
 
 -- a place in the room of a row stands in the block
-room_fits : {A : Type 0} (b : List A) (rows : List Head) (used : ℕ) → IsLaid b rows used → (i : ℕ)
-    → i < length rows → (r : Head) → r ≡ get_or rows i no_head → (k : ℕ) → k < r.room
+room_fits : {A : Type 0} (b : List A) (rows : List RowHead) (used : ℕ) → IsLaid b rows used →
+    (i : ℕ)
+    → i < length rows → (r : RowHead) → r ≡ get_or rows i no_head → (k : ℕ) → k < r.room
     → (r.start + k < length b) × (r.start + k < 2 ^ 63)
 room_fits b rows used laid i li r is k lt =
-    let start = ap (λ (h : Head). h.start) is in
-    let room = ap (λ (h : Head). h.room) is in (
+    let start = ap (λ (h : RowHead). h.start) is in
+    let room = ap (λ (h : RowHead). h.room) is in (
       omega (arith, laid.inside i li, laid.used_fits, start, room, lt),
       omega (arith, laid.inside i li, laid.small, start, room, lt),
     )
 
 -- `seen` is what the rows are to callers
-module _ {A : Type 0} (b : List A) (rows : List Head) (seen : List (List A))
+module _ {A : Type 0} (b : List A) (rows : List RowHead) (seen : List (List A))
     (same : rows_of b rows ≡ seen) (i : ℕ) (lt : i < length seen) where
   -- a row has its head
   pub row_there : i < length rows
   row_there = omega (arith, length-map rows (row_of b), ap length same)
 
   -- the head of a row, as an index reads it
-  pub head_read : (r : Head) → r ≡ get_or rows i r → r ≡ get_or rows i no_head
+  pub head_read : (r : RowHead) → r ≡ get_or rows i r → r ≡ get_or rows i no_head
   head_read r read = get_or_read rows i r row_there read no_head
 
-module _ {A : Type 0} (b : List A) (rows : List Head) (used : ℕ) (laid : IsLaid b rows used)
+module _ {A : Type 0} (b : List A) (rows : List RowHead) (used : ℕ) (laid : IsLaid b rows used)
     (seen : List (List A)) (same : rows_of b rows ≡ seen) (i : ℕ) (lt : i < length seen) where
   -- the length of a row
   pub long_row : length (get_or seen i []) ≡ (get_or rows i no_head).length
@@ -134,7 +135,7 @@ module _ {A : Type 0} (b : List A) (rows : List Head) (used : ℕ) (laid : IsLai
       ∙ ap length (get_or-map (row_of b) rows i no_head [] li)
       ∙ long_range b (get_or rows i no_head).start (get_or rows i no_head).length fits
 
-  module _ (r : Head) (read : r ≡ get_or rows i r) where
+  module _ (r : RowHead) (read : r ≡ get_or rows i r) where
     -- the place of an entry of a row stands in the block
     pub entry_fits : (k : ℕ) → k < length (get_or seen i [])
         → (r.start + k < length b) × (r.start + k < 2 ^ 63)
@@ -142,7 +143,7 @@ module _ {A : Type 0} (b : List A) (rows : List Head) (used : ℕ) (laid : IsLai
         let li : i < length rows = row_there b rows seen same i lt in
         let is : r ≡ get_or rows i no_head = head_read b rows seen same i lt r read in
         room_fits b rows used laid i li r is k
-        (omega (arith, laid.filled i li, long_row, ap (λ (h : Head). h.room) is, lk))
+        (omega (arith, laid.filled i li, long_row, ap (λ (h : RowHead). h.room) is, lk))
 
     -- so does the place behind its last one, where there is room left
     pub next_fits : r.length ≢ r.room
@@ -153,8 +154,8 @@ module _ {A : Type 0} (b : List A) (rows : List Head) (used : ℕ) (laid : IsLai
         let filled : r.length ≤ r.room = rw is (laid.filled i li) in
         room_fits b rows used laid i li r is r.length (omega arith)
 
-pub rows_truncate : {A : Type 0} (b : List A) (rows : List Head) (used : ℕ) → IsLaid b rows used
-    → (i n : ℕ) (r : Head) → i < length rows → r.start ≡ (get_or rows i no_head).start
+pub rows_truncate : {A : Type 0} (b : List A) (rows : List RowHead) (used : ℕ) → IsLaid b rows used
+    → (i n : ℕ) (r : RowHead) → i < length rows → r.start ≡ (get_or rows i no_head).start
     → r.length ≡ n → n ≤ (get_or rows i no_head).length
     → rows_of b (slice_set rows i r) ≡ slice_set (rows_of b rows) i
     (take n (get_or (rows_of b rows) i []))
@@ -172,7 +173,7 @@ rows_truncate {A = A} b rows used laid i n r li same_start same_length le =
         rw (e, f) (sym (take-take n m (drop s b) le))
 
 -- what is written past the end of a row, in its room, is seen in no row
-pub rows_free : {A : Type 0} (b : List A) (rows : List Head) (used : ℕ) → IsLaid b rows used
+pub rows_free : {A : Type 0} (b : List A) (rows : List RowHead) (used : ℕ) → IsLaid b rows used
     → (i p : ℕ) (e : A) → i < length rows
     → (get_or rows i no_head).start + (get_or rows i no_head).length ≤ p
     → p < (get_or rows i no_head).start + (get_or rows i no_head).room
@@ -219,8 +220,8 @@ range_more {A = A} b s n e lt =
           ∙ sym (get_or-append (slice_range b s (s + n)) (e ∷ []) e k (omega arith))
     ])
 
-pub rows_put : {A : Type 0} (b : List A) (rows : List Head) (used : ℕ) → IsLaid b rows used
-    → (i : ℕ) (e : A) (r : Head) → i < length rows
+pub rows_put : {A : Type 0} (b : List A) (rows : List RowHead) (used : ℕ) → IsLaid b rows used
+    → (i : ℕ) (e : A) (r : RowHead) → i < length rows
     → (get_or rows i no_head).length < (get_or rows i no_head).room
     → r.start ≡ (get_or rows i no_head).start → r.length ≡ (get_or rows i no_head).length + 1
     → rows_of (slice_set b ((get_or rows i no_head).start + (get_or rows i no_head).length) e)
@@ -237,7 +238,7 @@ rows_put {A = A} b rows used laid i e r li room same_start longer =
     ∙ rw (rows_free b rows used laid i p e li (omega arith) (omega arith), row) refl
 
 -- a block that agrees on the part in use has the same rows
-pub rows_same : {A : Type 0} (b b' : List A) (rows : List Head) (used : ℕ) → IsLaid b rows used
+pub rows_same : {A : Type 0} (b b' : List A) (rows : List RowHead) (used : ℕ) → IsLaid b rows used
     → used ≤ length b' → ((k : ℕ) (d : A) → k < used → get_or b' k d ≡ get_or b k d)
     → rows_of b' rows ≡ rows_of b rows
 rows_same b b' rows used laid room same =
@@ -255,8 +256,8 @@ rows_same b b' rows used laid room same =
     at_range b' s n k d lk ∙ same (s + k) d (omega arith) ∙ sym (at_range b s n k d lk))
     ∙ sym (get_or-map (row_of b) rows j no_head [] lj))
 
-module _ {A : Type 0} (b b' : List A) (rows : List Head) (used : ℕ) (laid : IsLaid b rows used)
-    (i room : ℕ) (r : Head) (li : i < length rows)
+module _ {A : Type 0} (b b' : List A) (rows : List RowHead) (used : ℕ) (laid : IsLaid b rows used)
+    (i room : ℕ) (r : RowHead) (li : i < length rows)
     (at : r.start ≡ used) (same_length : r.length ≡ (get_or rows i no_head).length)
     (same_room : r.room ≡ room) (enough : (get_or rows i no_head).length ≤ room)
     (fits : used + room ≤ length b') (bounded : used + room < 2 ^ 63) where
@@ -346,11 +347,11 @@ rows_none b zero = refl
 rows_none b (suc n) = ap (λ r. [] ∷ r) (rows_none b n)
 
 -- what callers see of rows that are laid
-pub seen_rows : {A : Type 0} (b : List A) (heads : List Head) (seen : Roomed A)
+pub seen_rows : {A : Type 0} (b : List A) (heads : List RowHead) (seen : Roomed A)
     → roomed b heads ≡ seen → rows_of b heads ≡ seen.rows
 seen_rows {A = A} b heads seen e = ap (λ (s : Roomed A). s.rows) e
 
-pub seen_rooms : {A : Type 0} (b : List A) (heads : List Head) (seen : Roomed A)
+pub seen_rooms : {A : Type 0} (b : List A) (heads : List RowHead) (seen : Roomed A)
     → roomed b heads ≡ seen → rooms_of heads ≡ seen.rooms
 seen_rooms {A = A} b heads seen e = ap (λ (s : Roomed A). s.rooms) e
 
@@ -360,16 +361,16 @@ pub roomed_as : {A : Type 0} (rows rows' : List (List A)) (rooms rooms' : List �
 roomed_as rows rows' rooms rooms' p q = λ i. record { rows = p i; rooms = q i }
 
 -- the room of a row
-pub room_is : (heads : List Head) (i : ℕ) → i < length heads
+pub room_is : (heads : List RowHead) (i : ℕ) → i < length heads
     → room_at (rooms_of heads) i ≡ (get_or heads i no_head).room
-room_is heads i li = get_or-map (λ (h : Head). h.room) heads i no_head 0 li
+room_is heads i li = get_or-map (λ (h : RowHead). h.room) heads i no_head 0 li
 
-pub rooms_set : (heads : List Head) (i : ℕ) (h : Head)
+pub rooms_set : (heads : List RowHead) (i : ℕ) (h : RowHead)
     → rooms_of (slice_set heads i h) ≡ slice_set (rooms_of heads) i h.room
-rooms_set heads i h = map-set (λ (x : Head). x.room) heads i h
+rooms_set heads i h = map-set (λ (x : RowHead). x.room) heads i h
 
 -- a row whose room stays
-pub rooms_same : (heads : List Head) (i : ℕ) (h : Head) → i < length heads
+pub rooms_same : (heads : List RowHead) (i : ℕ) (h : RowHead) → i < length heads
     → h.room ≡ (get_or heads i no_head).room → rooms_of (slice_set heads i h) ≡ rooms_of heads
 rooms_same heads i h li e =
     rooms_set heads i h ∙ ap (slice_set (rooms_of heads) i) (e ∙ sym (room_is heads i li))

@@ -14,7 +14,7 @@ use std::marker::Model;
 /// Where a row lies in the block. It takes sixteen bytes, so that none lies across the lines of a
 /// cache.
 #[derive(Clone, Copy, Drop)]
-pub(crate) struct Head {
+pub(crate) struct RowHead {
     // The place of its first entry in the block.
     start: usize,
     // The number of its entries, at most `room`.
@@ -23,9 +23,9 @@ pub(crate) struct Head {
     room: u32,
 }
 
-const _: () = prove!(size_of::<Head>() == 16);
+const _: () = prove!(size_of::<RowHead>() == 16);
 
-const NO_ROW: Head = Head {
+const NO_ROW: RowHead = RowHead {
     start: 0,
     length: 0,
     room: 0,
@@ -41,7 +41,7 @@ pub struct BlockRows<T> {
     // The rows, and the places between them that none has.
     block: Block<T>,
     // For each row, where it lies in the block.
-    heads: Vec<Head>,
+    heads: Vec<RowHead>,
     // The number of places at the block's front in which all rows lie; at most the block's length,
     // and below 2^63.
     used: usize,
@@ -201,7 +201,7 @@ impl<T: Copy> BlockRows<T> {
         ensures full { ¬ IsTrue result → IsFull self.old row }
         ensures same { ¬ IsTrue result → self.new ≡ self.old }
     {
-        let Head {
+        let RowHead {
             start,
             length,
             room,
@@ -267,7 +267,7 @@ impl<T: Copy> BlockRows<T> {
         } }
         ensures same { ¬ IsTrue result → self.new ≡ self.old }
     {
-        let Head {
+        let RowHead {
             start,
             length,
             room: _,
@@ -277,7 +277,7 @@ impl<T: Copy> BlockRows<T> {
             return false;
         }
         self.block.copy_within(start, to, length as usize);
-        self.heads[row] = Head {
+        self.heads[row] = RowHead {
             start: to,
             length,
             room,
@@ -288,7 +288,7 @@ impl<T: Copy> BlockRows<T> {
 
     /// Moves all rows, each to the same places, to a block of `count` places.
     fn grow(&mut self, count: usize, fill: &T) -> Result<(), AllocError>
-        ensures { self.new ≡ self.old }
+        ensures unchanged { self.new ≡ self.old }
     {
         if count < self.used {
             return Err(AllocError);

@@ -7,7 +7,7 @@ use Rattle.std.proofs.lemmas.List.{length-map}
 use Rattle.std.proofs.Math.ListN.{get_or-map}
 use Rattle.cnf.specs.Literal.{Literal}
 use Rattle.clauses.specs.Slots.{Renaming, renamed}
-use Rattle.propagate_watches.proofs.Laws.{named_listed}
+use Rattle.clauses.proofs.Laws.{named_listed}
 use Rattle.propagate_trail.specs.Trail.{Assigned, literals_of, depth_of, value_in, level_in}
 use Rattle.propagate_trail.specs.Trail.{level_from, level_after, kept_from, kept_to, is_decision}
 use Rattle.propagate_trail.specs.Tables.{assigned_by, reason_at, IsTrail}

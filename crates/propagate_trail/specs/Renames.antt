@@ -2,7 +2,7 @@
 use Rattle.std.specs.Prelude.{ℕ, List, map, Option, Some, None}
 use Rattle.std.specs.Option.{option_map}
 use Rattle.clauses.specs.Slots.{Renaming, renamed}
-use Rattle.propagate_watches.specs.Renames.{named}
+use Rattle.clauses.specs.Moved.{named}
 use Rattle.propagate_trail.specs.Trail.{Assigned}
 
 abbrev pub named_reason : Renaming → Option ℕ → Option ℕ

@@ -4,9 +4,9 @@ ghost use Rattle.std.specs.Prelude.{slice_set, slice_index, slice_index_or, IfOk
 ghost use Rattle.propagate_trail.specs.Renames.{named_reason};
 ghost use Rattle.propagate_trail.specs.Vardata.{named_var_data};
 
+use clauses::moved::new_reference;
 use clauses::store::{CRef, MaybeCRef, Moves};
 use clauses::words::MaybeWord;
-use propagate_watches::moved::new_reference;
 use std::alloc::{AllocError, Global};
 use std::marker::Model;
 

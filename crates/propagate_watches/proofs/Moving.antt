@@ -11,11 +11,8 @@ use Rattle.clauses.proofs.Laws.{renamed_place, new_rise}
 use Rattle.propagate_watches.specs.declared.table.Attachment.{Attachment}
 use Rattle.propagate_watches.specs.declared.table.Attachment.TheVariants.{Detached}
 use Rattle.propagate_watches.specs.Table.{attachment_in, is_kept}
-use Rattle.propagate_watches.specs.Renames.{name_or, named, IsMoved, IsMoving}
+use Rattle.propagate_watches.specs.Renames.{IsMoved, IsMoving}
 use Rattle.propagate_watches.proofs.Attachments.{attachment_set_other, attachment_set_same}
-
-pub named_listed : (ms : Renaming) (r q : ℕ) → renamed ms r ≡ Some q → named ms r ≡ q
-named_listed ms r q e = ap (λ o. name_or o r) e
 
 pub moved_to : (old new : List Attachment) (ms : Renaming) (r q : ℕ) → IsMoved old new ms
     → renamed ms r ≡ Some q → attachment_in new q ≡ attachment_in old r

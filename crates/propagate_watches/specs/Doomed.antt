@@ -1,7 +1,7 @@
 -- Clauses that are to be detached, marked by reference.
 use Rattle.std.specs.Prelude.{◌≡◌, ℕ, ◌<◌, ◌≤◌, Bool, true, false, not, List, length, filter, map}
 use Rattle.std.specs.Prelude.{slice_index_or}
-use Rattle.propagate_watches.specs.declared.pool.Entry.{Entry}
+use Rattle.propagate_watches.specs.declared.pool.WatchEntry.{WatchEntry}
 use Rattle.propagate_watches.specs.declared.table.Attachment.{Attachment}
 use Rattle.propagate_watches.specs.declared.table.Attachment.TheVariants.{Detached}
 use Rattle.propagate_watches.specs.Table.{attachment_in}
@@ -10,10 +10,10 @@ use Rattle.propagate_watches.specs.Table.{attachment_in}
 abbrev pub is_doomed : List Bool → ℕ → Bool
 is_doomed doomed r = slice_index_or doomed r false
 
-abbrev pub spared_entries : List Bool → List Entry → List Entry
+abbrev pub spared_entries : List Bool → List WatchEntry → List WatchEntry
 spared_entries doomed row = filter (λ w. not (is_doomed doomed w.reference)) row
 
-abbrev pub spared_rows : List Bool → List (List Entry) → List (List Entry)
+abbrev pub spared_rows : List Bool → List (List WatchEntry) → List (List WatchEntry)
 spared_rows doomed rows = map (spared_entries doomed) rows
 
 -- what is doomed has no place, and the rest has the place that it had

@@ -1,23 +1,15 @@
 -- Clauses under new references.
-use Rattle.std.specs.Prelude.{◌≡◌, ℕ, ◌<◌, ◌≤◌, true, List, length, map, Option}
-use Rattle.std.specs.Prelude.{Some, None}
-use Rattle.clauses.specs.Slots.{Renaming, renamed, old_at, new_at}
-use Rattle.propagate_watches.specs.declared.pool.Entry.{Entry}
+use Rattle.std.specs.Prelude.{◌≡◌, ℕ, ◌<◌, ◌≤◌, true, List, length, map}
+use Rattle.clauses.specs.Slots.{Renaming, old_at, new_at}
+use Rattle.clauses.specs.Moved.{named}
+use Rattle.propagate_watches.specs.declared.pool.WatchEntry.{WatchEntry}
 use Rattle.propagate_watches.specs.declared.table.Attachment.{Attachment}
 use Rattle.propagate_watches.specs.Table.{attachment_in, is_kept}
 
-abbrev pub name_or : Option ℕ → ℕ → ℕ
-name_or None r = r
-name_or (Some q) r = q
-
--- the new reference; one that was not kept stays as it is
-abbrev pub named : Renaming → ℕ → ℕ
-named moves r = name_or (renamed moves r) r
-
-abbrev pub named_entry : Renaming → Entry → Entry
+abbrev pub named_entry : Renaming → WatchEntry → WatchEntry
 named_entry moves w = record { reference = named moves w.reference; blocker = w.blocker }
 
-abbrev pub named_rows : Renaming → List (List Entry) → List (List Entry)
+abbrev pub named_rows : Renaming → List (List WatchEntry) → List (List WatchEntry)
 named_rows moves rows = map (map (named_entry moves)) rows
 
 -- each place went to the new reference, and nothing else is left

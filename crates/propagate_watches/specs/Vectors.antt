@@ -2,7 +2,7 @@
 use Rattle.std.specs.Prelude.{◌≡◌, ℕ, true, false, List, [], ◌∷◌, refl}
 use Rattle.cnf.specs.Literal.{positive as p}
 use Rattle.clauses.specs.Slots.{Renaming, old_at, new_at}
-use Rattle.propagate_watches.specs.declared.pool.Entry.{Entry}
+use Rattle.propagate_watches.specs.declared.pool.WatchEntry.{WatchEntry}
 use Rattle.propagate_watches.specs.declared.table.Attachment.{Attachment}
 use Rattle.propagate_watches.specs.declared.table.Attachment.TheVariants.{Detached, Waiting}
 use Rattle.propagate_watches.specs.declared.table.Attachment.TheVariants.{Watching}
@@ -10,12 +10,12 @@ use Rattle.propagate_watches.specs.declared.table.Rest.TheVariants.{One}
 use Rattle.propagate_watches.specs.Pool.{row_at, with_row, closed_row}
 use Rattle.propagate_watches.specs.Table.{attachment_in, is_kept, rest_in, rest_after, grown_table}
 use Rattle.propagate_watches.specs.Doomed.{is_doomed, spared_rows}
-use Rattle.propagate_watches.specs.Renames.{named, named_rows}
+use Rattle.propagate_watches.specs.Renames.{named_rows}
 
-entry : ℕ → Entry
+entry : ℕ → WatchEntry
 entry r = record { reference = r; blocker = p 1 }
 
-rows : List (List Entry)
+rows : List (List WatchEntry)
 rows = [] ∷ (entry 0 ∷ entry 1 ∷ entry 2 ∷ []) ∷ []
 
 row : row_at rows 1 ≡ entry 0 ∷ entry 1 ∷ entry 2 ∷ []
@@ -76,14 +76,6 @@ spared = refl
 -- the clause 1 is gone, and 2 takes its place
 moves : Renaming
 moves = (0, 0) ∷ (2, 1) ∷ []
-
-moved : named moves 2 ≡ 1
-unfolding moves
-moved = refl
-
-unlisted : named moves 5 ≡ 5
-unfolding moves
-unlisted = refl
 
 old : old_at moves 1 ≡ 2
 unfolding moves

@@ -1,27 +1,18 @@
 // The new references of clauses, in entries and in the table.
 ghost use Rattle.std.specs.Prelude.{◌≡◌, ◌≤◌, All, map};
 ghost use Rattle.std.specs.List.Sorted.{IsStrictlyIncreasing};
-ghost use Rattle.propagate_watches.specs.Renames.{named, named_entry, IsMoved};
+ghost use Rattle.propagate_watches.specs.Renames.{named_entry, IsMoved};
 
-use crate::pool::Entry;
+use crate::pool::WatchEntry;
 use crate::table::{Attachment, Table};
+use clauses::moved::new_reference;
 use clauses::store::{CRef, Moves};
 
-/// The new reference of a clause; one that was not kept stays as it is.
-pub fn new_reference(moves: &Moves, reference: CRef) -> CRef
-    ensures { result ≡ named moves.now reference }
-{
-    match moves.to(reference) {
-        Some(new) => new,
-        None => reference,
-    }
-}
-
 /// The entry under the new reference of its clause.
-pub(crate) fn new_entry(moves: &Moves, entry: Entry) -> Entry
+pub(crate) fn new_entry(moves: &Moves, entry: WatchEntry) -> WatchEntry
     ensures { result ≡ named_entry moves.now entry }
 {
-    Entry {
+    WatchEntry {
         reference: new_reference(moves, entry.reference),
         blocker: entry.blocker,
     }

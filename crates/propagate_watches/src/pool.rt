@@ -21,7 +21,7 @@ use std::marker::Model;
 
 /// A clause that watches a literal, and another literal of it.
 #[derive(Clone, Copy, Debug, PartialEq, Eq, Drop)]
-pub struct Entry {
+pub struct WatchEntry {
     /// The clause.
     pub reference: CRef,
     /// Where this literal is true the clause need not be looked at. It may also be the other one
@@ -34,14 +34,14 @@ pub struct Entry {
 #[derive(Drop)]
 pub struct WatchPool {
     // The entries, by row.
-    rows: BlockRows<Entry>,
+    rows: BlockRows<WatchEntry>,
 }
 
 impl Model for WatchPool {
     ghost use Rattle.std.specs.Prelude.{List};
-    ghost use Rattle.propagate_watches.specs.declared.pool.Entry.{Entry};
+    ghost use Rattle.propagate_watches.specs.declared.pool.WatchEntry.{WatchEntry};
 
-    ghost Value = { List (List Entry) };
+    ghost Value = { List (List WatchEntry) };
 
     ghost view = { λ p. p.rows.rows };
 }
@@ -76,7 +76,7 @@ impl WatchPool {
     }
 
     /// The entry at place `i` of a row.
-    pub fn get(&self, row: usize, i: usize) -> Entry
+    pub fn get(&self, row: usize, i: usize) -> WatchEntry
         requires row { row < length self.now }
         requires place { i < length (row_at self.now row) }
         ensures { slice_get (row_at self.now row) i ≡ Some result }
@@ -91,7 +91,7 @@ impl WatchPool {
     /// `AllocError` where a growth was refused; for a row of 2^32 - 1 entries it always is. All
     /// rows are then as they were.
     #[inline]
-    pub fn push(&mut self, row: usize, entry: Entry) -> Result<(), AllocError>
+    pub fn push(&mut self, row: usize, entry: WatchEntry) -> Result<(), AllocError>
         requires { row < length self.old }
         ensures ok { OnOk result (self.new ≡ with_row self.old row
             (row_at self.old row ++ entry ∷ [])) }
@@ -101,7 +101,7 @@ impl WatchPool {
     }
 
     /// Writes an entry at place `i` of a row.
-    pub fn set(&mut self, row: usize, i: usize, entry: Entry)
+    pub fn set(&mut self, row: usize, i: usize, entry: WatchEntry)
         requires row { row < length self.old }
         requires place { i < length (row_at self.old row) }
         ensures { self.new ≡ with_row self.old row (slice_set (row_at self.old row) i entry) }
@@ -203,8 +203,8 @@ impl WatchPool {
     /// # Errors
     ///
     /// `AllocError` where a growth was refused.
-    pub fn make_rooms(&mut self, rooms: &[u32], fill: &Entry) -> Result<(), AllocError>
-        ensures { self.new ≡ self.old }
+    pub fn make_rooms(&mut self, rooms: &[u32], fill: &WatchEntry) -> Result<(), AllocError>
+        ensures unchanged { self.new ≡ self.old }
     {
         self.rows.make_rooms(rooms, fill)
     }

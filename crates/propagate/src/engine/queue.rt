@@ -34,7 +34,7 @@ use super::Engine;
 use crate::not_false::find_other_not_false;
 use clauses::store::{CRef, Store};
 use cnf::types::Lit;
-use propagate_watches::pool::Entry;
+use propagate_watches::pool::WatchEntry;
 use propagate_watches::table::Rest;
 use std::alloc::AllocError;
 
@@ -53,7 +53,7 @@ pub(crate) enum Look {
 
 /// What became of an entry.
 #[derive(Clone, Copy, Drop)]
-pub(crate) enum Step {
+pub(crate) enum EntryFate {
     /// It stays in its row.
     Kept,
     /// It went to another row.
@@ -129,16 +129,16 @@ impl Engine {
         let mut read = write;
         while read < len {
             match self.step(store, falsified, write, read) {
-                Step::Kept => {
+                EntryFate::Kept => {
                     read += 1;
                     write += 1;
                 }
-                Step::Moved => read += 1,
-                Step::Conflict(reference) => {
+                EntryFate::Moved => read += 1,
+                EntryFate::Conflict(reference) => {
                     self.close_row(falsified, write, read);
                     return Ok(Some(reference));
                 }
-                Step::Refused => {
+                EntryFate::Refused => {
                     self.close_row(falsified, write, read);
                     return Err(AllocError);
                 }
@@ -188,7 +188,7 @@ impl Engine {
 
     /// The entry at place `read` of a row that is being filtered. Only the contract reads `store`
     /// and `write`.
-    fn entry_at(&self, store: &Store, falsified: Lit, write: usize, read: usize) -> Entry
+    fn entry_at(&self, store: &Store, falsified: Lit, write: usize, read: usize) -> WatchEntry
         requires state { InRow store.now.slots self.now falsified write read }
         requires more { read < length (row_at self.now.watches.rows (index_of falsified)) }
         ensures at { result ≡ slice_index_or (row_at self.now.watches.rows (index_of falsified))
@@ -210,7 +210,7 @@ impl Engine {
     }
 
     /// Looks at the entry at place `read`, and keeps it at place `write` where it stays.
-    fn step(&mut self, store: &Store, falsified: Lit, write: usize, read: usize) -> Step
+    fn step(&mut self, store: &Store, falsified: Lit, write: usize, read: usize) -> EntryFate
         requires state { InRow store.now.slots self.old falsified write read }
         requires more { read < length (row_at self.old.watches.rows (index_of falsified)) }
         ensures continues { Continues self.old self.new }
@@ -223,24 +223,24 @@ impl Engine {
         let reference = entry.reference;
         match self.look_at(store, falsified, entry) {
             Look::True(blocker) => {
-                self.write_entry(falsified, write, Entry { reference, blocker });
-                Step::Kept
+                self.write_entry(falsified, write, WatchEntry { reference, blocker });
+                EntryFate::Kept
             }
             Look::Unit(blocker) => {
                 self.imply(blocker, reference);
-                self.write_entry(falsified, write, Entry { reference, blocker });
-                Step::Kept
+                self.write_entry(falsified, write, WatchEntry { reference, blocker });
+                EntryFate::Kept
             }
             Look::Watch(other, lit) => match self.rewatch(reference, falsified, other, lit) {
-                Ok(()) => Step::Moved,
-                Err(_) => Step::Refused,
+                Ok(()) => EntryFate::Moved,
+                Err(_) => EntryFate::Refused,
             },
-            Look::False => Step::Conflict(reference),
+            Look::False => EntryFate::Conflict(reference),
         }
     }
 
     /// Writes the entry at a place of a row.
-    fn write_entry(&mut self, lit: Lit, at: usize, entry: Entry)
+    fn write_entry(&mut self, lit: Lit, at: usize, entry: WatchEntry)
         requires in_range { lit.variable ≤ self.old.variables }
         requires within { at < length (row_at self.old.watches.rows (index_of lit)) }
         ensures { self.new ≡ with_rows self.old
@@ -251,7 +251,7 @@ impl Engine {
     }
 
     /// Finds out what a clause that watches a false literal asks for.
-    fn look_at(&self, store: &Store, falsified: Lit, entry: Entry) -> Look
+    fn look_at(&self, store: &Store, falsified: Lit, entry: WatchEntry) -> Look
         requires { IsWatched store.now.slots self.now falsified entry }
         ensures { LookSays store.now.slots self.now falsified entry.reference result }
     {
@@ -275,7 +275,7 @@ impl Engine {
         &self,
         store: &Store,
         falsified: Lit,
-        entry: Entry,
+        entry: WatchEntry,
         other: Lit,
         rest: Rest,
     ) -> Option<Lit>
@@ -315,7 +315,7 @@ impl Engine {
         ensures ok { OnOk result (self.new ≡ moved self.old falsified reference other lit) }
         ensures err { OnErr result (self.new ≡ self.old) }
     {
-        let entry = Entry {
+        let entry = WatchEntry {
             reference,
             blocker: other,
         };

@@ -5,7 +5,7 @@ ghost use Rattle.propagate.specs.Watches.{is_attached, SameFrame};
 ghost use Rattle.propagate.specs.Fits.{MovesAttached, renamed_trail, FitsMoved};
 
 use super::Engine;
-use crate::moved::rename_references;
+use clauses::moved::rename_references;
 use clauses::store::Moves;
 use propagate_watches::moved::move_attachments;
 

@@ -6,7 +6,7 @@ ghost use Rattle.std.specs.Prelude.{◌≡◌};
 use super::Engine;
 use clauses::store::Store;
 use cnf::types::Lit;
-use propagate_watches::pool::Entry;
+use propagate_watches::pool::WatchEntry;
 use std::alloc::AllocError;
 
 /// By literal, how many live clauses have it as one of their first two.
@@ -32,13 +32,14 @@ fn count_first(counts: &mut [u32], lits: &[Lit]) {
 impl Engine {
     /// Gives the rows room for the watches of the store's clauses.
     pub(super) fn make_rooms(&mut self, store: &Store) -> Result<(), AllocError>
-        ensures { self.new ≡ self.old }
+        ensures unchanged { self.new ≡ self.old }
     {
         let Some(reference) = (0..store.places()).find_map(|place| store.live_at(place)) else {
             return Ok(());
         };
         let counts = count_watches(store, self.pool.rows())?;
         let blocker = Lit::new(1, false);
-        self.pool.make_rooms(&counts, &Entry { reference, blocker })
+        self.pool
+            .make_rooms(&counts, &WatchEntry { reference, blocker })
     }
 }

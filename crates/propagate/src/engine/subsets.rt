@@ -22,7 +22,7 @@ use super::Engine;
 use clauses::store::{CRef, Store};
 use cnf::marks::Marks;
 use cnf::types::Lit;
-use propagate_watches::pool::Entry;
+use propagate_watches::pool::WatchEntry;
 use propagate_watches::table::Attachment;
 
 impl Engine {
@@ -64,7 +64,7 @@ impl Engine {
     }
 
     /// The entry at a place of a row.
-    fn entry(&self, lit: Lit, at: usize) -> Entry
+    fn entry(&self, lit: Lit, at: usize) -> WatchEntry
         requires in_range { lit.variable ≤ self.now.variables }
         requires within { at < length (row_at self.now.watches.rows (index_of lit)) }
         ensures { slice_get (row_at self.now.watches.rows (index_of lit)) at ≡ Some result }
@@ -73,7 +73,7 @@ impl Engine {
     }
 
     /// Whether the clause of the entry has no literals but those that are marked.
-    fn entry_is_marked(&self, store: &Store, entry: Entry, marks: &Marks) -> bool
+    fn entry_is_marked(&self, store: &Store, entry: WatchEntry, marks: &Marks) -> bool
         requires fits { Fits self.now store.now.slots }
         requires blocker { HasBlocker self.now store.now.slots entry }
         requires room { 2 * self.now.variables ≤ length marks.now }

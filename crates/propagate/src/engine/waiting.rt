@@ -20,7 +20,7 @@ use super::Engine;
 use crate::not_false::{find_not_false, find_other_not_false, find_other_of_level, gather_rest};
 use clauses::store::{CRef, Store};
 use cnf::types::Lit;
-use propagate_watches::pool::Entry;
+use propagate_watches::pool::WatchEntry;
 use propagate_watches::table::{Attachment, Table};
 use std::alloc::AllocError;
 
@@ -187,11 +187,11 @@ impl Engine {
             × (self.new ≡ watched self.old reference one other rest)) }
         ensures err { OnErr result (self.new ≡ self.old) }
     {
-        let first = Entry {
+        let first = WatchEntry {
             reference,
             blocker: other,
         };
-        let second = Entry {
+        let second = WatchEntry {
             reference,
             blocker: one,
         };

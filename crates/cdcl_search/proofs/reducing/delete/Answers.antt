@@ -81,7 +81,8 @@ returns-clause-deletes g c =
     record { kind = Delete; clause = c.new.result.items; hints = c.push.new.self.items } in
     let k = c.count_deleted.new.self in
     let more =
-    deleting_more s k p ls l doomed r live.0 d live.1 on refl hints c.count_deleted.ensures in
+    deleting_more s k p ls l doomed r live.0 d live.1 on refl hints
+    c.count_deleted.ensures.unchanged in
     let written : g.S.Sink.lines c.append.new.self ≡ ls ++ l ∷ [] =
     c.in_ok-append.ensures.ok ∙ ap (λ x. ls ++ x ∷ []) c.new-2.ensures in
     let store = c.delete.ensures in
@@ -102,7 +103,7 @@ returns-clause-deletes g c =
                 still.1)).1,
           );
       engine = refl;
-      policy = c.count_deleted.ensures;
+      policy = c.count_deleted.ensures.unchanged;
       writes =
           subst (λ x. Writes p.given ls x 0) (sym written)
           (writes_short p.given ls l refl (omega (arith, ap length c.new.ensures.items)));

@@ -74,6 +74,6 @@ returns-clause-runs c p ls r =
       refl,
       refl,
       refl,
-      c.rename.ensures,
+      c.rename.ensures.unchanged,
       refl,
     ) r

@@ -5,7 +5,8 @@ use Rattle.std.specs.Vec.{with_items}
 use Rattle.std.proofs.lemmas.List.{with_items_is}
 use Rattle.std.proofs.lemmas.List.Elements.{recursion_from_All}
 use Rattle.clauses.specs.Slots.{Renaming, renamed}
-use Rattle.propagate_watches.specs.Renames.{IsMoved, named}
+use Rattle.clauses.specs.Moved.{named}
+use Rattle.propagate_watches.specs.Renames.{IsMoved}
 use Rattle.propagate_trail.specs.Trail.{Assigned, TrailState}
 use Rattle.propagate.specs.Watches.{EngineState}
 use Rattle.propagate_trail.specs.Renames.{named_trail}

@@ -1,5 +1,5 @@
 use Rattle.std.proofs.Common.{ap, arith}
-use Rattle.propagate_block.specs.declared.rows.Head.{Head}
+use Rattle.propagate_block.specs.declared.rows.RowHead.{RowHead}
 use Rattle.propagate_block.proofs.RowsLaid.{head_read, long_row, row_there, seen_rows}
 use Rattle.propagate_block.proofs.rows.BlockRows.len.Goals as goal
 
@@ -19,7 +19,7 @@ returns g c =
     omega (
       arith,
       long_row i.block i.heads.items i.used c.self.invariant _ seen c.args.row c.requires,
-      ap (λ (r : Head). r.length)
+      ap (λ (r : RowHead). r.length)
           (head_read i.block i.heads.items _ seen c.args.row c.requires c.index.result.now
           c.index.ensures),
     )

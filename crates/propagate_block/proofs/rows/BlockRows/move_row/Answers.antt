@@ -1,7 +1,7 @@
 use Rattle.std.proofs.Common.{◌≡◌, ◌<◌, ◌∙◌, length, get_or, ap, arith, refl}
 use Rattle.std.specs.Prelude.{slice_set}
 use Rattle.propagate_block.specs.RowLayout.{no_head}
-use Rattle.propagate_block.specs.declared.rows.Head.{Head}
+use Rattle.propagate_block.specs.declared.rows.RowHead.{RowHead}
 use Rattle.propagate_block.proofs.RowsLaid.{head_read, laid_moved, roomed_as, rooms_set, row_there}
 use Rattle.propagate_block.proofs.RowsLaid.{rows_moved, seen_rooms, seen_rows}
 use Rattle.propagate_block.proofs.rows.BlockRows.move_row.Goals as goal
@@ -16,7 +16,7 @@ invariant_of-self g c =
     head_read i.block i.heads.items _ seen c.args.row c.requires c.index.result.now
     c.index.ensures in
     let long : c.index.result.now.length ≡ (get_or i.heads.items c.args.row no_head).length =
-    ap (λ (r : Head). r.length) is in
+    ap (λ (r : RowHead). r.length) is in
     laid_moved i.block c.copy_within.new.self i.heads.items i.used laid c.args.row c.args.room _ li
     refl long refl (omega arith) (omega (arith, laid.used_fits)) (omega (arith, laid.used_fits))
 
@@ -30,7 +30,7 @@ returns-clause-moved g c _ =
     head_read i.block i.heads.items _ seen c.args.row c.requires c.index.result.now
     c.index.ensures in
     let long : c.index.result.now.length ≡ (get_or i.heads.items c.args.row no_head).length =
-    ap (λ (r : Head). r.length) is in
+    ap (λ (r : RowHead). r.length) is in
     roomed_as _ _ _ _
     (rows_moved i.block c.copy_within.new.self i.heads.items i.used laid c.args.row c.args.room _ li
     refl long refl (omega arith) (omega (arith, laid.used_fits)) (omega (arith, laid.used_fits))

@@ -1,6 +1,6 @@
 use Rattle.std.proofs.Common.{◌≡◌, ◌<◌, ◌≤◌, ◌∙◌, length, get_or, ap, arith, refl}
 use Rattle.propagate_block.specs.RowLayout.{no_head}
-use Rattle.propagate_block.specs.declared.rows.Head.{Head}
+use Rattle.propagate_block.specs.declared.rows.RowHead.{RowHead}
 use Rattle.propagate_block.proofs.RowsLaid.{head_read, long_row, next_fits, room_is, roomed_as}
 use Rattle.propagate_block.proofs.RowsLaid.{rooms_same, row_there, rows_put, seen_rooms, seen_rows}
 use Rattle.propagate_block.proofs.rows.BlockRows.put.Goals as goal
@@ -22,13 +22,13 @@ returns-clause-added g c _ =
     rw (← is) (let f : c.index.result.now.length ≤ c.index.result.now.room = rw is
     (laid.filled c.args.row li) in omega arith) in
     let start : c.index.result.now.start ≡ (get_or i.heads.items c.args.row no_head).start =
-    ap (λ (r : Head). r.start) is in
+    ap (λ (r : RowHead). r.start) is in
     let long : c.index.result.now.length ≡ (get_or i.heads.items c.args.row no_head).length =
-    ap (λ (r : Head). r.length) is in
+    ap (λ (r : RowHead). r.length) is in
     roomed_as _ _ _ _ (rw (c.set.ensures, start, long, ← seen)
     (rows_put i.block i.heads.items i.used laid c.args.row c.args.entry.now _ li room
-    (ap (λ (r : Head). r.start) is') refl))
-    (rooms_same i.heads.items c.args.row _ li (ap (λ (r : Head). r.room) is')
+    (ap (λ (r : RowHead). r.start) is') refl))
+    (rooms_same i.heads.items c.args.row _ li (ap (λ (r : RowHead). r.room) is')
     ∙ seen_rooms i.block i.heads.items _ c.self.view_is)
 
 -- the row has as many entries as places
@@ -46,8 +46,8 @@ returns-then-length-room-clause-full g c _ =
       arith,
       long_row i.block i.heads.items i.used c.self.invariant _ seen c.args.row c.requires,
       room_is i.heads.items c.args.row li,
-      ap (λ (r : Head). r.length) is,
-      ap (λ (r : Head). r.room) is,
+      ap (λ (r : RowHead). r.length) is,
+      ap (λ (r : RowHead). r.room) is,
     )
     )
 

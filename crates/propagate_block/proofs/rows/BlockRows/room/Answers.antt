@@ -1,6 +1,6 @@
 use Rattle.std.proofs.Common.{◌<◌, ◌∙◌, length, sym, ap, arith}
 use Rattle.propagate_block.specs.Rows.{room_at}
-use Rattle.propagate_block.specs.declared.rows.Head.{Head}
+use Rattle.propagate_block.specs.declared.rows.RowHead.{RowHead}
 use Rattle.propagate_block.proofs.RowsLaid.{head_read, long_row, room_is, row_there, seen_rooms}
 use Rattle.propagate_block.proofs.RowsLaid.{seen_rows}
 use Rattle.propagate_block.proofs.rows.BlockRows.room.Goals as goal
@@ -20,7 +20,7 @@ returns-clause-room g c =
     let seen = seen_rows i.block i.heads.items _ c.self.view_is in
     let li : c.args.row < length i.heads.items =
     row_there i.block i.heads.items _ seen c.args.row c.requires in
-    ap (λ (r : Head). r.room) (head_read i.block i.heads.items _ seen c.args.row c.requires
+    ap (λ (r : RowHead). r.room) (head_read i.block i.heads.items _ seen c.args.row c.requires
     c.index.result.now c.index.ensures)
     ∙ sym (room_is i.heads.items c.args.row li)
     ∙ ap (λ rooms. room_at rooms c.args.row) (seen_rooms i.block i.heads.items _ c.self.view_is)
@@ -35,7 +35,7 @@ returns-clause-within g c =
       arith,
       long_row i.block i.heads.items i.used c.self.invariant _ seen c.args.row c.requires,
       c.self.invariant.filled c.args.row li,
-      ap (λ (r : Head). r.room)
+      ap (λ (r : RowHead). r.room)
           (head_read i.block i.heads.items _ seen c.args.row c.requires c.index.result.now
           c.index.ensures),
     )

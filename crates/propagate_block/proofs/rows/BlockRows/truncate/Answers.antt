@@ -1,6 +1,6 @@
 use Rattle.std.proofs.Common.{◌≡◌, ◌<◌, ◌≤◌, ◌∙◌, length, get_or, ap, arith, refl}
 use Rattle.propagate_block.specs.RowLayout.{no_head}
-use Rattle.propagate_block.specs.declared.rows.Head.{Head}
+use Rattle.propagate_block.specs.declared.rows.RowHead.{RowHead}
 use Rattle.propagate_block.proofs.RowsLaid.{head_read, long_row, rooms_same, row_there}
 use Rattle.propagate_block.proofs.RowsLaid.{rows_truncate, seen_rooms, seen_rows}
 use Rattle.propagate_block.proofs.rows.BlockRows.truncate.Goals as goal
@@ -21,7 +21,7 @@ returns-then-len-index-clause-rows g c =
       c.requires.shorter,
     ) in
     rw (← seen) (rows_truncate i.block i.heads.items i.used laid c.args.row c.args.len _
-    li (ap (λ (r : Head). r.start) is) refl lk)
+    li (ap (λ (r : RowHead). r.start) is) refl lk)
 
 pub returns-then-len-index-clause-rooms : goal.returns-then-len-index-clause-rooms
 returns-then-len-index-clause-rooms g c =
@@ -32,7 +32,7 @@ returns-then-len-index-clause-rooms g c =
     let is : c.index_mut.result.now ≡ get_or i.heads.items c.args.row no_head =
     head_read i.block i.heads.items _ seen c.args.row c.requires.row
     c.index_mut.result.now c.index_mut.ensures.value in
-    rooms_same i.heads.items c.args.row _ li (ap (λ (r : Head). r.room) is)
+    rooms_same i.heads.items c.args.row _ li (ap (λ (r : RowHead). r.room) is)
     ∙ seen_rooms i.block i.heads.items _ c.self.view_is
 
 pub index-requires : goal.index-requires

@@ -1,10 +1,10 @@
 use Rattle.std.specs.Prelude.{not}
 use Rattle.propagate_watches.specs.Doomed.{is_doomed}
-use Rattle.propagate_watches.specs.declared.pool.Entry.{Entry}
+use Rattle.propagate_watches.specs.declared.pool.WatchEntry.{WatchEntry}
 use Rattle.propagate_block.proofs.Laws.{IsSieved}
 use Rattle.propagate_watches.proofs.pool.WatchPool.drop_doomed_of.Given as goal
 
 abbrev pub invariant-loop-read : goal.invariant-loop-read
 invariant-loop-read l =
-    IsSieved (λ (w : Entry). not (is_doomed l.doomed w.reference)) l.fn.self l.self l.row
+    IsSieved (λ (w : WatchEntry). not (is_doomed l.doomed w.reference)) l.fn.self l.self l.row
     l.write l.read

@@ -1,6 +1,6 @@
 use Rattle.std.proofs.Common.{◌<◌, ◌∙◌, length, arith, rules}
 use Rattle.std.specs.Prelude.{not, ◌==◌}
-use Rattle.propagate_watches.specs.declared.pool.Entry.{Entry}
+use Rattle.propagate_watches.specs.declared.pool.WatchEntry.{WatchEntry}
 use Rattle.propagate_watches.specs.Pool.{row_at}
 use Rattle.propagate_block.proofs.Laws.{sieved_kept, sieved_left, sieved_all}
 use Rattle.propagate_watches.proofs.pool.WatchPool.remove.Goals as goal
@@ -8,7 +8,7 @@ use Rattle.propagate_watches.proofs.pool.WatchPool.remove.Goals.{then-ne, else-n
 
 pub loop-read-preserved : goal.loop-read-preserved
 loop-read-preserved c =
-    let p = λ (w : Entry). not (w.reference == c.args.reference) in
+    let p = λ (w : WatchEntry). not (w.reference == c.args.reference) in
     let l = c.loop-read in
     let within : l.read < length (row_at c.args.self.now c.args.row) =
     omega (arith, c.loop-read-test.true, c.len-read-end.ensures) in
@@ -24,6 +24,6 @@ loop-read-preserved c =
 pub returns : goal.returns
 returns c =
     c.truncate.ensures
-    ∙ sieved_all (λ (w : Entry). not (w.reference == c.args.reference)) c.args.self.now
+    ∙ sieved_all (λ (w : WatchEntry). not (w.reference == c.args.reference)) c.args.self.now
     c.loop-read.self c.args.row c.loop-read.write c.loop-read.read c.loop-read.invariant
     (omega (arith, c.loop-read-test.false, c.len-read-end.ensures))

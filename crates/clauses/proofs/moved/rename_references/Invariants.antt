@@ -1,6 +1,6 @@
 use Rattle.std.proofs.Common.{◌≡◌, ◌++◌, map, take, drop}
-use Rattle.propagate_watches.specs.Renames.{named}
-use Rattle.propagate.proofs.moved.rename_references.Given as goal
+use Rattle.clauses.specs.Moved.{named}
+use Rattle.clauses.proofs.moved.rename_references.Given as goal
 
 abbrev pub invariant-loop-reference : goal.invariant-loop-reference
 invariant-loop-reference l =
