@@ -184,7 +184,7 @@ impl Near {
 
     /// Drops the literals of dead recent clauses, where these are mostly dead.
     pub(crate) fn reclaim(&mut self)
-        ensures { self.new ≡ self.old }
+        ensures unchanged { self.new ≡ self.old }
     {
         let head = self.given as usize + 1;
         let all = self.lits.len() - self.given_lits + (self.spans.len() - head);

@@ -197,7 +197,7 @@ impl Machine {
     /// that pays. Nothing that is seen of the machine changes.
     #[inline]
     pub fn read_ahead(&mut self, batch: &Batch, from: usize)
-        ensures { self.new ≡ self.old }
+        ensures unchanged { self.new ≡ self.old }
     {
         self.seen = read_ahead(&self.base.live, batch, from);
     }
