@@ -17,7 +17,7 @@ use crate::names::put_names;
 use crate::putting::{put_bits, put_broken, put_cost, put_count, put_given_up};
 use crate::sheet::Sheet;
 use cnf::types::Instance;
-use lrat_result::report::{Report, ReportFault, Said, Solution};
+use lrat_result::report::{ClaimedSolution, Report, ReportFault, Said};
 use lrat_result::result::read_report;
 use std::alloc::{AllocError, Global};
 use std::io::Write;
@@ -134,7 +134,7 @@ fn explain_solution<W: Write>(
     alloc: Global,
     text: &[u8],
     instance: &Instance,
-    solution: &Solution,
+    solution: &ClaimedSolution,
     writer: &mut W,
 ) -> Result<bool, ExplainFault>
     ensures ok { IfOk result (λ is_right. Explains text.now instance.now

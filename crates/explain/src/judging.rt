@@ -7,7 +7,7 @@ ghost use Rattle.explain.specs.Judging.{TellsBits};
 
 use crate::explaining::{ExplainFault, is_solution, read_answer, read_text};
 use cnf::types::Instance;
-use lrat_result::report::{Report, Said, Solution};
+use lrat_result::report::{ClaimedSolution, Report, Said};
 use std::alloc::Global;
 
 /// What a result comes to.
@@ -66,7 +66,7 @@ fn judge_report(instance: &Instance, report: &Report) -> Judgement
 }
 
 /// Judges bits, which may be too few or too many.
-fn judge_solution(instance: &Instance, solution: &Solution) -> Judgement
+fn judge_solution(instance: &Instance, solution: &ClaimedSolution) -> Judgement
     ensures { IsJudgedSolution instance.now solution.now.bits.items solution.now.cost.cost result }
 {
     let bits = solution.bits.as_slice();

@@ -11,7 +11,7 @@ use Rattle.wcnf.proofs.Laws.{reading_is_right}
 use Rattle.adder.specs.declared.cells.Profile.{Profile}
 use Rattle.bound.specs.Bound.{hard_cnf, bound_as, SaysCheaper}
 use Rattle.lrat_result.specs.declared.report.Report.{Report as ReadReport}
-use Rattle.lrat_result.specs.declared.report.Solution.{Solution}
+use Rattle.lrat_result.specs.declared.report.ClaimedSolution.{ClaimedSolution}
 use Rattle.lrat_result.specs.declared.report.Said.TheVariants.{Optimum, Unsat}
 use Rattle.lrat_machine.specs.declared.verdicts.Verdict.{Verdict}
 use Rattle.lrat_machine.specs.declared.verdicts.Verdict.TheVariants.{Yes, No}
@@ -25,7 +25,7 @@ use Rattle.lrat_check.proofs.Checked.{optimum_goes, no_report, on_report}
 use Rattle.lrat_check.proofs.TrueResults.{optimal_by, optimal_least, inconsistent_by, true_by}
 
 module _ (profile : Profile) (p : Problem) (a : ReadReport) (proof : List ℕ) where
-  said_optimum : (s : Solution) → a.said ≡ Optimum s
+  said_optimum : (s : ClaimedSolution) → a.said ≡ Optimum s
       → ((r : Report) → r.bits_line ≡ s.bits_line → r.cost_line ≡ s.cost.line
       → None ≡ bits_fault p r s.cost.cost s.bits.items)
       → said_verdict profile p (reported a) proof ≡ bound_verdict profile p s.cost.cost proof
@@ -36,7 +36,7 @@ module _ (profile : Profile) (p : Problem) (a : ReadReport) (proof : List ℕ) w
       optimum_goes profile p (reported a) proof s.cost.cost s.bits.items said
       (sym (f (reported a) line cost))
 
-  pub headed_optimum : (s : Solution) → a.said ≡ Optimum s
+  pub headed_optimum : (s : ClaimedSolution) → a.said ≡ Optimum s
       → ((r : Report) → r.bits_line ≡ s.bits_line → r.cost_line ≡ s.cost.line
       → None ≡ bits_fault p r s.cost.cost s.bits.items)
       → takes_cores profile s.cost.cost ≡ true
@@ -46,11 +46,12 @@ module _ (profile : Profile) (p : Problem) (a : ReadReport) (proof : List ℕ) w
       rw takes refl in
       sym (said_optimum s e none ∙ same)
 
-  pub headed_is_true : (s : Solution) → a.said ≡ Optimum s → HasCost p s.bits.items s.cost.cost
+  pub headed_is_true : (s : ClaimedSolution) → a.said ≡ Optimum s
+      → HasCost p s.bits.items s.cost.cost
       → CostsAtLeast p s.cost.cost → IsTrueOf p (reported a).said
   headed_is_true s e has least = rw e (optimal_least p s.cost.cost s.bits.items least has)
 
-  pub optimum_verdict : (s : Solution) → a.said ≡ Optimum s
+  pub optimum_verdict : (s : ClaimedSolution) → a.said ≡ Optimum s
       → ((r : Report) → r.bits_line ≡ s.bits_line → r.cost_line ≡ s.cost.line
       → None ≡ bits_fault p r s.cost.cost s.bits.items)
       → takes_cores profile s.cost.cost ≡ false
@@ -63,7 +64,8 @@ module _ (profile : Profile) (p : Problem) (a : ReadReport) (proof : List ℕ) w
       IfOk-weaker result _ _ (λ v w. w ∙ ap (λ g. proof_verdict g.clauses proof) is
       ∙ sym (said_optimum s e none ∙ same)) h
 
-  pub optimum_sound : (s : Solution) → a.said ≡ Optimum s → HasCost p s.bits.items s.cost.cost
+  pub optimum_sound : (s : ClaimedSolution) → a.said ≡ Optimum s
+      → HasCost p s.bits.items s.cost.cost
       → SaysCheaper profile p s.cost.cost
       → (f : Cnf) → f ≡ bound_as profile p s.cost.cost → {E : Type 0} (result : Result Verdict E)
       → IfOk result (λ v. v ≡ Yes → IsUnsatisfiable f.clauses)

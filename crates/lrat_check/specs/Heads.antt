@@ -16,7 +16,7 @@ use Rattle.lrat_check.specs.declared.core_lines.HeadStep.TheVariants.{GoesOn, En
 use Rattle.lrat_check.specs.declared.head_streams.HeadRead.{HeadRead}
 use Rattle.lrat_check.specs.declared.head_streams.HeadRead.TheVariants.{AtEnd, More}
 use Rattle.lrat_check.specs.declared.head_streams.HeadRead.TheVariants.{Fails as HasFault}
-use Rattle.lrat_check.specs.declared.heads.Head.{Head}
+use Rattle.lrat_check.specs.declared.heads.CertificateHead.{CertificateHead}
 use Rattle.lrat_check.specs.declared.heads.Taken.{Taken}
 use Rattle.lrat_check.specs.declared.heads.Taken.TheVariants.{All, Ended as HasEnded}
 use Rattle.lrat_check.specs.declared.heads.Taken.TheVariants.{Fails as HasFailed}
@@ -33,7 +33,7 @@ pub record HeadReading : Type 0 where
   -- what follows the last line feed
   pub rest : List ℕ
 
-abbrev pub head_reading : Head → HeadReading
+abbrev pub head_reading : CertificateHead → HeadReading
 head_reading h = record { head = h.cores; rest = h.rest }
 
 -- the head may go on behind the bytes: the rest is what follows their last line feed, and from the

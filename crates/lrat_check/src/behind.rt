@@ -15,7 +15,7 @@ ghost use Rattle.lrat_check.specs.Verdict.{formula_behind, headed_verdict, verdi
 
 use crate::certificate::judge_whole;
 use crate::core_lines::{CoreLines, HeadStep};
-use crate::heads::Head;
+use crate::heads::CertificateHead;
 use crate::pieces::Checker;
 use crate::verdicts::{Cause, Verdict};
 use adder::cells::Profile;
@@ -55,7 +55,7 @@ pub(crate) fn formula_behind(
 /// The checker of what follows the head, which has judged what is kept already; none where the
 /// cores are worth too little.
 pub(crate) fn checker_behind(
-    head: &Head,
+    head: &CertificateHead,
     instance: &Instance,
     cost: u64,
 ) -> Result<Option<Checker>, AllocError>
@@ -74,7 +74,7 @@ pub(crate) fn checker_behind(
 
 /// The checker over this formula, which has judged the lines of the head as lines without a token,
 /// and what is kept.
-pub(crate) fn checker_over(formula: Formula, head: &Head) -> Result<Checker, AllocError>
+pub(crate) fn checker_over(formula: Formula, head: &CertificateHead) -> Result<Checker, AllocError>
     requires { head.now.cores.lines + length head.now.rest < 2 ^ 64 }
     ensures { IfOk result (λ c. JudgesOver formula.clauses (head_reading head.now) c) }
 {
@@ -99,7 +99,7 @@ fn feed_more(checker: &mut Checker, piece: &[u8]) -> Result<(), AllocError>
 
 /// The verdict, where the head has ended and nothing comes behind what is left.
 pub(crate) fn judge_behind(
-    head: &Head,
+    head: &CertificateHead,
     instance: &Instance,
     cost: u64,
     left: &[u8],
@@ -132,7 +132,11 @@ fn verdict_at_end(cores: &CoreLines, instance: &Instance, cost: u64) -> Verdict
 }
 
 /// The verdict, where nothing follows the pieces of the head.
-pub(crate) fn end_head(head: Head, instance: &Instance, cost: u64) -> Result<Verdict, AllocError>
+pub(crate) fn end_head(
+    head: CertificateHead,
+    instance: &Instance,
+    cost: u64,
+) -> Result<Verdict, AllocError>
     requires small { cost ≤ NUMBER_LIMIT }
     requires is { IsHeadOf instance.now head.cores }
     requires room { head.cores.lines + length head.rest < 2 ^ 64 }

@@ -16,7 +16,7 @@ use crate::verdicts::{Cause, CheckFault, Verdict};
 use adder::cells::Profile;
 use bound::formulas::{formula_as, hard_formula};
 use cnf::types::{Formula, Instance};
-use lrat_result::report::{Cost, Report, ReportFault, Said, Solution};
+use lrat_result::report::{ClaimedSolution, Cost, Report, ReportFault, Said};
 use lrat_result::result::read_report;
 use std::alloc::{AllocError, Global};
 use std::io::Read;
@@ -223,7 +223,7 @@ fn refuse_status(report: &Report) -> Left
 
 // The first fault of a solution: the number of its bits, a hard clause that they break, a cost that
 // they do not have.
-fn solution_fault(instance: &Instance, solution: &Solution) -> Option<Verdict>
+fn solution_fault(instance: &Instance, solution: &ClaimedSolution) -> Option<Verdict>
     ensures fault { (r : Reported) → r.bits_line ≡ solution.now.bits_line
         → r.cost_line ≡ solution.now.cost.line
         → result ≡ bits_fault instance.now r solution.now.cost.cost solution.now.bits.items }

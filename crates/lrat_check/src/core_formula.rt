@@ -8,7 +8,7 @@ ghost use Rattle.lrat_check.specs.Verdict.{formula_behind, headed_formula, refut
 
 use crate::behind::{falls_short, formula_behind};
 use crate::core_lines::{CoreLines, HeadStep};
-use crate::heads::{Head, Taken};
+use crate::heads::{CertificateHead, Taken};
 use crate::verdicts::Cause;
 use adder::cells::Profile;
 use bound::formulas::formula_as;
@@ -17,7 +17,7 @@ use std::alloc::AllocError;
 
 /// What a certificate refutes.
 #[derive(Drop)]
-pub enum Refuted {
+pub enum RefutedFormula {
     /// This formula, if its lines are right that are no core lines.
     Formula(Formula),
     /// Nothing: its core lines fail with this cause at this line, from 1, or 0 where they are worth
@@ -32,18 +32,22 @@ pub enum Refuted {
 /// # Errors
 ///
 /// `AllocError` where memory was refused.
-pub fn core_formula(instance: &Instance, cost: u64, proof: &[u8]) -> Result<Refuted, AllocError>
+pub fn core_formula(
+    instance: &Instance,
+    cost: u64,
+    proof: &[u8],
+) -> Result<RefutedFormula, AllocError>
     requires { cost ≤ NUMBER_LIMIT }
     ensures { IfOk result (λ r. refuted r ≡ refuted_formula instance.now cost proof.now) }
 {
     if cost == 0 {
-        return Ok(Refuted::Formula(formula_as(instance, cost, Profile::Five)?));
+        return Ok(RefutedFormula::Formula(formula_as(instance, cost, Profile::Five)?));
     }
-    let mut head = Head::new(instance)?;
+    let mut head = CertificateHead::new(instance)?;
     match head.take(proof)? {
         Taken::All => end_formula(head, instance, cost),
         Taken::Ended(_) => formula_of(&head.cores, instance, cost, head.cores.lines() + 1),
-        Taken::Fails(cause) => Ok(Refuted::Nothing(cause, head.cores.lines() + 1)),
+        Taken::Fails(cause) => Ok(RefutedFormula::Nothing(cause, head.cores.lines() + 1)),
     }
 }
 
@@ -53,20 +57,24 @@ fn formula_of(
     instance: &Instance,
     cost: u64,
     first: u64,
-) -> Result<Refuted, AllocError>
+) -> Result<RefutedFormula, AllocError>
     requires small { cost ≤ NUMBER_LIMIT }
     requires is { IsHeadOf instance.now cores.now }
     ensures { IfOk result (λ r. refuted r
         ≡ formula_behind instance.now cost cores.now.some cores.now.counted first) }
 {
     if falls_short(cores, cost) {
-        return Ok(Refuted::Nothing(Cause::CoreSum, first));
+        return Ok(RefutedFormula::Nothing(Cause::CoreSum, first));
     }
-    Ok(Refuted::Formula(formula_behind(cores, instance, cost)?))
+    Ok(RefutedFormula::Formula(formula_behind(cores, instance, cost)?))
 }
 
 /// The formula, where nothing follows the pieces of the head.
-fn end_formula(head: Head, instance: &Instance, cost: u64) -> Result<Refuted, AllocError>
+fn end_formula(
+    head: CertificateHead,
+    instance: &Instance,
+    cost: u64,
+) -> Result<RefutedFormula, AllocError>
     requires small { cost ≤ NUMBER_LIMIT }
     requires is { IsHeadOf instance.now head.cores }
     requires room { head.cores.lines + length head.rest < 2 ^ 64 }
@@ -78,6 +86,6 @@ fn end_formula(head: Head, instance: &Instance, cost: u64) -> Result<Refuted, Al
     match head.end()? {
         HeadStep::GoesOn => formula_of(&head.cores, instance, cost, 0),
         HeadStep::Ended => formula_of(&head.cores, instance, cost, head.cores.lines() + 1),
-        HeadStep::Fails(cause) => Ok(Refuted::Nothing(cause, head.cores.lines() + 1)),
+        HeadStep::Fails(cause) => Ok(RefutedFormula::Nothing(cause, head.cores.lines() + 1)),
     }
 }

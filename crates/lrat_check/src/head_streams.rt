@@ -2,7 +2,7 @@
 ghost use Rattle.std.specs.Prelude.{◌≡◌, IfOk};
 ghost use Rattle.lrat_check.specs.Heads.{HasReadHead, HasRoom, head_reading};
 
-use crate::heads::{Head, Taken};
+use crate::heads::{CertificateHead, Taken};
 use crate::verdicts::{Cause, CheckFault};
 use cnf::types::Instance;
 use std::io::Read;
@@ -23,12 +23,12 @@ pub enum HeadRead {
 pub(crate) fn read_head<R: Read>(
     instance: &Instance,
     proof: &mut R,
-) -> Result<(Head, HeadRead), CheckFault>
+) -> Result<(CertificateHead, HeadRead), CheckFault>
     ensures read { IfOk result (λ r. HasReadHead instance.now r.1 (head_reading r.0)
         (R.remaining proof.old) (R.remaining proof.new)) }
     ensures room { IfOk result (λ r. HasRoom r.1 (head_reading r.0)) }
 {
-    let Ok(new) = Head::new(instance) else {
+    let Ok(new) = CertificateHead::new(instance) else {
         return Err(CheckFault::Memory);
     };
     let mut head = new;

@@ -11,7 +11,7 @@ ghost use Rattle.lrat_check.specs.Verdict.{headed_verdict};
 
 use crate::behind::{checker_behind, end_head, judge_behind};
 use crate::head_streams::{HeadRead, read_head};
-use crate::heads::{Head, Taken};
+use crate::heads::{CertificateHead, Taken};
 use crate::streams::judge_stream;
 use crate::verdicts::{Cause, CheckFault, Verdict};
 use cnf::types::Instance;
@@ -28,7 +28,7 @@ pub(crate) fn check_headed(
     ensures verdict { IfOk result (λ v. v ≡ headed_verdict instance.now cost proof.now) }
     ensures sound { IfOk result (λ v. v ≡ Verdict.Yes → CostsAtLeast instance.now cost) }
 {
-    let mut head = Head::new(instance)?;
+    let mut head = CertificateHead::new(instance)?;
     match head.take(proof)? {
         Taken::All => end_head(head, instance, cost),
         Taken::Ended(left) => judge_behind(&head, instance, cost, left),
@@ -59,7 +59,7 @@ pub(crate) fn check_headed_stream<R: Read>(
 }
 
 /// The verdict, where the certificate ends with the pieces of the head.
-fn conclude(head: Head, instance: &Instance, cost: u64) -> Result<Verdict, CheckFault>
+fn conclude(head: CertificateHead, instance: &Instance, cost: u64) -> Result<Verdict, CheckFault>
     requires small { cost ≤ NUMBER_LIMIT }
     requires is { IsHeadOf instance.now head.cores }
     requires room { head.cores.lines + length head.rest < 2 ^ 64 }
@@ -76,7 +76,7 @@ fn conclude(head: Head, instance: &Instance, cost: u64) -> Result<Verdict, Check
 
 /// The verdict, where the head has ended, on what is kept and what the reader still gives.
 fn judge_rest<R: Read>(
-    head: &Head,
+    head: &CertificateHead,
     instance: &Instance,
     cost: u64,
     proof: &mut R,

@@ -19,7 +19,7 @@ use text::pieces::{split_line, without_return};
 
 /// What the pieces so far leave.
 #[derive(Drop)]
-pub struct Head {
+pub struct CertificateHead {
     /// The lines that a line feed has ended.
     pub cores: CoreLines,
     /// What follows the last line feed; once the head has ended, the front of the first line behind
@@ -38,14 +38,14 @@ pub enum Taken<'a> {
     Fails(Cause),
 }
 
-impl Head {
+impl CertificateHead {
     /// Before the first piece.
     pub fn new(instance: &Instance) -> Result<Self, AllocError>
         ensures open { IfOk result
             (λ h. IsOpenHead instance.now (head_reading h) []) }
         ensures lines { IfOk result (λ h. h.cores.lines + length h.rest ≡ 0) }
     {
-        Ok(Head {
+        Ok(CertificateHead {
             cores: CoreLines::new(instance)?,
             rest: LineBuffer::new(instance.allocator()),
         })

@@ -17,7 +17,7 @@ ghost use Rattle.lrat_check.specs.Stopping.{StopsInTime};
 use crate::behind::checker_over;
 use crate::core_lines::{CoreLines, HeadStep};
 use crate::head_streams::{HeadRead, read_head};
-use crate::heads::Head;
+use crate::heads::CertificateHead;
 use crate::pieces::Checker;
 use crate::streams::judge_stream;
 use crate::verdicts::{Cause, CheckFault, Verdict};
@@ -115,7 +115,7 @@ fn judge_own<R: Read>(instance: &Instance, proof: &mut R) -> Result<LowerVerdict
 }
 
 // The verdict, where nothing follows the pieces of the head.
-fn end_own(head: Head, instance: &Instance) -> Result<LowerVerdict, CheckFault>
+fn end_own(head: CertificateHead, instance: &Instance) -> Result<LowerVerdict, CheckFault>
     requires is { IsHeadOf instance.now head.cores }
     requires room { head.cores.lines + length head.rest < 2 ^ 64 }
     ensures { IfOk result (λ v. (bytes : List ℕ)
@@ -132,7 +132,7 @@ fn end_own(head: Head, instance: &Instance) -> Result<LowerVerdict, CheckFault>
 }
 
 // The verdict, where the head has ended before what is kept, and nothing follows that.
-fn judge_kept(head: &Head, instance: &Instance) -> Result<LowerVerdict, CheckFault>
+fn judge_kept(head: &CertificateHead, instance: &Instance) -> Result<LowerVerdict, CheckFault>
     requires is { IsHeadOf instance.now head.now.cores }
     requires room { head.now.cores.lines + length head.now.rest < 2 ^ 64 }
     ensures { IfOk result (λ v. v
@@ -149,7 +149,7 @@ fn judge_kept(head: &Head, instance: &Instance) -> Result<LowerVerdict, CheckFau
 
 // The verdict, where the head has ended before what is kept and what the reader still gives.
 fn judge_more<R: Read>(
-    head: &Head,
+    head: &CertificateHead,
     instance: &Instance,
     proof: &mut R,
 ) -> Result<LowerVerdict, CheckFault>
@@ -169,7 +169,7 @@ fn judge_more<R: Read>(
 }
 
 // The checker of what follows the head, which has judged what is kept already.
-fn own_checker(head: &Head, instance: &Instance) -> Result<Checker, AllocError>
+fn own_checker(head: &CertificateHead, instance: &Instance) -> Result<Checker, AllocError>
     requires is { IsHeadOf instance.now head.now.cores }
     requires room { head.now.cores.lines + length head.now.rest < 2 ^ 64 }
     ensures { IfOk result (λ c. JudgesOver

@@ -23,7 +23,7 @@ use Rattle.lrat_live.proofs.Listed.{Rises}
 use Rattle.cnf.proofs.Laws.{literal_eq-refl, index_same}
 use Rattle.lrat_live.proofs.Clauses.{clauses_live, clauses_dead, clauses-append}
 use Rattle.lrat_live.specs.Table.{cell_of, cells_of, clauses_in}
-use Rattle.lrat_live.specs.declared.entries.Entry.{Entry}
+use Rattle.lrat_live.specs.declared.entries.AddedEntry.{AddedEntry}
 
 -- numbers
 plus_zero : (a : ℕ) → a + 0 ≡ a
@@ -571,12 +571,12 @@ takes_start l es from_one r ids t = takes_all l 0 es ids (positive es from_one) 
 pub counts_none : (counts : ℕ → ℕ) → ((p : ℕ) → counts p ≡ 0) → AreCounts counts []
 counts_none counts none = λ l p. none (index_of l)
 
-more_cells : (es : List Entry) (i : ℕ) (d : Entry) → i < length es
+more_cells : (es : List AddedEntry) (i : ℕ) (d : AddedEntry) → i < length es
     → cells_of (take (i + 1) es) ≡ cells_of (take i es) ++ cell_of (get_or es i d) ∷ []
 more_cells es i d h = ap cells_of (take_more es i d h)
     ∙ map_push cell_of (take i es) (get_or es i d)
 
-pub more_dead : (ls : List Literal) (es : List Entry) (i : ℕ) (d : Entry) → i < length es
+pub more_dead : (ls : List Literal) (es : List AddedEntry) (i : ℕ) (d : AddedEntry) → i < length es
     → (get_or es i d).live ≡ false → clauses_in ls (cells_of (take (i + 1) es)) ≡ clauses_in ls
     (cells_of (take i es))
 more_dead ls es i d h dead =
@@ -586,7 +586,7 @@ more_dead ls es i d h dead =
     (clauses_dead ls (cell_of (get_or es i d)) [] dead)
     ∙ append-nil (clauses_in ls (cells_of (take i es)))
 
-pub more_live : (ls : List Literal) (es : List Entry) (i : ℕ) (d : Entry) → i < length es
+pub more_live : (ls : List Literal) (es : List AddedEntry) (i : ℕ) (d : AddedEntry) → i < length es
     → (get_or es i d).live ≡ true
     → clauses_in ls (cells_of (take (i + 1) es)) ≡ clauses_in ls (cells_of (take i es))
     ++ (

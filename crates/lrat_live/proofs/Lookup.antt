@@ -7,13 +7,14 @@ use Rattle.cnf.specs.Literal.{Literal}
 use Rattle.lrat_live.specs.Listed.{listed_at, without_id}
 use Rattle.lrat_live.specs.Chains.{place_of}
 use Rattle.lrat_live.specs.Table.{Cell, cell_of, cells_of, keys_of, nexts_of, clauses_in, IsTable}
-use Rattle.lrat_live.specs.declared.entries.Entry.{Entry}
+use Rattle.lrat_live.specs.declared.entries.AddedEntry.{AddedEntry}
 use Rattle.lrat_live.proofs.Chains.{newest-le}
 use Rattle.lrat_live.proofs.Table.{length-keys}
 use Rattle.lrat_live.proofs.Clauses.{laid_within, laid_set, without_none, listed_nowhere}
 use Rattle.lrat_live.proofs.Clauses.{listed_live, listed_dead, clauses_deleted}
 
-module _ (ls : List Literal) (es : List Entry) (hs : List ℕ) (t : IsTable ls es hs) (id : ℕ) where
+module _ (ls : List Literal) (es : List AddedEntry) (hs : List ℕ) (t : IsTable ls es hs)
+    (id : ℕ) where
   pub nothing_listed : place_of id (keys_of (cells_of es)) ≡ 0
       → listed_at (clauses_in ls (cells_of es)) id ≡ None
   nothing_listed e = listed_nowhere ls (cells_of es) id e
@@ -26,7 +27,7 @@ module _ (ls : List Literal) (es : List Entry) (hs : List ℕ) (t : IsTable ls e
     pub entry_within : p < length es
     entry_within = omega (arith, newest-le (λ k. k == id) (keys_of (cells_of es)), length-keys es)
 
-    module _ (x : Entry) (is : x ≡ get_or es p x) where
+    module _ (x : AddedEntry) (is : x ≡ get_or es p x) where
       cell : get_or (cells_of es) p (cell_of x) ≡ cell_of x
       cell = get_or-map cell_of es p x (cell_of x) entry_within ∙ ap cell_of (sym is)
 
@@ -50,10 +51,10 @@ module _ (ls : List Literal) (es : List Entry) (hs : List ℕ) (t : IsTable ls e
       pub dead_left : x.live ≡ false → clauses_in ls (cells_of (set es p x)) ≡ without_id id
           (clauses_in ls (cells_of es))
       dead_left h =
-          let same : set es p x ≡ es = ap (λ (y : Entry). set es p y) is ∙ set-get_or es p x in
+          let same : set es p x ≡ es = ap (λ (y : AddedEntry). set es p y) is ∙ set-get_or es p x in
           rw same (sym (without_none id (clauses_in ls (cells_of es)) (dead_listed h)))
 
-      abbrev gone : Entry
+      abbrev gone : AddedEntry
       gone = record x { live = false }
 
       keys_stay : keys_of (cells_of (set es p gone)) ≡ keys_of (cells_of es)
@@ -67,10 +68,10 @@ module _ (ls : List Literal) (es : List Entry) (hs : List ℕ) (t : IsTable ls e
 
       nexts_stay : nexts_of (set es p gone) ≡ nexts_of es
       nexts_stay =
-          map-set (λ (y : Entry). y.next) es p gone
+          map-set (λ (y : AddedEntry). y.next) es p gone
           ∙ ap (set (nexts_of es) p)
-          (sym (get_or-map (λ (y : Entry). y.next) es p x x.next entry_within
-          ∙ ap (λ (y : Entry). y.next) (sym is))) ∙ set-get_or (nexts_of es) p x.next
+          (sym (get_or-map (λ (y : AddedEntry). y.next) es p x x.next entry_within
+          ∙ ap (λ (y : AddedEntry). y.next) (sym is))) ∙ set-get_or (nexts_of es) p x.next
 
       pub deleted_clauses : clauses_in ls (cells_of (set es p gone)) ≡ without_id id
           (clauses_in ls (cells_of es))

@@ -7,11 +7,11 @@ use Rattle.std.proofs.lemmas.List.{take-take, take_rest, length-take-le, length-
 use Rattle.cnf.specs.Literal.{Literal}
 use Rattle.lrat_live.specs.Listed.{Listed}
 use Rattle.lrat_live.specs.Near.{Parts, spanned, given_in, recent_in, IsNear, AreSpread}
-use Rattle.lrat_live.specs.declared.spans.Span.{Span}
+use Rattle.lrat_live.specs.declared.spans.LiveSpan.{LiveSpan}
 use Rattle.lrat_live.proofs.SpanLaws.{spanned_below, spread_within, spread_le}
 
 -- what a vector holds after its end from a place on was written
-module _ (ss dm ys : List Span) (a len : ℕ) (value : dm ≡ ss) (within : a ≤ length ss)
+module _ (ss dm ys : List LiveSpan) (a len : ℕ) (value : dm ≡ ss) (within : a ≤ length ss)
     (count : len ≡ length ss) (long : length ys ≡ length (take (length dm - a) (drop a dm))) where
   part : put_mid a (length dm - a) dm ys ≡ take a ss ++ ys
   part =
@@ -38,7 +38,7 @@ module _ (ss dm ys : List Span) (a len : ℕ) (value : dm ≡ ss) (within : a �
   before_end n e =
       ap (take n) written_end ∙ take_at (take a ss) ys n (length-take-le a ss within ∙ sym e)
 
-module _ (ls : List Literal) (ss : List Span) (given given_literals gap : ℕ)
+module _ (ls : List Literal) (ss : List LiveSpan) (given given_literals gap : ℕ)
     (n : IsNear ls ss given given_literals gap) where
   front_long : length (take (given + 1) ss) ≡ given + 1
   front_long = length-take-le (given + 1) ss n.covers
@@ -76,7 +76,7 @@ module _ (ls : List Literal) (ss : List Span) (given given_literals gap : ℕ)
       (take-take given_literals given_literals ls (omega arith))
 
   -- other spans and literals behind those of the formula
-  module _ (ms : List Literal) (ys : List Span)
+  module _ (ms : List Literal) (ys : List LiveSpan)
       (below : take given_literals ms ≡ take given_literals ls) where
     pub given_squeezed : given_in ms (take (given + 1) ss ++ ys) given ≡ given_in ls ss given
     given_squeezed =

@@ -5,11 +5,12 @@ use Rattle.std.proofs.lemmas.List.{get_or-map, length-map, map-set}
 use lib.Seq.{paste}
 use Rattle.cnf.specs.Literal.{Literal}
 use Rattle.lrat_live.specs.Table.{Cell, cell_of, cells_of}
-use Rattle.lrat_live.specs.declared.entries.Entry.{Entry}
+use Rattle.lrat_live.specs.declared.entries.AddedEntry.{AddedEntry}
 use Rattle.lrat_live.proofs.Clauses.{IsCompacting, moved_within, compacting_dead, compacting_live}
 
-module _ (ls : List Literal) (es : List Entry) (kept end i : ℕ) (value : List (ℕ × List Literal))
-    (s : IsCompacting ls (cells_of es) kept end i value) (x : Entry) (h : i < length es)
+module _ (ls : List Literal) (es : List AddedEntry) (kept end i : ℕ)
+    (value : List (ℕ × List Literal))
+    (s : IsCompacting ls (cells_of es) kept end i value) (x : AddedEntry) (h : i < length es)
     (is : x ≡ get_or es i x) where
   cell : get_or (cells_of es) i (cell_of x) ≡ cell_of x
   cell = get_or-map cell_of es i x (cell_of x) h ∙ ap cell_of (sym is)
@@ -26,7 +27,7 @@ module _ (ls : List Literal) (es : List Entry) (kept end i : ℕ) (value : List 
       compacting_dead ls (cells_of es) kept end i value (cell_of x) s within
       (ap (λ (c : Cell). c.live) cell ∙ e)
 
-  abbrev moved : Entry
+  abbrev moved : AddedEntry
   moved = record { id = x.id; start = end; length = x.length; next = 0; live = true }
 
   pub live_entry : x.live ≡ true → (n : ℕ) → n ≡ x.length

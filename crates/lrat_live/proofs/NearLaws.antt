@@ -13,13 +13,14 @@ use Rattle.cnf.specs.Literal.{Literal}
 use Rattle.lrat_live.specs.Listed.{listed_at, without_id}
 use Rattle.lrat_live.specs.Near.{is_live, nowhere, literals_at, spanned, given_in, recent_in}
 use Rattle.lrat_live.specs.Near.{IsPlace, IsNear}
-use Rattle.lrat_live.specs.declared.spans.Span.{Span}
+use Rattle.lrat_live.specs.declared.spans.LiveSpan.{LiveSpan}
 use Rattle.lrat_live.proofs.Clauses.{without_none}
 use Rattle.lrat_live.proofs.LiveLaws.{listed_first, listed_second}
 use Rattle.lrat_live.proofs.SpanLaws.{spanned_at, spanned_gone, spanned_before, spanned_after}
 use Rattle.lrat_live.proofs.SpanLaws.{spanned_set, spread_set, spread_within, spread_le}
 
-module _ (ls : List Literal) (ss : List Span) (given gap : ℕ) (covers : given + 1 ≤ length ss) where
+module _ (ls : List Literal) (ss : List LiveSpan) (given gap : ℕ)
+    (covers : given + 1 ≤ length ss) where
   front : length (take (given + 1) ss) ≡ given + 1
   front = length-take-le (given + 1) ss covers
 
@@ -84,7 +85,7 @@ module _ (ls : List Literal) (ss : List Span) (given gap : ℕ) (covers : given 
               ∙ ap (λ s. Some (literals_at ls s)) e
         ]
 
-    pub left_given : (x : Span) → is_live x ≡ false
+    pub left_given : (x : LiveSpan) → is_live x ≡ false
         → given_in ls (set ss p x) given ≡ without_id id (given_in ls ss given)
     left_given x dead =
         elim (cases_lt given p) [
@@ -97,7 +98,7 @@ module _ (ls : List Literal) (ss : List Span) (given gap : ℕ) (covers : given 
               (given_above id (omega (arith, id_high h))))
         ]
 
-    pub left_recent : (x : Span) → is_live x ≡ false
+    pub left_recent : (x : LiveSpan) → is_live x ≡ false
         → recent_in ls (set ss p x) given gap ≡ without_id id (recent_in ls ss given gap)
     left_recent x dead =
         elim (cases_lt given p) [
@@ -118,8 +119,8 @@ module _ (ls : List Literal) (ss : List Span) (given gap : ℕ) (covers : given 
         ]
 
 -- where spans lie after a deletion
-pub near_set : (ls : List Literal) (ss : List Span) (given given_literals gap p : ℕ) (x : Span)
-    → is_live x ≡ false → IsNear ls ss given given_literals gap
+pub near_set : (ls : List Literal) (ss : List LiveSpan) (given given_literals gap p : ℕ)
+    (x : LiveSpan) → is_live x ≡ false → IsNear ls ss given given_literals gap
     → IsNear ls (set ss p x) given given_literals gap
 near_set ls ss given given_literals gap p x dead n =
     let long : length (set ss p x) ≡ length ss = length-set ss p x in
@@ -146,7 +147,7 @@ near_set ls ss given given_literals gap p x dead n =
     }
 
 -- the literals of a live clause are there
-pub near_within : (ls : List Literal) (ss : List Span) (given given_literals gap p : ℕ)
+pub near_within : (ls : List Literal) (ss : List LiveSpan) (given given_literals gap p : ℕ)
     → IsNear ls ss given given_literals gap → p < length ss
     → is_live (get_or ss p nowhere) ≡ true
     → (get_or ss p nowhere).start + (get_or ss p nowhere).length ≤ length ls
@@ -173,5 +174,5 @@ near_within ls ss given given_literals gap p n h live =
           (ap is_live e ∙ live))
     ]
 
-pub beyond : (ss : List Span) (p : ℕ) → length ss ≤ p → is_live (get_or ss p nowhere) ≡ false
+pub beyond : (ss : List LiveSpan) (p : ℕ) → length ss ≤ p → is_live (get_or ss p nowhere) ≡ false
 beyond ss p h = ap is_live (get_or-eq_default ss nowhere h)

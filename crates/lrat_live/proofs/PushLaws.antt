@@ -12,14 +12,14 @@ use Rattle.cnf.specs.Literal.{Literal}
 use Rattle.lrat_live.specs.Listed.{listed_from}
 use Rattle.lrat_live.specs.Near.{is_live, nowhere, literals_at, spanned, spans_from, AreSpread}
 use Rattle.lrat_live.specs.Near.{AreWithin, padded, given_in, recent_in, IsNear}
-use Rattle.lrat_live.specs.declared.spans.Span.{Span}
+use Rattle.lrat_live.specs.declared.spans.LiveSpan.{LiveSpan}
 use Rattle.lrat_live.proofs.SpanLaws.{spanned-append, spanned_live, spanned_none, spanned_cut}
 use Rattle.lrat_live.proofs.SpanLaws.{spanned_below, spread_within, spread_up, spread_le}
 use Rattle.lrat_live.proofs.SpanLaws.{spread_take, spread_none, spread-append, end_live}
 use Rattle.lrat_live.proofs.StartLaws.{joined, spread_from, spanned_from, live_below}
 
 -- a formula's clauses
-module _ (ls : List Literal) (ss : List Span) (cs : List (List Literal)) (given : ℕ)
+module _ (ls : List Literal) (ss : List LiveSpan) (cs : List (List Literal)) (given : ℕ)
     (lits : ls ≡ joined cs) (spans : ss ≡ nowhere ∷ spans_from 0 cs)
     (few : length (joined cs) + 1 < 2 ^ 32) (count : given + 1 ≡ length ss) where
   whole : take (given + 1) ss ≡ nowhere ∷ spans_from 0 cs
@@ -49,21 +49,22 @@ module _ (ls : List Literal) (ss : List Span) (cs : List (List Literal)) (given 
       ap (spanned ls 0) whole ∙ spanned_from ls 1 0 cs lits (omega (arith, few))
 
 -- more spans, of no clause
-reaches : (k place : ℕ) (ss : List Span) → k ≤ place → k ≤ length ss → k ≤ length (take place ss)
+reaches : (k place : ℕ) (ss : List LiveSpan) → k ≤ place → k ≤ length ss
+    → k ≤ length (take place ss)
 reaches k place ss h g =
     elim (cases_lt (length ss) place) [
       | inl l ↦ omega (arith, ap length (take_all place ss (omega arith)))
       | inr l ↦ omega (arith, length-take-le place ss l)
     ]
 
-pub padded_take : (k place : ℕ) (ss : List Span) → k ≤ place → k ≤ length ss
+pub padded_take : (k place : ℕ) (ss : List LiveSpan) → k ≤ place → k ≤ length ss
     → take k (padded place ss) ≡ take k ss
 padded_take k place ss h g =
     take-append-le k (take place ss) (replicate (place - length ss) nowhere)
     (reaches k place ss h g)
     ∙ take-take k place ss h
 
-pub padded_drop : (k place : ℕ) (ss : List Span) → k ≤ place → k ≤ length ss
+pub padded_drop : (k place : ℕ) (ss : List LiveSpan) → k ≤ place → k ≤ length ss
     → drop k (padded place ss) ≡ padded (place - k) (drop k ss)
 padded_drop k place ss h g =
     let z : k + (place - k) ≡ place = omega arith in
@@ -75,7 +76,7 @@ padded_drop k place ss h g =
     ∙ ap (λ xs. xs ++ replicate (place - length ss) nowhere) (drop-take k (place - k) ss)
     ∙ ap (λ n. take (place - k) (drop k ss) ++ replicate n nowhere) m
 
-pub length-padded : (place : ℕ) (ss : List Span) → length (padded place ss) ≡ place
+pub length-padded : (place : ℕ) (ss : List LiveSpan) → length (padded place ss) ≡ place
 length-padded place ss =
     let n = length-append (take place ss) (replicate (place - length ss) nowhere) in
     let m = length-replicate (place - length ss) nowhere in
@@ -84,7 +85,7 @@ length-padded place ss =
       | inr l ↦ omega (arith, n, m, length-take-le place ss l)
     ]
 
-module _ (ls : List Literal) (ss : List Span) (given given_literals gap : ℕ)
+module _ (ls : List Literal) (ss : List LiveSpan) (given given_literals gap : ℕ)
     (n : IsNear ls ss given given_literals gap) where
   given_within : AreWithin (take (given + 1) ss) (length ls)
   given_within =
@@ -143,7 +144,7 @@ module _ (ls : List Literal) (ss : List Span) (given given_literals gap : ℕ)
   -- a clause behind the last span
   module _ (c : List Literal) (id : ℕ) (at : length ss + gap ≡ id)
       (few : length ls + length c + 1 < 2 ^ 32) where
-    abbrev x : Span
+    abbrev x : LiveSpan
     x = record { start = length ls; length = length c }
 
     lives : is_live (record { start = length ls; length = length c }) ≡ true

@@ -13,29 +13,31 @@ use Rattle.cnf.specs.Literal.{Literal}
 use Rattle.lrat_live.specs.Listed.{Listed, listed_at, without_id}
 use Rattle.lrat_live.specs.Near.{is_live, nowhere, literals_at, spanned, AreWithin, end_of}
 use Rattle.lrat_live.specs.Near.{AreSpread}
-use Rattle.lrat_live.specs.declared.spans.Span.{Span}
+use Rattle.lrat_live.specs.declared.spans.LiveSpan.{LiveSpan}
 use Rattle.lrat_live.proofs.Listed.{listed_here, listed_there}
 use Rattle.lrat_live.proofs.Clauses.{without_none}
 
 -- what an index gives past the end
-abbrev pub zeros : Span
+abbrev pub zeros : LiveSpan
 zeros = record { start = 0; length = 0 }
 
-pub spanned_live : (ls : List Literal) (n : ℕ) (s : Span) (ss : List Span) → is_live s ≡ true
+pub spanned_live : (ls : List Literal) (n : ℕ) (s : LiveSpan) (ss : List LiveSpan)
+    → is_live s ≡ true
     → spanned ls n (s ∷ ss) ≡ (n, literals_at ls s) ∷ spanned ls (n + 1) ss
 spanned_live ls n s ss e = rw e refl
 
-pub spanned_dead : (ls : List Literal) (n : ℕ) (s : Span) (ss : List Span) → is_live s ≡ false
+pub spanned_dead : (ls : List Literal) (n : ℕ) (s : LiveSpan) (ss : List LiveSpan)
+    → is_live s ≡ false
     → spanned ls n (s ∷ ss) ≡ spanned ls (n + 1) ss
 spanned_dead ls n s ss e = rw e refl
 
-pub end_live : (from : ℕ) (s : Span) → is_live s ≡ true → end_of from s ≡ s.start + s.length
+pub end_live : (from : ℕ) (s : LiveSpan) → is_live s ≡ true → end_of from s ≡ s.start + s.length
 end_live from s e = rw e refl
 
-pub end_dead : (from : ℕ) (s : Span) → is_live s ≡ false → end_of from s ≡ from
+pub end_dead : (from : ℕ) (s : LiveSpan) → is_live s ≡ false → end_of from s ≡ from
 end_dead from s e = rw e refl
 
-pub spanned-append : (ls : List Literal) (n : ℕ) (xs ys : List Span)
+pub spanned-append : (ls : List Literal) (n : ℕ) (xs ys : List LiveSpan)
     → spanned ls n (xs ++ ys) ≡ spanned ls n xs ++ spanned ls (n + length xs) ys
 spanned-append ls n [] ys = ap (λ m. spanned ls m ys) (omega arith)
 spanned-append ls n (s ∷ xs) ys =
@@ -51,7 +53,7 @@ spanned-append ls n (s ∷ xs) ys =
     ]
 
 -- under an id
-pub spanned_before : (ls : List Literal) (n : ℕ) (ss : List Span) (i : ℕ) → i < n
+pub spanned_before : (ls : List Literal) (n : ℕ) (ss : List LiveSpan) (i : ℕ) → i < n
     → listed_at (spanned ls n ss) i ≡ None
 spanned_before ls n [] i h = refl
 spanned_before ls n (s ∷ ss) i h =
@@ -63,7 +65,7 @@ spanned_before ls n (s ∷ ss) i h =
           ∙ spanned_before ls (n + 1) ss i (omega arith)
     ]
 
-pub spanned_at : (ls : List Literal) (n : ℕ) (ss : List Span) (k i : ℕ) → i ≡ n + k
+pub spanned_at : (ls : List Literal) (n : ℕ) (ss : List LiveSpan) (k i : ℕ) → i ≡ n + k
     → is_live (get_or ss k nowhere) ≡ true
     → listed_at (spanned ls n ss) i ≡ Some (literals_at ls (get_or ss k nowhere))
 spanned_at ls n [] k i e t = absurd (false≢true t)
@@ -79,7 +81,7 @@ spanned_at ls n (s ∷ ss) (suc k) i e t =
       | inr l ↦ ap (λ es. listed_at es i) (spanned_dead ls n s ss l) ∙ next
     ]
 
-pub spanned_gone : (ls : List Literal) (n : ℕ) (ss : List Span) (k i : ℕ) → i ≡ n + k
+pub spanned_gone : (ls : List Literal) (n : ℕ) (ss : List LiveSpan) (k i : ℕ) → i ≡ n + k
     → is_live (get_or ss k nowhere) ≡ false → listed_at (spanned ls n ss) i ≡ None
 spanned_gone ls n [] k i e t = refl
 spanned_gone ls n (s ∷ ss) zero i e t =
@@ -94,7 +96,7 @@ spanned_gone ls n (s ∷ ss) (suc k) i e t =
       | inr l ↦ ap (λ es. listed_at es i) (spanned_dead ls n s ss l) ∙ next
     ]
 
-pub spanned_after : (ls : List Literal) (n : ℕ) (ss : List Span) (i : ℕ) → n + length ss ≤ i
+pub spanned_after : (ls : List Literal) (n : ℕ) (ss : List LiveSpan) (i : ℕ) → n + length ss ≤ i
     → listed_at (spanned ls n ss) i ≡ None
 spanned_after ls n [] i h = refl
 spanned_after ls n (s ∷ ss) i h =
@@ -115,7 +117,8 @@ without_other : (i : ℕ) (c : List Literal) (es : Listed) (n : ℕ) → (n ≡ 
     → without_id i ((n, c) ∷ es) ≡ (n, c) ∷ without_id i es
 without_other i c es n e = rw (ne_eqb n i e) refl
 
-pub spanned_set : (ls : List Literal) (n : ℕ) (ss : List Span) (k i : ℕ) (x : Span) → i ≡ n + k
+pub spanned_set : (ls : List Literal) (n : ℕ) (ss : List LiveSpan) (k i : ℕ) (x : LiveSpan)
+    → i ≡ n + k
     → is_live x ≡ false → spanned ls n (set ss k x) ≡ without_id i (spanned ls n ss)
 spanned_set ls n [] k i x e d = refl
 spanned_set ls n (s ∷ ss) zero i x e d =
@@ -139,7 +142,8 @@ spanned_set ls n (s ∷ ss) (suc k) i x e d =
           ∙ sym (ap (without_id i) (spanned_dead ls n s ss l))
     ]
 
-pub spanned-le : (ls : List Literal) (n : ℕ) (ss : List Span) → length (spanned ls n ss) ≤ length ss
+pub spanned-le : (ls : List Literal) (n : ℕ) (ss : List LiveSpan)
+    → length (spanned ls n ss) ≤ length ss
 spanned-le ls n [] = omega arith
 spanned-le ls n (s ∷ ss) =
     let next = spanned-le ls (n + 1) ss in
@@ -149,7 +153,7 @@ spanned-le ls n (s ∷ ss) =
     ]
 
 -- where spans lie
-pub spread_le : (from : ℕ) (ss : List Span) (to : ℕ) → AreSpread from ss to → from ≤ to
+pub spread_le : (from : ℕ) (ss : List LiveSpan) (to : ℕ) → AreSpread from ss to → from ≤ to
 spread_le from [] to h = h
 spread_le from (s ∷ ss) to h =
     let next = spread_le (end_of from s) ss to h.1 in
@@ -158,7 +162,7 @@ spread_le from (s ∷ ss) to h =
       | inr l ↦ omega (arith, next, end_dead from s l)
     ]
 
-pub spread_down : (low from : ℕ) (ss : List Span) (to : ℕ) → low ≤ from → AreSpread from ss to
+pub spread_down : (low from : ℕ) (ss : List LiveSpan) (to : ℕ) → low ≤ from → AreSpread from ss to
     → AreSpread low ss to
 spread_down low from [] to le h = omega (arith, h)
 spread_down low from (s ∷ ss) to le h =
@@ -175,12 +179,12 @@ spread_down low from (s ∷ ss) to le h =
       )
     ]
 
-pub spread_up : (from : ℕ) (ss : List Span) (to high : ℕ) → to ≤ high → AreSpread from ss to
+pub spread_up : (from : ℕ) (ss : List LiveSpan) (to high : ℕ) → to ≤ high → AreSpread from ss to
     → AreSpread from ss high
 spread_up from [] to high le h = omega (arith, h)
 spread_up from (s ∷ ss) to high le h = (h.0, spread_up (end_of from s) ss to high le h.1)
 
-pub spread_set : (from : ℕ) (ss : List Span) (to k : ℕ) (x : Span) → is_live x ≡ false
+pub spread_set : (from : ℕ) (ss : List LiveSpan) (to k : ℕ) (x : LiveSpan) → is_live x ≡ false
     → AreSpread from ss to → AreSpread from (set ss k x) to
 spread_set from [] to k x d h = h
 spread_set from (s ∷ ss) to zero x d h = (
@@ -189,7 +193,7 @@ spread_set from (s ∷ ss) to zero x d h = (
       (spread_down from (end_of from s) ss to (up from s h.0) h.1),
 )
   where
-    up : (from : ℕ) (s : Span) → (is_live s ≡ true → from ≤ s.start) → from ≤ end_of from s
+    up : (from : ℕ) (s : LiveSpan) → (is_live s ≡ true → from ≤ s.start) → from ≤ end_of from s
     up from s h =
         elim (cases_Bool (is_live s)) [
           | inl l ↦ omega (arith, end_live from s l, h l)
@@ -197,20 +201,21 @@ spread_set from (s ∷ ss) to zero x d h = (
         ]
 spread_set from (s ∷ ss) to (suc k) x d h = (h.0, spread_set (end_of from s) ss to k x d h.1)
 
-pub spread_within : (from : ℕ) (ss : List Span) (to : ℕ) → AreSpread from ss to → AreWithin ss to
+pub spread_within : (from : ℕ) (ss : List LiveSpan) (to : ℕ) → AreSpread from ss to
+    → AreWithin ss to
 spread_within from [] to h p d l t = absurd (omega arith)
 spread_within from (s ∷ ss) to h zero d l t =
     omega (arith, spread_le (end_of from s) ss to h.1, end_live from s t)
 spread_within from (s ∷ ss) to h (suc p) d l t =
     spread_within (end_of from s) ss to h.1 p d (omega arith) t
 
-pub spread-append : (from : ℕ) (xs ys : List Span) (mid to : ℕ) → AreSpread from xs mid
+pub spread-append : (from : ℕ) (xs ys : List LiveSpan) (mid to : ℕ) → AreSpread from xs mid
     → AreSpread mid ys to → AreSpread from (xs ++ ys) to
 spread-append from [] ys mid to h k = spread_down from mid ys to h k
 spread-append from (s ∷ xs) ys mid to h k =
     (h.0, spread-append (end_of from s) xs ys mid to h.1 k)
 
-pub spread_take : (from : ℕ) (ss : List Span) (to k : ℕ) → AreSpread from ss to
+pub spread_take : (from : ℕ) (ss : List LiveSpan) (to k : ℕ) → AreSpread from ss to
     → AreSpread from (take k ss) to
 spread_take from [] to zero h = h
 spread_take from [] to (suc k) h = h
@@ -230,7 +235,7 @@ part_take : (xs : List Literal) (from n : ℕ) → slice_range xs from (from + n
     ≡ drop from (take (from + n) xs)
 part_take xs from n = between_is xs from (from + n)
 
-pub literals_below : (ls ms : List Literal) (s : Span) (to : ℕ) → s.start + s.length ≤ to
+pub literals_below : (ls ms : List Literal) (s : LiveSpan) (to : ℕ) → s.start + s.length ≤ to
     → take to ls ≡ take to ms → literals_at ls s ≡ literals_at ms s
 literals_below ls ms s to h e =
     let a : take (s.start + s.length) ls ≡ take (s.start + s.length) ms =
@@ -238,7 +243,7 @@ literals_below ls ms s to h e =
     ∙ take-take (s.start + s.length) to ms h in
     part_take ls s.start s.length ∙ ap (drop s.start) a ∙ sym (part_take ms s.start s.length)
 
-pub literals_above : (ls ms : List Literal) (s : Span) (from : ℕ) → from ≤ s.start
+pub literals_above : (ls ms : List Literal) (s : LiveSpan) (from : ℕ) → from ≤ s.start
     → drop from ls ≡ drop from ms → literals_at ls s ≡ literals_at ms s
 literals_above ls ms s from h e =
     let k : from + (s.start - from) ≡ s.start = omega arith in
@@ -248,7 +253,7 @@ literals_above ls ms s from h e =
     ∙ ap (λ m. drop m ms) k in
     ap (take (s.start + s.length - s.start)) a
 
-spanned_cons : (ls ms : List Literal) (n : ℕ) (s : Span) (xs ys : List Span)
+spanned_cons : (ls ms : List Literal) (n : ℕ) (s : LiveSpan) (xs ys : List LiveSpan)
     → (is_live s ≡ true → literals_at ls s ≡ literals_at ms s)
     → spanned ls (n + 1) xs ≡ spanned ms (n + 1) ys
     → spanned ls n (s ∷ xs) ≡ spanned ms n (s ∷ ys)
@@ -259,14 +264,14 @@ spanned_cons ls ms n s xs ys e f =
       | inr l ↦ spanned_dead ls n s xs l ∙ f ∙ sym (spanned_dead ms n s ys l)
     ]
 
-pub spanned_below : (ls ms : List Literal) (n : ℕ) (ss : List Span) (to : ℕ) → AreWithin ss to
+pub spanned_below : (ls ms : List Literal) (n : ℕ) (ss : List LiveSpan) (to : ℕ) → AreWithin ss to
     → take to ls ≡ take to ms → spanned ls n ss ≡ spanned ms n ss
 spanned_below ls ms n [] to h e = refl
 spanned_below ls ms n (s ∷ ss) to h e =
     spanned_cons ls ms n s ss ss (λ l. literals_below ls ms s to (h 0 s (omega arith) l) e)
     (spanned_below ls ms (n + 1) ss to (λ p d l t. h (suc p) d (omega arith) t) e)
 
-pub spanned_above : (ls ms : List Literal) (n from : ℕ) (ss : List Span) (to : ℕ)
+pub spanned_above : (ls ms : List Literal) (n from : ℕ) (ss : List LiveSpan) (to : ℕ)
     → AreSpread from ss to → drop from ls ≡ drop from ms → spanned ls n ss ≡ spanned ms n ss
 spanned_above ls ms n from [] to h e = refl
 spanned_above ls ms n from (s ∷ ss) to h e =
@@ -289,7 +294,7 @@ spanned_above ls ms n from (s ∷ ss) to h e =
     ]
 
 -- where all ids are below one, the spans from its place on are of no clause
-pub spanned_cut : (ls : List Literal) (n : ℕ) (ss : List Span) (k id : ℕ) → id ≤ n + k
+pub spanned_cut : (ls : List Literal) (n : ℕ) (ss : List LiveSpan) (k id : ℕ) → id ≤ n + k
     → All (λ (e : ℕ × List Literal). e.0 < id) (spanned ls n ss)
     → spanned ls n (take k ss) ≡ spanned ls n ss
 spanned_cut ls n [] zero id e a = refl
@@ -320,7 +325,7 @@ spanned_cut ls n (s ∷ ss) (suc k) id e a =
     ]))
 
 -- one span more
-spanned_first : (ls : List Literal) (n : ℕ) (ss : List Span) (i : ℕ) → i < length ss
+spanned_first : (ls : List Literal) (n : ℕ) (ss : List LiveSpan) (i : ℕ) → i < length ss
     → spanned ls n (take (i + 1) ss) ≡ spanned ls n (take i ss) ++ spanned ls (n + i)
     (get_or ss i nowhere ∷ [])
 spanned_first ls n ss i h =
@@ -329,7 +334,7 @@ spanned_first ls n ss i h =
     ∙ ap (λ m. spanned ls n (take i ss) ++ spanned ls (n + m) (get_or ss i nowhere ∷ []))
     (length-take-le i ss (omega arith))
 
-pub more_live : (ls : List Literal) (n : ℕ) (ss : List Span) (i : ℕ) → i < length ss
+pub more_live : (ls : List Literal) (n : ℕ) (ss : List LiveSpan) (i : ℕ) → i < length ss
     → is_live (get_or ss i nowhere) ≡ true
     → spanned ls n (take (i + 1) ss) ≡ spanned ls n (take i ss)
     ++ (n + i, literals_at ls (get_or ss i nowhere)) ∷ []
@@ -338,7 +343,7 @@ more_live ls n ss i h l =
     ∙ ap (λ es. spanned ls n (take i ss) ++ es)
     (spanned_live ls (n + i) (get_or ss i nowhere) [] l)
 
-pub more_dead : (ls : List Literal) (n : ℕ) (ss : List Span) (i : ℕ) → i < length ss
+pub more_dead : (ls : List Literal) (n : ℕ) (ss : List LiveSpan) (i : ℕ) → i < length ss
     → is_live (get_or ss i nowhere) ≡ false
     → spanned ls n (take (i + 1) ss) ≡ spanned ls n (take i ss)
 more_dead ls n ss i h l =

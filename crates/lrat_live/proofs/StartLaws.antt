@@ -12,7 +12,7 @@ use Rattle.std.proofs.Math.Seq.{take-append_seam, drop-append_seam}
 use Rattle.cnf.specs.Literal.{Literal}
 use Rattle.lrat_live.specs.Listed.{listed_from}
 use Rattle.lrat_live.specs.Near.{is_live, literals_at, spanned, spans_from, AreSpread}
-use Rattle.lrat_live.specs.declared.spans.Span.{Span}
+use Rattle.lrat_live.specs.declared.spans.LiveSpan.{LiveSpan}
 use Rattle.lrat_live.proofs.SpanLaws.{spanned_live, end_live}
 
 -- the literals of all clauses
@@ -41,7 +41,7 @@ spans_push start [] c =
 spans_push start (d ∷ cs) c =
     let n : (start + length d) + length (joined cs) ≡ start + length (d ++ joined cs) =
     omega (arith, length-append d (joined cs)) in
-    ap (λ (ss : List Span). record { start = start; length = length d } ∷ ss)
+    ap (λ (ss : List LiveSpan). record { start = start; length = length d } ∷ ss)
     (spans_push (start + length d) cs c
     ∙ ap (λ m. spans_from (start + length d) cs
     ++ record { start = m; length = length c } ∷ []) n)

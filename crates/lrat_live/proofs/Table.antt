@@ -6,31 +6,31 @@ use Rattle.std.proofs.lemmas.List.{get_or-map, length-map, map-set, set-get_or, 
 use Rattle.std.proofs.lemmas.List.{get_or-set_same, take_more, length-take-le}
 use Rattle.lrat_live.specs.Chains.{bucket_of, place_of, IsChained}
 use Rattle.lrat_live.specs.Table.{Cell, cell_of, cells_of, keys_of, nexts_of}
-use Rattle.lrat_live.specs.declared.entries.Entry.{Entry}
+use Rattle.lrat_live.specs.declared.entries.AddedEntry.{AddedEntry}
 use Rattle.lrat_live.proofs.Chains.{IsOnWalk, walk_bound, walk_found, chain_falls, walk_step}
 use Rattle.lrat_live.proofs.Chains.{chained_push}
 
-pub length-keys : (es : List Entry) → length (keys_of (cells_of es)) ≡ length es
+pub length-keys : (es : List AddedEntry) → length (keys_of (cells_of es)) ≡ length es
 length-keys es = length-map (cells_of es) (λ c. c.id) ∙ length-map es cell_of
 
-pub key_at : (es : List Entry) (p : ℕ) (d : Entry) → p < length es
+pub key_at : (es : List AddedEntry) (p : ℕ) (d : AddedEntry) → p < length es
     → slice_index (keys_of (cells_of es)) p ≡ (get_or es p d).id
 key_at es p d h =
     get_or-map (λ (c : Cell). c.id) (cells_of es) p (cell_of d) 0
     (omega (arith, length-map es cell_of))
     ∙ ap (λ (c : Cell). c.id) (get_or-map cell_of es p d (cell_of d) h)
 
-pub next_at : (es : List Entry) (p : ℕ) (d : Entry) → p < length es
+pub next_at : (es : List AddedEntry) (p : ℕ) (d : AddedEntry) → p < length es
     → slice_index (nexts_of es) p ≡ (get_or es p d).next
-next_at es p d h = get_or-map (λ (e : Entry). e.next) es p d 0 h
+next_at es p d h = get_or-map (λ (e : AddedEntry). e.next) es p d 0 h
 
-pub place_within : (buckets id : ℕ) (es : List Entry) (p : ℕ)
+pub place_within : (buckets id : ℕ) (es : List AddedEntry) (p : ℕ)
     → IsOnWalk buckets id (keys_of (cells_of es)) p → 0 < p → p - 1 < length es
 place_within buckets id es p w positive =
     omega (arith, walk_bound buckets id (keys_of (cells_of es)) p w, length-keys es)
 
 -- a walk down the chain of an id
-module _ (buckets id : ℕ) (heads : List ℕ) (es : List Entry) (p : ℕ) (d : Entry)
+module _ (buckets id : ℕ) (heads : List ℕ) (es : List AddedEntry) (p : ℕ) (d : AddedEntry)
     (w : IsOnWalk buckets id (keys_of (cells_of es)) p) (positive : 0 < p) where
   abbrev q : ℕ
   q = p - 1
@@ -64,7 +64,8 @@ module _ (buckets id : ℕ) (heads : List ℕ) (es : List Entry) (p : ℕ) (d : 
       at_place (λ u. ne (sym (key_at es q d within) ∙ u)))
 
 -- an entry's link is none of its cell
-pub cells-set_same : (es : List Entry) (i : ℕ) (d e : Entry) → cell_of e ≡ cell_of (get_or es i d)
+pub cells-set_same : (es : List AddedEntry) (i : ℕ) (d e : AddedEntry)
+    → cell_of e ≡ cell_of (get_or es i d)
     → i < length es → cells_of (set es i e) ≡ cells_of es
 cells-set_same es i d e same h =
     map-set cell_of es i e
@@ -72,7 +73,7 @@ cells-set_same es i d e same h =
     ∙ set-get_or (cells_of es) i (cell_of d)
 
 -- the entry at i is linked to the head of its bucket, and becomes the head
-module _ (buckets : ℕ) (heads : List ℕ) (es : List Entry) (i bucket : ℕ) (d e : Entry)
+module _ (buckets : ℕ) (heads : List ℕ) (es : List AddedEntry) (i bucket : ℕ) (d e : AddedEntry)
     (h : i < length es) (same : cell_of e ≡ cell_of (get_or es i d))
     (is : bucket ≡ bucket_of buckets (get_or es i d).id) (small : bucket < buckets)
     (next : e.next ≡ slice_index heads bucket)
@@ -90,14 +91,15 @@ module _ (buckets : ℕ) (heads : List ℕ) (es : List Entry) (i bucket : ℕ) (
   key = key_at es i d h
 
   linked : nexts_of (set es i e) ≡ set (nexts_of es) i e.next
-  linked = map-set (λ (x : Entry). x.next) es i e
+  linked = map-set (λ (x : AddedEntry). x.next) es i e
 
   pub link_more : IsChained buckets (set heads bucket (i + 1))
       (take (i + 1) (keys_of (cells_of (set es i e)))) (nexts_of (set es i e))
   link_more =
       let k : ℕ = slice_index keys i in
       let b : bucket ≡ bucket_of buckets k = is ∙ ap (bucket_of buckets) (sym key) in
-      let long : i < length (nexts_of es) = omega (arith, length-map es (λ (x : Entry). x.next)) in
+      let long : i < length (nexts_of es) =
+      omega (arith, length-map es (λ (x : AddedEntry). x.next)) in
       let all : IsChained buckets (set heads (bucket_of buckets k) (i + 1)) (take i keys ++ k ∷ [])
       (nexts_of (set es i e)) =
       chained_push buckets heads (take i keys) (nexts_of es) k (i + 1) (nexts_of (set es i e)) c

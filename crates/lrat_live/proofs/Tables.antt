@@ -10,25 +10,27 @@ use Rattle.lrat_live.specs.Listed.{ids_of}
 use Rattle.lrat_live.specs.Chains.{bucket_of, IsChained}
 use Rattle.lrat_live.specs.Table.{Cell, cell_of, cells_of, keys_of, nexts_of, clauses_in, AllLive}
 use Rattle.lrat_live.specs.Table.{IsLaid, IsAboveLast, IsTable}
-use Rattle.lrat_live.specs.declared.entries.Entry.{Entry}
+use Rattle.lrat_live.specs.declared.entries.AddedEntry.{AddedEntry}
 use Rattle.lrat_live.proofs.Chains.{chained_push}
 use Rattle.lrat_live.proofs.Table.{length-keys}
 use Rattle.lrat_live.proofs.Clauses.{laid_push, laid_within, rises_push, clauses_push}
 use Rattle.lrat_live.proofs.Clauses.{rises_clauses, live_ids}
 
-cells_push : (es : List Entry) (e : Entry) → cells_of (es ++ e ∷ []) ≡ cells_of es ++ cell_of e ∷ []
+cells_push : (es : List AddedEntry) (e : AddedEntry)
+    → cells_of (es ++ e ∷ []) ≡ cells_of es ++ cell_of e ∷ []
 cells_push es e = map_push cell_of es e
 
-keys_push : (es : List Entry) (e : Entry)
+keys_push : (es : List AddedEntry) (e : AddedEntry)
     → keys_of (cells_of (es ++ e ∷ [])) ≡ keys_of (cells_of es) ++ e.id ∷ []
 keys_push es e = ap keys_of (cells_push es e)
     ∙ map_push (λ (c : Cell). c.id) (cells_of es) (cell_of e)
 
-nexts_push : (es : List Entry) (e : Entry) → nexts_of (es ++ e ∷ []) ≡ nexts_of es ++ e.next ∷ []
-nexts_push es e = map_push (λ (x : Entry). x.next) es e
+nexts_push : (es : List AddedEntry) (e : AddedEntry)
+    → nexts_of (es ++ e ∷ []) ≡ nexts_of es ++ e.next ∷ []
+nexts_push es e = map_push (λ (x : AddedEntry). x.next) es e
 
 -- one more clause: grown are the entries es, linked anew
-module _ (ls more : List Literal) (es grown : List Entry) (before hs : List ℕ) (e : Entry)
+module _ (ls more : List Literal) (es grown : List AddedEntry) (before hs : List ℕ) (e : AddedEntry)
     (t : IsTable ls es before) (same : cells_of grown ≡ cells_of es) (start : e.start ≡ length ls)
     (long : e.length ≡ length more) (live : e.live ≡ true) where
   laid : IsLaid 0 (cells_of grown) (length ls)
@@ -53,7 +55,8 @@ module _ (ls more : List Literal) (es grown : List Entry) (before hs : List ℕ)
     pushed : IsChained (length hs) (set hs bucket place) (keys_of (cells_of grown) ++ e.id ∷ [])
         (nexts_of (grown ++ e ∷ []))
     pushed =
-        let n : length (nexts_of grown) ≡ length grown = length-map grown (λ (x : Entry). x.next) in
+        let n : length (nexts_of grown) ≡ length grown =
+        length-map grown (λ (x : AddedEntry). x.next) in
         let k : length (keys_of (cells_of grown)) ≡ length grown = length-keys grown in
         let all = chained_push (length hs) hs (keys_of (cells_of grown)) (nexts_of grown) e.id place
         (nexts_of (grown ++ e ∷ [])) chained (omega arith) (subst (λ b. b < length hs) is small)
@@ -101,7 +104,7 @@ live_above ls cs id live h p e =
     subst (λ ks. slice_index ks p < id) same (rw r below)
 
 -- live entries alone, linked anew
-pub table_reclaimed : (ls kept : List Literal) (es compacted linked : List Entry)
+pub table_reclaimed : (ls kept : List Literal) (es compacted linked : List AddedEntry)
     (before hs : List ℕ) → IsTable ls es before → IsLaid 0 (cells_of compacted) (length kept)
     → AllLive (cells_of compacted) → clauses_in kept (cells_of compacted) ≡ clauses_in ls
     (cells_of es) → length compacted ≤ length es → length kept ≤ length ls
@@ -123,7 +126,7 @@ table_reclaimed ls kept es compacted linked before hs t laid live clauses fewer 
     }
 
 -- the literals of an entry lie in the table
-pub literals_end : (ls : List Literal) (es : List Entry) (i : ℕ) (d : Entry)
+pub literals_end : (ls : List Literal) (es : List AddedEntry) (i : ℕ) (d : AddedEntry)
     → IsLaid 0 (cells_of es) (length ls) → i < length es
     → (get_or es i d).start + (get_or es i d).length ≤ length ls
 literals_end ls es i d h l =

@@ -16,7 +16,7 @@ use Rattle.cnf.specs.Literal.{Literal}
 use Rattle.lrat_live.specs.Listed.{Listed, ids_of, IsRising}
 use Rattle.lrat_live.specs.Near.{is_live, literals_at, spanned, AreSpread}
 use Rattle.lrat_live.specs.Near.{AreWithin}
-use Rattle.lrat_live.specs.declared.spans.Span.{Span}
+use Rattle.lrat_live.specs.declared.spans.LiveSpan.{LiveSpan}
 use Rattle.lrat_live.proofs.Listed.{Rises, rises_from}
 use Rattle.lrat_live.proofs.SpanLaws.{spanned-append, spanned_live, spanned_dead, spanned_below}
 use Rattle.lrat_live.proofs.SpanLaws.{spanned_above, spread_le, spread_down, spread-append}
@@ -40,14 +40,15 @@ below_later xs ys e r = below xs ys e (rises_from (xs ++ e ∷ ys) r)
         (below xs ys e r.1)
 
 -- the spans before a place, and those from it on
-split : (ls : List Literal) (n : ℕ) (ss : List Span) (i : ℕ) (ys : List Span) → i ≤ length ss
+split : (ls : List Literal) (n : ℕ) (ss : List LiveSpan) (i : ℕ) (ys : List LiveSpan)
+    → i ≤ length ss
     → drop i ss ≡ ys → spanned ls n ss ≡ spanned ls n (take i ss) ++ spanned ls (n + i) ys
 split ls n ss i ys h e =
     ap (spanned ls n) (sym (take-append-drop i ss)) ∙ spanned-append ls n (take i ss) (drop i ss)
     ∙ ap (λ m. spanned ls n (take i ss) ++ spanned ls (n + m) (drop i ss)) (length-take-le i ss h)
     ∙ ap (λ zs. spanned ls n (take i ss) ++ spanned ls (n + i) zs) e
 
-split_set : (ls : List Literal) (n : ℕ) (ss : List Span) (i : ℕ) (x : Span) → i < length ss
+split_set : (ls : List Literal) (n : ℕ) (ss : List LiveSpan) (i : ℕ) (x : LiveSpan) → i < length ss
     → spanned ls n (set ss i x)
     ≡ spanned ls n (take i ss) ++ spanned ls (n + i) (x ∷ drop (i + 1) ss)
 split_set ls n ss i x h =
@@ -56,7 +57,7 @@ split_set ls n ss i x h =
     ∙ ap (λ zs. spanned ls n zs ++ spanned ls (n + i) (x ∷ drop (i + 1) ss)) (take-set ss i x)
 
 -- the first live clause is taken out
-module _ (ls : List Literal) (n : ℕ) (ss : List Span) (i : ℕ) (d : Span) (h : i < length ss)
+module _ (ls : List Literal) (n : ℕ) (ss : List LiveSpan) (i : ℕ) (d : LiveSpan) (h : i < length ss)
     (none : spanned ls n (take i ss) ≡ []) where
   pub first_live : is_live (get_or ss i d) ≡ true
       → spanned ls n ss ≡ (n + i, literals_at ls (get_or ss i d))
@@ -66,14 +67,14 @@ module _ (ls : List Literal) (n : ℕ) (ss : List Span) (i : ℕ) (d : Span) (h 
       ∙ ap (λ es. es ++ spanned ls (n + i) (get_or ss i d ∷ drop (i + 1) ss)) none
       ∙ spanned_live ls (n + i) (get_or ss i d) (drop (i + 1) ss) live
 
-  pub first_out : (x : Span) → is_live x ≡ false
+  pub first_out : (x : LiveSpan) → is_live x ≡ false
       → spanned ls n (set ss i x) ≡ spanned ls (n + i + 1) (drop (i + 1) ss)
   first_out x dead =
       split_set ls n ss i x h
       ∙ ap (λ es. es ++ spanned ls (n + i) (x ∷ drop (i + 1) ss)) none
       ∙ spanned_dead ls (n + i) x (drop (i + 1) ss) dead
 
-  pub moved_one : (far now : Listed) (x : Span) → is_live (get_or ss i d) ≡ true
+  pub moved_one : (far now : Listed) (x : LiveSpan) → is_live (get_or ss i d) ≡ true
       → is_live x ≡ false → now ≡ far ++ (n + i, literals_at ls (get_or ss i d)) ∷ []
       → now ++ spanned ls n (set ss i x) ≡ far ++ spanned ls n ss
   moved_one far now x live dead e =
@@ -83,7 +84,7 @@ module _ (ls : List Literal) (n : ℕ) (ss : List Span) (i : ℕ) (d : Span) (h 
       (spanned ls (n + i + 1) (drop (i + 1) ss))
       ∙ ap (λ es. far ++ es) (sym (first_live live))
 
-  pub none_out : (x : Span) → is_live x ≡ false → spanned ls n (take (i + 1) (set ss i x)) ≡ []
+  pub none_out : (x : LiveSpan) → is_live x ≡ false → spanned ls n (take (i + 1) (set ss i x)) ≡ []
   none_out x dead =
       ap (spanned ls n) (take_more_set ss i x h) ∙ spanned-append ls n (take i ss) (x ∷ [])
       ∙ ap (λ es. es ++ spanned ls (n + length (take i ss)) (x ∷ [])) none
@@ -96,7 +97,8 @@ module _ (ls : List Literal) (n : ℕ) (ss : List Span) (i : ℕ) (d : Span) (h 
       ∙ ap (λ es. es ++ spanned ls (n + length (take i ss)) (get_or ss i d ∷ [])) none
       ∙ spanned_dead ls (n + length (take i ss)) (get_or ss i d) [] dead
 
-pub within_set : (ss : List Span) (most k : ℕ) (x : Span) → is_live x ≡ false → AreWithin ss most
+pub within_set : (ss : List LiveSpan) (most k : ℕ) (x : LiveSpan) → is_live x ≡ false
+    → AreWithin ss most
     → AreWithin (set ss k x) most
 within_set [] most k x dead h p d l t = h p d l t
 within_set (s ∷ ss) most zero x dead h zero d l t = absurd (false≢true (sym dead ∙ t))
@@ -106,7 +108,7 @@ within_set (s ∷ ss) most (suc k) x dead h (suc p) d l t =
     within_set ss most k x dead (λ q e m u. h (suc q) e (omega arith) u) p d (omega arith) t
 
 -- literals that move down to where the clauses before them end
-module _ (ls : List Literal) (ss : List Span) (i end : ℕ) (d : Span) (h : i < length ss)
+module _ (ls : List Literal) (ss : List LiveSpan) (i end : ℕ) (d : LiveSpan) (h : i < length ss)
     (rest : AreSpread end (drop i ss) (length ls)) where
   here : AreSpread end (get_or ss i d ∷ drop (i + 1) ss) (length ls)
   here = subst (λ xs. AreSpread end xs (length ls)) (drop_more ss i d h) rest
@@ -139,7 +141,8 @@ module _ (ls : List Literal) (ss : List Span) (i end : ℕ) (d : Span) (h : i < 
         spread_le ((get_or ss i d).start + (get_or ss i d).length) (drop (i + 1) ss) (length ls)
         later
 
-    module _ (ms : List Literal) (count : ℕ) (x : Span) (counts : count ≡ (get_or ss i d).length)
+    module _ (ms : List Literal) (count : ℕ) (x : LiveSpan)
+        (counts : count ≡ (get_or ss i d).length)
         (moved : ms ≡ paste ls end (drop (get_or ss i d).start ls) count)
         (start : x.start ≡ end) (long : x.length ≡ count) (lives : is_live x ≡ true) where
       room : count ≤ length (drop (get_or ss i d).start ls)
@@ -242,7 +245,7 @@ module _ (ls : List Literal) (ss : List Span) (i end : ℕ) (d : Span) (h : i < 
           (drop_more ss i d h))
 
 -- literals past the last span are dropped
-pub clauses_cut : (ls : List Literal) (ss : List Span) (from end n : ℕ) → AreSpread from ss end
+pub clauses_cut : (ls : List Literal) (ss : List LiveSpan) (from end n : ℕ) → AreSpread from ss end
     → spanned (take end ls) n ss ≡ spanned ls n ss
 clauses_cut ls ss from end n spread =
     spanned_below (take end ls) ls n ss end (spread_within from ss end spread)

@@ -5,7 +5,7 @@ use Rattle.std.specs.List.{AllByRecursion}
 use Rattle.cnf.specs.Numbers.{RisesFrom}
 use Rattle.cnf.specs.Literal.{Literal}
 use Rattle.lrat_live.specs.Chains.{IsChained}
-use Rattle.lrat_live.specs.declared.entries.Entry.{Entry}
+use Rattle.lrat_live.specs.declared.entries.AddedEntry.{AddedEntry}
 
 -- an entry without its link
 pub record Cell : Type 0 where
@@ -14,16 +14,16 @@ pub record Cell : Type 0 where
   pub length : ℕ
   pub live : Bool
 
-abbrev pub cell_of : Entry → Cell
+abbrev pub cell_of : AddedEntry → Cell
 cell_of e = record { id = e.id; start = e.start; length = e.length; live = e.live }
 
-abbrev pub cells_of : List Entry → List Cell
+abbrev pub cells_of : List AddedEntry → List Cell
 cells_of es = map cell_of es
 
 abbrev pub keys_of : List Cell → List ℕ
 keys_of cs = map (λ c. c.id) cs
 
-abbrev pub nexts_of : List Entry → List ℕ
+abbrev pub nexts_of : List AddedEntry → List ℕ
 nexts_of es = map (λ e. e.next) es
 
 abbrev pub literals_of : List Literal → Cell → List Literal
@@ -55,7 +55,8 @@ pub record IsGrown (ls : List Literal) (cs : List Cell) (ms : List Literal) (ds 
 abbrev pub IsAboveLast : ℕ → List ℕ → Type 0
 IsAboveLast key ks = (p : ℕ) → p + 1 ≡ length ks → slice_index ks p < key
 
-pub record IsTable (literals : List Literal) (entries : List Entry) (heads : List ℕ) : Type 0 where
+pub record IsTable (literals : List Literal) (entries : List AddedEntry)
+    (heads : List ℕ) : Type 0 where
   pub laid : IsLaid 0 (cells_of entries) (length literals)
   pub rising : RisesFrom 0 (keys_of (cells_of entries))
   pub few_literals : length literals + 1 < 2 ^ 32

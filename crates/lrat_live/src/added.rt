@@ -11,7 +11,7 @@ ghost use Rattle.lrat_live.specs.Pages.{count_in};
 
 use crate::append::append;
 use crate::counts::count_entries;
-use crate::entries::{Entry, find, is_above};
+use crate::entries::{AddedEntry, find, is_above};
 use crate::pages::Counts;
 use crate::reclaim::reclaim;
 use cnf::types::Lit;
@@ -30,7 +30,7 @@ pub(crate) struct Added {
     /// The clauses' literals, one after another.
     lits: Vec<Lit>,
     /// In rising id; their clauses lie in this order.
-    entries: Vec<Entry>,
+    entries: Vec<AddedEntry>,
     /// For each bucket the place of its newest entry, from 1, or 0.
     heads: Vec<u32>,
     /// What reclaiming would free, in literals.

@@ -3,7 +3,7 @@ ghost use Rattle.std.specs.Prelude.{◌≡◌, ◌∷◌, [], ◌++◌, OnOk, On
 ghost use Rattle.lrat_live.specs.Table.{cells_of, keys_of, clauses_in, IsTable, IsGrown};
 ghost use Rattle.lrat_live.specs.Table.{IsAboveLast};
 
-use crate::entries::{Entry, bucket, grow};
+use crate::entries::{AddedEntry, bucket, grow};
 use cnf::types::Lit;
 use std::alloc::AllocError;
 
@@ -13,7 +13,7 @@ const MOST: usize = 4294967294;
 /// Adds a clause under an id above all others; when room is refused the clauses stay as they are.
 pub(crate) fn append(
     lits: &mut Vec<Lit>,
-    entries: &mut Vec<Entry>,
+    entries: &mut Vec<AddedEntry>,
     heads: &mut Vec<u32>,
     id: u64,
     clause: &[Lit],
@@ -36,7 +36,7 @@ pub(crate) fn append(
     entries.reserve(1)?;
     lits.extend_from_slice(clause)?;
     let bucket = bucket(id, heads.len());
-    entries.push(Entry {
+    entries.push(AddedEntry {
         id,
         start: start as u32,
         length: clause.len() as u32,

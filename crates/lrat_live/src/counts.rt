@@ -7,7 +7,7 @@ ghost use Rattle.lrat_live.specs.Counts.{AreLowered};
 ghost use Rattle.lrat_live.specs.Pages.{count_in};
 ghost use Rattle.lrat_live.specs.Table.{cells_of, clauses_in, IsLaid};
 
-use crate::entries::Entry;
+use crate::entries::AddedEntry;
 use crate::pages::Counts;
 use cnf::types::Lit;
 use std::alloc::AllocError;
@@ -81,7 +81,7 @@ pub(crate) fn count_last(is_counted: bool, counts: &mut Counts, clause: &[Lit]) 
 pub(crate) fn count_entries(
     counts: &mut Counts,
     lits: &[Lit],
-    entries: &[Entry],
+    entries: &[AddedEntry],
 ) -> Result<(), AllocError>
     requires { IsLaid 0 (cells_of entries.now) (length lits.now) }
     ensures { OnOk result ((es : List (ℕ × List Literal)) → AreCounts (count_in counts.old) es

@@ -15,7 +15,7 @@ use std::alloc::AllocError;
 
 /// A clause that was added: its id, and where its literals lie.
 #[derive(Clone, Copy, Drop)]
-pub(crate) struct Entry {
+pub(crate) struct AddedEntry {
     /// From 1, below 2^62.
     pub(crate) id: u64,
     /// The place of its first literal among those of all entries.
@@ -49,7 +49,7 @@ pub(crate) fn bucket(id: u64, buckets: usize) -> usize
 
 /// The place of an id, where no id between it and the last one is missing.
 #[inline]
-fn find_near(entries: &[Entry], id: u64) -> Option<usize>
+fn find_near(entries: &[AddedEntry], id: u64) -> Option<usize>
     requires { RisesFrom 0 (keys_of (cells_of entries.now)) }
     ensures { IfSome result (λ p. place_of id (keys_of (cells_of entries.now)) ≡ p + 1) }
 {
@@ -68,7 +68,7 @@ fn find_near(entries: &[Entry], id: u64) -> Option<usize>
 
 /// The place of an id, from 0.
 #[inline]
-pub(crate) fn find(heads: &[u32], entries: &[Entry], id: u64) -> Option<usize>
+pub(crate) fn find(heads: &[u32], entries: &[AddedEntry], id: u64) -> Option<usize>
     requires rising { RisesFrom 0 (keys_of (cells_of entries.now)) }
     requires chained { IsChained (length heads.now) heads.now (keys_of (cells_of entries.now))
         (nexts_of entries.now) }
@@ -94,7 +94,7 @@ pub(crate) fn find(heads: &[u32], entries: &[Entry], id: u64) -> Option<usize>
 }
 
 /// Whether an id is above those of all entries, dead ones too.
-pub(crate) fn is_above(entries: &[Entry], id: u64) -> bool
+pub(crate) fn is_above(entries: &[AddedEntry], id: u64) -> bool
     ensures { IsTrue result ↔ IsAboveLast id (keys_of (cells_of entries.now)) }
 {
     match entries.last() {
@@ -104,7 +104,7 @@ pub(crate) fn is_above(entries: &[Entry], id: u64) -> bool
 }
 
 /// Links all entries anew.
-pub(crate) fn link(heads: &mut [u32], entries: &mut [Entry])
+pub(crate) fn link(heads: &mut [u32], entries: &mut [AddedEntry])
     requires room { length entries.old ≤ length heads.old }
     requires few { length entries.old < 2 ^ 32 }
     ensures chained { IsChained (length heads.new) heads.new (keys_of (cells_of entries.new))
@@ -125,7 +125,7 @@ const BUCKETS: usize = 16;
 
 /// Makes room for one more entry in the buckets, of which there are at least as many as entries.
 /// When it is refused nothing changes.
-pub(crate) fn grow(heads: &mut Vec<u32>, entries: &mut [Entry]) -> Result<(), AllocError>
+pub(crate) fn grow(heads: &mut Vec<u32>, entries: &mut [AddedEntry]) -> Result<(), AllocError>
     requires room { length entries.old ≤ length heads.old.items }
     requires few { length entries.old < 2 ^ 32 }
     requires chained { IsChained (length heads.old.items) heads.old.items

@@ -19,7 +19,7 @@ ghost use Rattle.lrat_live.specs.Pages.{count_in};
 
 use crate::added::{Added, is_mostly_dead};
 use crate::pages::Counts;
-use crate::spans::{DEAD, MOST, Span, count_live, is_live, literals_at, spans_of};
+use crate::spans::{DEAD, LiveSpan, MOST, count_live, is_live, literals_at, spans_of};
 use crate::window::{extend, move_on, place_for, squeeze};
 use cnf::types::{Formula, Lit};
 use std::alloc::AllocError;
@@ -32,7 +32,7 @@ pub(crate) struct Near {
     lits: Vec<Lit>,
     /// At place 0 that of no clause; then those of the formula's ids, from 1; then those of the
     /// recent ids, each of them one more than the one before.
-    spans: Vec<Span>,
+    spans: Vec<LiveSpan>,
     /// How many clauses the formula has, dead ones too.
     given: u64,
     /// How many literals they have.
@@ -63,7 +63,7 @@ impl Model for Near {
 
 /// The place of a live clause by its id.
 #[inline]
-fn place_of(spans: &[Span], given: u64, gap: u64, id: u64) -> Option<usize>
+fn place_of(spans: &[LiveSpan], given: u64, gap: u64, id: u64) -> Option<usize>
     requires covers { given + 1 ≤ length spans.now }
     requires gap { given + 1 + gap < 2 ^ 64 }
     ensures { MatchOption result ((ls : List Literal)
@@ -184,7 +184,7 @@ impl Near {
 
     /// Drops the literals of dead recent clauses, where these are mostly dead.
     pub(crate) fn reclaim(&mut self)
-        ensures { self.new ≡ self.old }
+        ensures unchanged { self.new ≡ self.old }
     {
         let head = self.given as usize + 1;
         let all = self.lits.len() - self.given_lits + (self.spans.len() - head);

@@ -3,11 +3,11 @@ ghost use Rattle.std.specs.Prelude.{◌≡◌, ◌+◌, ◌<◌, ◌≤◌, ◌^
 ghost use lib.Seq.{paste};
 ghost use Rattle.lrat_live.specs.Table.{cells_of, clauses_in, IsLaid, IsTable, AllLive};
 
-use crate::entries::{Entry, link};
+use crate::entries::{AddedEntry, link};
 use cnf::types::Lit;
 
 /// Drops the dead entries and their literals.
-pub(crate) fn compact(entries: &mut Vec<Entry>, lits: &mut Vec<Lit>)
+pub(crate) fn compact(entries: &mut Vec<AddedEntry>, lits: &mut Vec<Lit>)
     requires laid { IsLaid 0 (cells_of entries.old.items) (length lits.old.items) }
     requires few { length lits.old.items < 2 ^ 32 }
     ensures laid { IsLaid 0 (cells_of entries.new.items) (length lits.new.items) }
@@ -27,7 +27,7 @@ pub(crate) fn compact(entries: &mut Vec<Entry>, lits: &mut Vec<Lit>)
         let start = entry.start as usize;
         let length = entry.length as usize;
         move_down(lits, start, length, end);
-        entries[kept] = Entry {
+        entries[kept] = AddedEntry {
             id: entry.id,
             start: end as u32,
             length: entry.length,
@@ -54,7 +54,7 @@ pub(crate) fn move_down(lits: &mut Vec<Lit>, start: usize, count: usize, to: usi
 }
 
 /// Drops what is dead, and links the entries that are left in no more buckets than they need.
-pub(crate) fn reclaim(lits: &mut Vec<Lit>, entries: &mut Vec<Entry>, heads: &mut Vec<u32>)
+pub(crate) fn reclaim(lits: &mut Vec<Lit>, entries: &mut Vec<AddedEntry>, heads: &mut Vec<u32>)
     requires { IsTable lits.old.items entries.old.items heads.old.items }
     ensures table { IsTable lits.new.items entries.new.items heads.new.items }
     ensures live { AllLive (cells_of entries.new.items) }

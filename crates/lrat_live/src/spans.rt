@@ -16,7 +16,7 @@ use std::alloc::AllocError;
 
 /// Where a clause's literals lie.
 #[derive(Clone, Copy, Drop)]
-pub(crate) struct Span {
+pub(crate) struct LiveSpan {
     /// The place of its first literal, at most `MOST`, or `DEAD` where no clause is live.
     pub(crate) start: u32,
     /// How many literals it has.
@@ -30,10 +30,10 @@ pub(crate) const DEAD: u32 = 4_294_967_295;
 pub(crate) const MOST: usize = 4_294_967_294;
 
 /// The span of no clause.
-pub(crate) fn nowhere() -> Span
+pub(crate) fn nowhere() -> LiveSpan
     ensures { result ≡ nowhere }
 {
-    Span {
+    LiveSpan {
         start: DEAD,
         length: 0,
     }
@@ -41,7 +41,7 @@ pub(crate) fn nowhere() -> Span
 
 /// Whether the clause is live.
 #[inline]
-pub(crate) fn is_live(span: Span) -> bool
+pub(crate) fn is_live(span: LiveSpan) -> bool
     ensures { result ≡ is_live span }
 {
     span.start != DEAD
@@ -49,7 +49,7 @@ pub(crate) fn is_live(span: Span) -> bool
 
 /// The literals of a live clause.
 #[inline]
-pub(crate) fn literals_at(lits: &[Lit], span: Span) -> &[Lit]
+pub(crate) fn literals_at(lits: &[Lit], span: LiveSpan) -> &[Lit]
     requires { span.start + span.length ≤ length lits.now }
     ensures { result.now ≡ literals_at lits.now span }
 {
@@ -59,7 +59,7 @@ pub(crate) fn literals_at(lits: &[Lit], span: Span) -> &[Lit]
 
 /// The spans of a formula's clauses by their ids, from 1; no clause has the id 0. An AllocError
 /// comes where memory was refused, or where there are more than `MOST` literals.
-pub(crate) fn spans_of(clauses: &ClauseList) -> Result<Vec<Span>, AllocError>
+pub(crate) fn spans_of(clauses: &ClauseList) -> Result<Vec<LiveSpan>, AllocError>
     ensures spans { IfOk result (λ spans. spans.items ≡ nowhere ∷ spans_from 0 clauses.now) }
     ensures few { OnOk result (length (flat_map (λ c. c) clauses.now) + 1 < 2 ^ 32) }
 {
@@ -72,7 +72,7 @@ pub(crate) fn spans_of(clauses: &ClauseList) -> Result<Vec<Span>, AllocError>
         if length > MOST - start {
             return Err(AllocError);
         }
-        spans.push(Span {
+        spans.push(LiveSpan {
             start: start as u32,
             length: length as u32,
         })?;
@@ -85,7 +85,7 @@ pub(crate) fn spans_of(clauses: &ClauseList) -> Result<Vec<Span>, AllocError>
 pub(crate) fn count_live(
     counts: &mut Counts,
     lits: &[Lit],
-    spans: &[Span],
+    spans: &[LiveSpan],
 ) -> Result<(), AllocError>
     requires { AreWithin spans.now (length lits.now) }
     ensures { OnOk result ((es : List (ℕ × List Literal)) (n : ℕ)

@@ -6,7 +6,7 @@ ghost use Rattle.lrat_live.specs.Near.{spanned, padded, nowhere, AreWithin, AreS
 
 use crate::added::Added;
 use crate::reclaim::move_down;
-use crate::spans::{DEAD, Span, is_live, literals_at, nowhere};
+use crate::spans::{DEAD, LiveSpan, is_live, literals_at, nowhere};
 use cnf::types::Lit;
 use std::alloc::AllocError;
 
@@ -46,7 +46,7 @@ pub(crate) fn place_for(
 /// the clauses stay as they are.
 pub(crate) fn extend(
     lits: &mut Vec<Lit>,
-    spans: &mut Vec<Span>,
+    spans: &mut Vec<LiveSpan>,
     place: usize,
     clause: &[Lit],
 ) -> Result<(), AllocError>
@@ -62,7 +62,7 @@ pub(crate) fn extend(
     spans.reserve(1)?;
     let start = lits.len();
     lits.extend_from_slice(clause)?;
-    spans.push(Span {
+    spans.push(LiveSpan {
         start: start as u32,
         length: clause.len() as u32,
     })?;
@@ -73,7 +73,7 @@ pub(crate) fn extend(
 pub(crate) fn move_on(
     far: &mut Added,
     lits: &[Lit],
-    spans: &mut [Span],
+    spans: &mut [LiveSpan],
     first: u64,
 ) -> Result<(), AllocError>
     requires within { AreWithin spans.old (length lits.now) }
@@ -97,7 +97,7 @@ pub(crate) fn move_on(
 }
 
 /// Moves the literals of live clauses down over dead ones, as far as a place.
-pub(crate) fn squeeze(lits: &mut Vec<Lit>, spans: &mut [Span], from: usize)
+pub(crate) fn squeeze(lits: &mut Vec<Lit>, spans: &mut [LiveSpan], from: usize)
     requires spread { AreSpread from spans.old (length lits.old.items) }
     requires few { length lits.old.items + 1 < 2 ^ 32 }
     ensures spread { AreSpread from spans.new (length lits.new.items) }

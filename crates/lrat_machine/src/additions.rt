@@ -12,10 +12,10 @@ ghost use Rattle.lrat_read.specs.Form.{leading as leading_of, groups_of};
 use crate::assumed::Assumed;
 use crate::hints::{Walked, leading, walk};
 use crate::rat::rat_fault;
-use crate::state::{Base, Scratch};
+use crate::state::{ClauseBase, Scratch};
 use crate::verdicts::Cause;
 use cnf::types::Lit;
-use lrat_read::line::Line;
+use lrat_read::line::LineView;
 use lrat_read::types::SignedId;
 use std::alloc::AllocError;
 
@@ -42,7 +42,7 @@ pub(crate) fn assume_negations(clause: &[Lit], assumed: &mut Assumed) -> Result<
 fn hints_fault(
     clause: &[Lit],
     hints: &[SignedId],
-    base: &mut Base,
+    base: &mut ClauseBase,
     scratch: &mut Scratch,
 ) -> Result<Option<Cause>, AllocError>
     requires base { IsBase scratch.old.assumed.variables base.old.last base.old.live }
@@ -69,8 +69,8 @@ fn hints_fault(
 
 /// The first fault of an addition, if any.
 pub(crate) fn addition_fault(
-    line: &Line,
-    base: &mut Base,
+    line: &LineView,
+    base: &mut ClauseBase,
     scratch: &mut Scratch,
 ) -> Result<Option<Cause>, AllocError>
     requires base { IsBase scratch.old.assumed.variables base.old.last base.old.live }

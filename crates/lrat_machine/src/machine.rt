@@ -12,12 +12,12 @@ ghost use Rattle.lrat_read.specs.Reader.{IsReadAs};
 use crate::additions::addition_fault;
 use crate::ahead::read_ahead;
 use crate::assumed::Assumed;
-use crate::state::{Base, Scratch};
+use crate::state::{ClauseBase, Scratch};
 use crate::verdicts::{Cause, Verdict};
 use cnf::types::Formula;
 use lrat_live::live::LiveClauses;
 use lrat_read::batch::Batch;
-use lrat_read::line::{Line, ReadLine};
+use lrat_read::line::{LineView, ReadLine};
 use lrat_read::reader::LineReader;
 use lrat_read::types::{Form, SignedId};
 use std::alloc::AllocError;
@@ -31,7 +31,7 @@ pub struct Machine {
     /// Reads a line, in buffers that are used for each.
     reader: LineReader,
     /// What is live, the last id, and whether the empty clause was added.
-    base: Base,
+    base: ClauseBase,
     /// What a line assumes, and the candidates that it names.
     scratch: Scratch,
     /// How many lines were read.
@@ -75,7 +75,11 @@ fn delete_all(live: &mut LiveClauses, hints: &[SignedId]) -> Option<Cause>
 }
 
 // Adds the line's clause, if its hints allow it.
-fn add(line: &Line, base: &mut Base, scratch: &mut Scratch) -> Result<Option<Cause>, AllocError>
+fn add(
+    line: &LineView,
+    base: &mut ClauseBase,
+    scratch: &mut Scratch,
+) -> Result<Option<Cause>, AllocError>
     requires { IsBase scratch.old.assumed.variables base.old.last base.old.live }
     ensures fault { IfOk result (λ f. IsFaultOf (live_of base.old.last base.old.live) line.now f) }
     ensures added { IfOk result (λ f. f ≡ None
@@ -96,8 +100,8 @@ fn add(line: &Line, base: &mut Base, scratch: &mut Scratch) -> Result<Option<Cau
 // Does what the line says, if it may. A line without tokens is always let be.
 fn apply_line(
     form: Form,
-    line: &Line,
-    base: &mut Base,
+    line: &LineView,
+    base: &mut ClauseBase,
     scratch: &mut Scratch,
 ) -> Result<Option<Cause>, AllocError>
     requires { IsBase scratch.old.assumed.variables base.old.last base.old.live }
@@ -126,8 +130,8 @@ fn apply_line(
 #[inline(always)]
 fn apply_next(
     form: Form,
-    line: &Line,
-    base: &mut Base,
+    line: &LineView,
+    base: &mut ClauseBase,
     scratch: &mut Scratch,
     lines: &mut u64,
 ) -> Result<Option<Cause>, AllocError>
@@ -175,7 +179,7 @@ impl Machine {
         assumed.grow(formula.vars())?;
         Ok(Machine {
             reader: LineReader::new(alloc),
-            base: Base {
+            base: ClauseBase {
                 live: LiveClauses::new(formula)?,
                 last,
                 ended: false,
@@ -193,7 +197,7 @@ impl Machine {
     /// that pays. Nothing that is seen of the machine changes.
     #[inline]
     pub fn read_ahead(&mut self, batch: &Batch, from: usize)
-        ensures { self.new ≡ self.old }
+        ensures unchanged { self.new ≡ self.old }
     {
         self.seen = read_ahead(&self.base.live, batch, from);
     }

@@ -18,7 +18,7 @@ ghost use Rattle.lrat_read.specs.Form.{groups_of};
 
 use crate::assumed::Assumed;
 use crate::hints::{leading, walk};
-use crate::state::{Base, Scratch};
+use crate::state::{ClauseBase, Scratch};
 use crate::verdicts::Cause;
 use cnf::types::Lit;
 use lrat_live::live::LiveClauses;
@@ -156,7 +156,7 @@ fn groups_fault(
 pub(crate) fn rat_fault(
     pivot: Lit,
     hints: &[SignedId],
-    base: &mut Base,
+    base: &mut ClauseBase,
     scratch: &mut Scratch,
 ) -> Result<Option<Cause>, AllocError>
     requires base { IsBase scratch.old.assumed.variables base.old.last base.old.live }

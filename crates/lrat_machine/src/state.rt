@@ -4,7 +4,7 @@ use lrat_live::live::LiveClauses;
 
 /// What the lines so far leave.
 #[derive(Drop)]
-pub(crate) struct Base {
+pub(crate) struct ClauseBase {
     /// The live clauses under their ids, from 1 to `last`.
     pub(crate) live: LiveClauses,
     /// The id of the last clause that was added, or of the formula's last.

@@ -8,7 +8,7 @@ use Rattle.cnf.proofs.Laws.{range-append}
 use Rattle.std.proofs.Math.Seq.{take-append_seam}
 use Rattle.cnf.specs.Literal.{Literal}
 use Rattle.lrat_read.specs.Batch.{IsFirstRead, AreRead}
-use Rattle.lrat_read.specs.declared.plain.Span.{Span}
+use Rattle.lrat_read.specs.declared.plain.LineSpan.{LineSpan}
 use Rattle.lrat_read.specs.Plain.{line_in, lines_in, IsSpanWithin, AreSpansWithin}
 use Rattle.lrat_read.specs.declared.line.ReadLine.{ReadLine}
 
@@ -79,7 +79,7 @@ range_kept new old used start end order within room room' e =
     ∙ sym (range_before old used start end order within room')
 
 pub lines_kept : (lits lits' : List Literal) (hints hints' : List (Bool × ℕ)) (ul uh : ℕ)
-    (ss : List Span) → AreSpansWithin ul uh ss → ul ≤ length lits → uh ≤ length hints
+    (ss : List LineSpan) → AreSpansWithin ul uh ss → ul ≤ length lits → uh ≤ length hints
     → length lits' ≡ length lits → length hints' ≡ length hints → take ul lits' ≡ take ul lits
     → take uh hints' ≡ take uh hints → lines_in lits' hints' ss ≡ lines_in lits hints ss
 lines_kept lits lits' hints hints' ul uh [] h rl rh nl nh e f = refl
@@ -112,7 +112,7 @@ lines_kept lits lits' hints hints' ul uh (s ∷ ss) (w, h) rl rh nl nh e f =
         (omega (arith, rh, nh)) rh f)
 
 -- a span lies before greater places too
-span_wider : (a b a' b' : ℕ) (s : Span) → a ≤ a' → b ≤ b' → IsSpanWithin a b s
+span_wider : (a b a' b' : ℕ) (s : LineSpan) → a ≤ a' → b ≤ b' → IsSpanWithin a b s
     → IsSpanWithin a' b' s
 span_wider a b a' b' s h k w = record {
   lits_order = w.lits_order;
@@ -122,21 +122,21 @@ span_wider a b a' b' s h k w = record {
   small = w.small;
 }
 
-pub spans_wider : (a b a' b' : ℕ) (ss : List Span) → a ≤ a' → b ≤ b' → AreSpansWithin a b ss
+pub spans_wider : (a b a' b' : ℕ) (ss : List LineSpan) → a ≤ a' → b ≤ b' → AreSpansWithin a b ss
     → AreSpansWithin a' b' ss
 spans_wider a b a' b' [] h k w = tt
 spans_wider a b a' b' (s ∷ ss) h k (v, w) =
     (span_wider a b a' b' s h k v, spans_wider a b a' b' ss h k w)
 
-pub spans_more : (a b a' b' : ℕ) (ss : List Span) (s : Span) → a ≤ a' → b ≤ b'
+pub spans_more : (a b a' b' : ℕ) (ss : List LineSpan) (s : LineSpan) → a ≤ a' → b ≤ b'
     → AreSpansWithin a b ss → IsSpanWithin a' b' s → AreSpansWithin a' b' (ss ++ s ∷ [])
 spans_more a b a' b' [] s h k w v = (v, tt)
 spans_more a b a' b' (x ∷ ss) s h k (u, w) v =
     (span_wider a b a' b' x h k u, spans_more a b a' b' ss s h k w v)
 
 -- the line at a place
-pub line_at : (lits : List Literal) (hints : List (Bool × ℕ)) (ss : List Span) (place : ℕ)
-    (none : Span) → place < length ss
+pub line_at : (lits : List Literal) (hints : List (Bool × ℕ)) (ss : List LineSpan) (place : ℕ)
+    (none : LineSpan) → place < length ss
     → drop place (lines_in lits hints ss)
     ≡ line_in lits hints (get_or ss place none) ∷ drop (place + 1) (lines_in lits hints ss)
 line_at lits hints ss place none h =
@@ -147,7 +147,8 @@ line_at lits hints ss place none h =
     (get_or-map (line_in lits hints) ss place none (line_in lits hints none) h)
 
 pub lines_more : (lits lits' : List Literal) (hints hints' : List (Bool × ℕ)) (ul uh : ℕ)
-    (ss : List Span) (s : Span) → AreSpansWithin ul uh ss → ul ≤ length lits → uh ≤ length hints
+    (ss : List LineSpan) (s : LineSpan) → AreSpansWithin ul uh ss → ul ≤ length lits
+    → uh ≤ length hints
     → length lits' ≡ length lits → length hints' ≡ length hints → take ul lits' ≡ take ul lits
     → take uh hints' ≡ take uh hints
     → lines_in lits' hints' (ss ++ s ∷ []) ≡ lines_in lits hints ss ++ line_in lits' hints' s ∷ []

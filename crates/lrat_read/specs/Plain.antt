@@ -13,7 +13,7 @@ use Rattle.lrat_read.specs.declared.line.ReadLine.{ReadLine}
 use Rattle.lrat_read.specs.declared.numbers.Digits.{Digits}
 use Rattle.lrat_read.specs.declared.plain.PlainLits.{PlainLits}
 use Rattle.lrat_read.specs.declared.plain.PlainNumber.{PlainNumber}
-use Rattle.lrat_read.specs.declared.plain.Span.{Span}
+use Rattle.lrat_read.specs.declared.plain.LineSpan.{LineSpan}
 use Rattle.lrat_read.specs.declared.plain.Used.{Used}
 
 -- the last byte is a line feed
@@ -82,7 +82,7 @@ AreKept lits hints new_lits new_hints used =
     IsKept lits new_lits used.lits × IsKept hints new_hints used.hints
 
 -- the line of a span
-abbrev pub line_in : List Literal → List (Bool × ℕ) → Span → ReadLine
+abbrev pub line_in : List Literal → List (Bool × ℕ) → LineSpan → ReadLine
 line_in lits hints s = record {
   form = s.form;
   line = record {
@@ -94,7 +94,7 @@ line_in lits hints s = record {
 }
 
 -- a span lies before these places of the buffers
-pub record IsSpanWithin (most_lits most_hints : ℕ) (s : Span) : Type 0 where
+pub record IsSpanWithin (most_lits most_hints : ℕ) (s : LineSpan) : Type 0 where
   pub lits_order : s.lits_start ≤ s.lits_end
   pub lits : s.lits_end ≤ most_lits
   pub hints_order : s.hints_start ≤ s.hints_end
@@ -102,15 +102,15 @@ pub record IsSpanWithin (most_lits most_hints : ℕ) (s : Span) : Type 0 where
   pub small : s.id < NUMBER_LIMIT
 
 -- the lines of spans, and that each span lies before these places
-abbrev pub lines_in : List Literal → List (Bool × ℕ) → List Span → List ReadLine
+abbrev pub lines_in : List Literal → List (Bool × ℕ) → List LineSpan → List ReadLine
 lines_in lits hints ss = map (line_in lits hints) ss
 
-abbrev pub AreSpansWithin : ℕ → ℕ → List Span → Type 0
+abbrev pub AreSpansWithin : ℕ → ℕ → List LineSpan → Type 0
 AreSpansWithin most_lits most_hints ss = AllByRecursion (IsSpanWithin most_lits most_hints) ss
 
 -- a line, and where its numbers stand in the buffers from these places on
 pub record IsPlainLine (bytes : List ℕ) (lits : List Literal) (hints : List (Bool × ℕ))
-    (used : Used) (s : Span) : Type 0 where
+    (used : Used) (s : LineSpan) : Type 0 where
   pub read : IsReadAs (tokens_of (before_feed bytes)) s.form (line_in lits hints s).line
   pub last : slice_index (before_feed bytes) (length (before_feed bytes) - 1) ≡ 48
   pub lits_start : used.lits ≤ s.lits_start

@@ -4,8 +4,8 @@ ghost use Rattle.std.specs.Prelude.{IfOk, IfSome, IsTrue};
 ghost use Rattle.lrat_read.specs.Batch.{AreRead, IsNextRead};
 ghost use Rattle.lrat_read.specs.Plain.{AreKept, AreSpansWithin, lines_in};
 
-use crate::line::{Line, ReadLine};
-use crate::plain::{Span, Used, plain_line};
+use crate::line::{LineView, ReadLine};
+use crate::plain::{LineSpan, Used, plain_line};
 use crate::types::SignedId;
 use cnf::types::Lit;
 use std::alloc::{AllocError, Global};
@@ -19,7 +19,7 @@ const ROOM: usize = 16_384;
 #[derive(Drop)]
 pub struct Batch {
     /// Where each line's numbers lie in the buffers.
-    spans: Vec<Span>,
+    spans: Vec<LineSpan>,
     /// Their literals, one line after another, and then what is left of the room.
     lits: Vec<Lit>,
     /// Their hints and ids, as the literals.
@@ -43,7 +43,7 @@ impl Model for Batch {
 #[derive(Clone, Copy, Drop)]
 struct NextLine {
     // Where its numbers lie in the buffers.
-    span: Span,
+    span: LineSpan,
     // The place in the text behind its line feed.
     end: usize,
 }
@@ -105,7 +105,7 @@ fn next_line(
 /// Reads lines from the front of the text, as `Batch::read` does, with spans for none so far.
 #[inline]
 fn read_lines(
-    spans: &mut Vec<Span>,
+    spans: &mut Vec<LineSpan>,
     lits: &mut [Lit],
     hints: &mut [SignedId],
     text: &[u8],
@@ -160,7 +160,7 @@ impl Batch {
         let hints = &self.hints[span.hints_start..span.hints_end];
         ReadLine {
             form: span.form,
-            line: Line::new(span.id, lits, false, hints),
+            line: LineView::new(span.id, lits, false, hints),
         }
     }
 

@@ -8,7 +8,7 @@ use std::marker::Model;
 
 /// An addition or a deletion, in the buffers of its reader.
 #[derive(Drop)]
-pub struct Line<'a> {
+pub struct LineView<'a> {
     // The leading number, below 2^62.
     id: u64,
     // The literals of an addition, but for those with a variable of 2^27 or more.
@@ -19,7 +19,7 @@ pub struct Line<'a> {
     hints: &'a [SignedId],
 }
 
-impl<'a> Model for Line<'a> {
+impl<'a> Model for LineView<'a> {
     ghost use Rattle.std.specs.Prelude.{◌<◌, ◌^◌};
     ghost use Rattle.cnf.specs.declared.limits.TheConstants.{NUMBER_LIMIT};
     ghost use Rattle.lrat_read.specs.Reader.{LineState};
@@ -42,17 +42,17 @@ pub struct ReadLine<'a> {
     /// What kind of line it is.
     pub form: Form,
     /// What it says, where it is an addition or a deletion.
-    pub line: Line<'a>,
+    pub line: LineView<'a>,
 }
 
-impl<'a> Line<'a> {
+impl<'a> LineView<'a> {
     /// A line from its parts.
     pub(crate) fn new(id: u64, lits: &'a [Lit], is_large: bool, hints: &'a [SignedId]) -> Self
         requires { id < NUMBER_LIMIT }
         ensures { result
             ≡ record { id = id; clause = lits.now; is_large = is_large; hints = hints.now } }
     {
-        Line {
+        LineView {
             id,
             lits,
             is_large,

@@ -33,7 +33,7 @@ const ZERO: u64 = 48;
 
 /// Where a line's numbers stand in the buffers.
 #[derive(Clone, Copy, Drop)]
-pub struct Span {
+pub struct LineSpan {
     /// `Addition` or `Deletion`.
     pub form: Form,
     /// The leading number, below 2^62.
@@ -216,7 +216,7 @@ fn plain_addition(
     line: &[u8],
     id: u64,
     at: usize,
-) -> Option<Span>
+) -> Option<LineSpan>
     requires within { at < length line.now }
     requires feed { EndsInFeed line.now }
     requires room { HasRoom line.now lits.old hints.old used }
@@ -226,7 +226,7 @@ fn plain_addition(
 {
     let clause = plain_lits(lits, used.lits, line, at)?;
     let hints_end = plain_hints(hints, used.hints, line, clause.end, false)?;
-    Some(Span {
+    Some(LineSpan {
         form: Form::Addition,
         id,
         lits_start: used.lits,
@@ -244,7 +244,7 @@ fn plain_deletion(
     line: &[u8],
     id: u64,
     at: usize,
-) -> Option<Span>
+) -> Option<LineSpan>
     requires within { at + 1 < length line.now }
     requires feed { EndsInFeed line.now }
     requires room { HasRoomFrom line.now hints.old used.hints }
@@ -256,7 +256,7 @@ fn plain_deletion(
 {
     let ids = past_space(line, at + 1)?;
     let hints_end = plain_hints(hints, used.hints, line, ids, true)?;
-    Some(Span {
+    Some(LineSpan {
         form: Form::Deletion,
         id,
         lits_start: used.lits,
@@ -269,7 +269,12 @@ fn plain_deletion(
 /// Reads a line with its line feed into the buffers behind what is used of them, and says where.
 /// `None` says nothing of the line: it is not written plainly, and what is used is as it was.
 #[inline(always)]
-pub fn plain_line(lits: &mut [Lit], hints: &mut [SignedId], used: Used, line: &[u8]) -> Option<Span>
+pub fn plain_line(
+    lits: &mut [Lit],
+    hints: &mut [SignedId],
+    used: Used,
+    line: &[u8],
+) -> Option<LineSpan>
     requires within { 0 < length line.now }
     requires feed { EndsInFeed line.now }
     requires room { HasRoom line.now lits.old hints.old used }

@@ -4,7 +4,7 @@ ghost use Rattle.text.specs.Text.{tokens_of};
 ghost use Rattle.lrat_read.specs.Reader.{IsReadAs, IsAdditionRead, IsDeletionRead};
 
 use crate::blocks::{has_dash, read_last, read_lits};
-use crate::line::Line;
+use crate::line::LineView;
 use crate::numbers::{NumberAt, after_letter, number_at};
 use crate::types::{Form, SignedId};
 use cnf::types::Lit;
@@ -110,9 +110,9 @@ impl LineReader {
     }
 
     /// What was read of the last line.
-    pub fn line(&self) -> Line<'_>
+    pub fn line(&self) -> LineView<'_>
         ensures { result ≡ self.now }
     {
-        Line::new(self.id, &self.lits, self.is_large, &self.hints)
+        LineView::new(self.id, &self.lits, self.is_large, &self.hints)
     }
 }

@@ -27,7 +27,7 @@ pub struct Cost {
 
 /// A solution: the last cost that was told, and the bits, from variable 1 on, with their line.
 #[derive(Drop)]
-pub struct Solution {
+pub struct ClaimedSolution {
     /// The last one that was told, with its line.
     pub cost: Cost,
     /// By variable, that of 1 first.
@@ -39,9 +39,9 @@ pub struct Solution {
 /// What a result says, with the lines of its solution where it has one.
 #[derive(Drop)]
 pub enum Said {
-    Optimum(Solution),
+    Optimum(ClaimedSolution),
     Unsat,
-    Sat(Solution),
+    Sat(ClaimedSolution),
     Limit,
 }
 

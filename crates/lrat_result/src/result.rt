@@ -10,7 +10,7 @@ ghost use Rattle.lrat_result.specs.Words.{HasWords};
 ghost use Rattle.lrat_result.specs.Report.{IsNextStage, IsReadReport, falls_below, reported};
 ghost use Rattle.lrat_result.specs.Report.{report_with};
 
-use crate::report::{Claim, Cost, Heading, Report, ReportFault, Said, Solution, Stage};
+use crate::report::{Claim, ClaimedSolution, Cost, Heading, Report, ReportFault, Said, Stage};
 use crate::words::{Words, words_of};
 use cnf::limits::NUMBER_LIMIT;
 use std::alloc::{AllocError, Global};
@@ -101,7 +101,7 @@ fn after_status(
 fn report_with(heading: Heading, bits: Vec<bool>, bits_line: u64) -> Report
     ensures { reported result ≡ report_with heading bits.items bits_line }
 {
-    let solution = Solution {
+    let solution = ClaimedSolution {
         cost: heading.cost,
         bits,
         bits_line,

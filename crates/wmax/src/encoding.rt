@@ -7,7 +7,7 @@ use crate::profiles::{choose_profile, refuse_profile};
 use adder::cells::Profile;
 use bound::encoding::{WatchedWriter, write_formula};
 use bound::formulas::write_dimacs;
-use lrat_check::core_formula::{Refuted, core_formula};
+use lrat_check::core_formula::{RefutedFormula, core_formula};
 use report::fault::RunFault;
 use report::printing::deliver;
 use std::fs::File;
@@ -77,12 +77,12 @@ fn encode_refuted<R: AllocGlobal + Print, E: Write, T: Read, P: Read>(
     let instance = ManuallyDrop::new(read_from(rt.alloc(), text)?);
     let proof = read_file(rt, proof)?;
     match core_formula(&instance, cost, &proof) {
-        Ok(Refuted::Formula(formula)) => {
+        Ok(RefutedFormula::Formula(formula)) => {
             let mut out = io::writer(rt);
             deliver(write_dimacs(&formula, &mut out), &mut out)?;
             Ok(0)
         }
-        Ok(Refuted::Nothing(cause, line)) => {
+        Ok(RefutedFormula::Nothing(cause, line)) => {
             let _ = writeln!(messages.below(), "error: line {line}: {cause:?}");
             Ok(2)
         }

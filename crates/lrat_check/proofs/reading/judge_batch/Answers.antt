@@ -11,7 +11,7 @@ returns-in-Some-clause-judges c = λ bytes read.
     c.get.result _ _ c.get.ensures c.in_ok-refused.field-0 c.in-Some.refused c.in-Some.is
     c.in_ok-refused.ensures.judges
     (subst (λ m. JudgesUpTo c.args.machine.now bytes m (drop c.loop-place.place c.args.batch.now))
-    (sym c.read_ahead.ensures) (c.loop-place.invariant.judged bytes read))
+    (sym c.read_ahead.ensures.unchanged) (c.loop-place.invariant.judged bytes read))
 
 pub loop-place-preserved : goal.loop-place-preserved
 loop-place-preserved c = record {
@@ -20,12 +20,12 @@ loop-place-preserved c = record {
       c.get.result _ _ c.get.ensures c.in_ok-refused.field-0 c.in_default.is
       c.in_ok-refused.ensures.judges
       (subst (λ m. JudgesUpTo c.args.machine.now bytes m
-      (drop c.loop-place.place c.args.batch.now)) (sym c.read_ahead.ensures)
+      (drop c.loop-place.place c.args.batch.now)) (sym c.read_ahead.ensures.unchanged)
       (c.loop-place.invariant.judged bytes read));
   lines = omega (
     arith,
     c.in_ok-refused.ensures.lines,
     c.loop-place.invariant.lines,
-    ap (λ (m : MachineState). m.lines) c.read_ahead.ensures,
+    ap (λ (m : MachineState). m.lines) c.read_ahead.ensures.unchanged,
   );
 }

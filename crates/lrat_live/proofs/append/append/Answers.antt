@@ -3,7 +3,7 @@ use Rattle.std.proofs.lemmas.List.{get_or_default, take_at}
 use Rattle.std.specs.Prelude.{slice_index}
 use Rattle.lrat_live.specs.Chains.{IsChained, bucket_of}
 use Rattle.lrat_live.specs.Table.{cells_of, keys_of, nexts_of}
-use Rattle.lrat_live.specs.declared.entries.Entry.{Entry}
+use Rattle.lrat_live.specs.declared.entries.AddedEntry.{AddedEntry}
 use Rattle.lrat_live.proofs.Tables.{table_push, table_clauses}
 use Rattle.lrat_live.proofs.append.append.Goals as goal
 use Rattle.lrat_live.proofs.append.append.Goals.{In_ok-reserve}
@@ -26,7 +26,7 @@ returns-clause-table c =
     let hs = c.grow.new.heads.items in
     let grown = c.reserve.new.self.items in
     let count : length grown ≡ length c.grow.new.entries = ap length (grown_is at) in
-    let e : Entry =
+    let e : AddedEntry =
     record {
       id = c.args.id;
       start = c.len-start.result;
@@ -61,7 +61,7 @@ returns-clause-ok c =
     let ls = c.args.lits.now.items in
     let hs = c.grow.new.heads.items in
     let grown = c.reserve.new.self.items in
-    let e : Entry =
+    let e : AddedEntry =
     record {
       id = c.args.id;
       start = c.len-start.result;

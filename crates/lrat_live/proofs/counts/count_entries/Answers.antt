@@ -5,13 +5,13 @@ use Rattle.std.proofs.lemmas.List.{take_all, append-nil, append_assoc}
 use Rattle.std.specs.Prelude.{slice_range}
 use Rattle.lrat_live.specs.Counts.{AreCounts}
 use Rattle.lrat_live.specs.Table.{cells_of, clauses_in}
-use Rattle.lrat_live.specs.declared.entries.Entry.{Entry}
+use Rattle.lrat_live.specs.declared.entries.AddedEntry.{AddedEntry}
 use Rattle.lrat_live.specs.Pages.{count_in}
 use Rattle.lrat_live.proofs.CountLaws.{counts_push, more_dead, more_live}
 use Rattle.lrat_live.proofs.Tables.{literals_end}
 use Rattle.lrat_live.proofs.counts.count_entries.Goals as goal
 
-abbrev none : Entry
+abbrev none : AddedEntry
 none = record { id = 0; start = 0; length = 0; next = 0; live = false }
 
 pub loop-entry-init : goal.loop-entry-init

@@ -3,17 +3,17 @@ use Rattle.std.proofs.Common.{refl, subst, sym}
 use Rattle.lrat_live.specs.Chains.{IsChained, bucket_of}
 use Rattle.lrat_live.specs.Table.{cells_of, keys_of, nexts_of}
 use Rattle.std.proofs.Common.{take}
-use Rattle.lrat_live.specs.declared.entries.Entry.{Entry}
+use Rattle.lrat_live.specs.declared.entries.AddedEntry.{AddedEntry}
 use Rattle.lrat_live.proofs.Table.{cells-set_same, link_more}
 use Rattle.lrat_live.proofs.entries.link.Goals as goal
 
 pub loop-i-preserved : goal.loop-i-preserved
 loop-i-preserved c =
-    let d : Entry = record { id = 0; start = 0; length = 0; next = 0; live = false } in
+    let d : AddedEntry = record { id = 0; start = 0; length = 0; next = 0; live = false } in
     let es = c.loop-i.entries in
     let hs = c.loop-i.heads in
     let i : ℕ = c.loop-i.i in
-    let e : Entry = record (get_or es i d) { next = get_or hs c.bucket-bucket.result 0 } in
+    let e : AddedEntry = record (get_or es i d) { next = get_or hs c.bucket-bucket.result 0 } in
     let m = length hs in
     let same : length c.fill.new.self ≡ m = c.loop-i.invariant.buckets in
     let within : c.bucket-bucket.result < m =

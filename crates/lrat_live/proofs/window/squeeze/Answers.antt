@@ -2,7 +2,7 @@ use Rattle.std.proofs.Common.{◌≡◌, ◌+◌, ◌<◌, ◌≤◌, ◌∙◌,
 use Rattle.std.proofs.Common.{sym, subst, arith, length-set}
 use Rattle.std.proofs.lemmas.List.{take-take, take_all}
 use Rattle.lrat_live.specs.Near.{is_live, AreSpread}
-use Rattle.lrat_live.specs.declared.spans.Span.{Span}
+use Rattle.lrat_live.specs.declared.spans.LiveSpan.{LiveSpan}
 use Rattle.lrat_live.proofs.SpanLaws.{zeros, spread_le}
 use Rattle.lrat_live.proofs.StartLaws.{live_below}
 use Rattle.lrat_live.proofs.WindowLaws.{rest_dead, front_dead, is_above, is_within, below_kept}
@@ -47,7 +47,7 @@ loop-place-preserved c =
     let h : i < length ss = omega arith in
     let s = get_or ss i zeros in
     let n = s.length in
-    let x : Span = record { start = end; length = (get_or ss i zeros).length } in
+    let x : LiveSpan = record { start = end; length = (get_or ss i zeros).length } in
     let live : is_live (get_or ss i zeros) ≡ true =
     sym c.is_live.ensures ∙ c.if-not-is_live.false in
     let up : end ≤ (get_or ss i zeros).start = is_above ls ss i end zeros h inv.rest live in

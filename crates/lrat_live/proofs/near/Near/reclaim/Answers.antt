@@ -33,12 +33,15 @@ returns-then-is_mostly_dead c =
     ∙ ap (spanned ls (s.given + 1 + s.gap)) (take_rest dm (s.given + 1))
     ∙ ap (λ xs. spanned ls (s.given + 1 + s.gap) (drop (s.given + 1) xs))
     c.deref_mut.ensures.value in
-    parts_same _ _ (given_in ls s.spans.items s.given)
-    (recent_in ls s.spans.items s.given s.gap)
-    (ap (λ xs. given_in ms xs s.given) now
-    ∙ given_squeezed ls s.spans.items s.given s.given_lits s.gap c.self.invariant ms ys
-    c.squeeze.ensures.below)
-    (ap (λ xs. recent_in ms xs s.given s.gap) now
-    ∙ recent_squeezed ls s.spans.items s.given s.given_lits s.gap c.self.invariant ms ys
-    c.squeeze.ensures.below moved)
-    ∙ c.self.view_is
+    record {
+      unchanged =
+          parts_same _ _ (given_in ls s.spans.items s.given)
+          (recent_in ls s.spans.items s.given s.gap)
+          (ap (λ xs. given_in ms xs s.given) now
+          ∙ given_squeezed ls s.spans.items s.given s.given_lits s.gap c.self.invariant ms ys
+          c.squeeze.ensures.below)
+          (ap (λ xs. recent_in ms xs s.given s.gap) now
+          ∙ recent_squeezed ls s.spans.items s.given s.given_lits s.gap c.self.invariant ms ys
+          c.squeeze.ensures.below moved)
+          ∙ c.self.view_is;
+    }

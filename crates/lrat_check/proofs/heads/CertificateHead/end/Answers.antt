@@ -3,7 +3,7 @@ use Rattle.std.proofs.Common.{refl}
 use Rattle.std.proofs.lemmas.Result.{IfOk-weaker}
 use Rattle.lrat_check.specs.Heads.{head_reading}
 use Rattle.lrat_check.proofs.HeadLaws.{ends_with, ends_without, line_left}
-use Rattle.lrat_check.proofs.heads.Head.end.Goals as goal
+use Rattle.lrat_check.proofs.heads.CertificateHead.end.Goals as goal
 
 pub returns-then-is_empty-clause-ends : goal.returns-then-is_empty-clause-ends
 returns-then-is_empty-clause-ends c =

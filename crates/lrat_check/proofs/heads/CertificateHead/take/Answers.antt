@@ -8,7 +8,7 @@ use Rattle.text.proofs.Laws.{line_lengths}
 use Rattle.lrat_check.specs.CoreLines.{ReadsHead}
 use Rattle.lrat_check.specs.Heads.{IsEndedHead, head_reading}
 use Rattle.lrat_check.proofs.HeadLaws.{taken_ended, taken_failed, taken_line, taken_rest}
-use Rattle.lrat_check.proofs.heads.Head.take.Goals as goal
+use Rattle.lrat_check.proofs.heads.CertificateHead.take.Goals as goal
 
 pub loop-end-preserved : goal.loop-end-preserved
 loop-end-preserved c =

@@ -2,7 +2,7 @@
 use Rattle.std.proofs.Common.{◌+◌, ◌≤◌, length}
 use Rattle.lrat_check.specs.Heads.{head_reading}
 use Rattle.lrat_check.proofs.HeadLaws.{TakesOn}
-use Rattle.lrat_check.proofs.heads.Head.take.Given as goal
+use Rattle.lrat_check.proofs.heads.CertificateHead.take.Given as goal
 
 abbrev pub invariant-loop-end : goal.invariant-loop-end
 invariant-loop-end l = record {
