@@ -15,6 +15,7 @@ pub(crate) struct Span {
 
 impl Model for Span {
     ghost use Rattle.std.specs.Prelude.{◌+◌, ◌<◌, ◌≤◌, ◌^◌};
+    ghost use Rattle.cnf.specs.declared.limits.TheConstants.{VARIABLE_LIMIT};
     ghost use Rattle.cores.specs.Spans.{Span as Variables};
 
     ghost Value = { Variables };

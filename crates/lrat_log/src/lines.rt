@@ -17,6 +17,7 @@ pub struct Number {
 
 impl Model for Number {
     ghost use Rattle.std.specs.Prelude.{ℕ, ◌<◌, ◌^◌};
+    ghost use Rattle.cnf.specs.declared.limits.TheConstants.{NUMBER_LIMIT};
 
     ghost Value = { ℕ };
 

@@ -21,6 +21,7 @@ pub struct Line<'a> {
 
 impl<'a> Model for Line<'a> {
     ghost use Rattle.std.specs.Prelude.{◌<◌, ◌^◌};
+    ghost use Rattle.cnf.specs.declared.limits.TheConstants.{NUMBER_LIMIT};
     ghost use Rattle.lrat_read.specs.Reader.{LineState};
 
     ghost Value = { LineState };

@@ -17,6 +17,7 @@ pub struct AtLeast {
 
 impl Model for AtLeast {
     ghost use Rattle.std.specs.Prelude.{◌<◌, ◌^◌};
+    ghost use Rattle.cnf.specs.declared.limits.TheConstants.{VARIABLE_LIMIT};
     ghost use Rattle.sums.specs.Sums.{AtLeast as Threshold};
 
     ghost Value = { Threshold };

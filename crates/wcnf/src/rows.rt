@@ -45,6 +45,7 @@ pub(crate) struct Draft {
 
 impl Model for Draft {
     ghost use Rattle.std.specs.Prelude.{◌≤◌, ◌<◌, ◌^◌};
+    ghost use Rattle.cnf.specs.declared.limits.TheConstants.{MOST_LITERALS, NUMBER_LIMIT};
     ghost use Rattle.wcnf.specs.Heads.{most_variable};
     ghost use Rattle.wcnf.specs.Drafts.{Drafted};
 
