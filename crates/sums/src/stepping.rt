@@ -16,23 +16,23 @@ use cnf::clause_list::ClauseList;
 use cnf::types::Instance;
 use std::alloc::AllocError;
 use std::marker::Model;
-use sums_tree::arrangement::Step;
+use sums_tree::arrangement::TreeStep;
 
 /// A digit's list may be so long at a node below the root.
 const MOST_BELOW: usize = 32;
 
 /// The parts of a tree that wait for being joined.
 #[derive(Drop)]
-struct Progress {
+struct OpenParts {
     // The last part last; one at most for each step.
     parts: Vec<Lists>,
     // The clauses of all parts so far, also of those that were joined.
     builder: Builder,
 }
 
-impl Model for Progress {
+impl Model for OpenParts {
     ghost use Rattle.std.specs.Prelude.{map, reverse};
-    ghost use Rattle.sums.specs.Stepping.{Progress as Parts, part_of};
+    ghost use Rattle.sums.specs.Stepping.{OpenParts as Parts, part_of};
 
     ghost Value = { Parts };
 
@@ -43,7 +43,7 @@ impl Model for Progress {
     } };
 }
 
-impl Progress {
+impl OpenParts {
     /// No part yet.
     fn of(instance: &Instance) -> Self
         ensures begun { result ≡ begun instance.now }
@@ -51,7 +51,7 @@ impl Progress {
     {
         let alloc = instance.allocator();
         let fresh = instance.vars() + instance.soft().len() as u32 + 1;
-        Progress {
+        OpenParts {
             parts: Vec::new(alloc),
             builder: Builder {
                 clauses: ClauseList::new(alloc),
@@ -66,7 +66,7 @@ impl Progress {
         instance: &Instance,
         digits: u32,
         most: usize,
-        step: &Step,
+        step: &TreeStep,
     ) -> Result<(), Halt>
         requires { 0 < self.old.fresh }
         ensures ok { OnOk result (self.new
@@ -75,11 +75,11 @@ impl Progress {
             < length (step_made instance.now digits most (step_of step.now) self.old).clauses) }
     {
         let lists = match step {
-            Step::Take(group) => {
+            TreeStep::Take(group) => {
                 let each = members_of(instance, group)?;
                 take_group(&mut self.builder, most, digits, each)?
             }
-            Step::Join => {
+            TreeStep::Join => {
                 // The steps of a tree always leave two parts here.
                 let right = self.parts.pop().ok_or(AllocError)?;
                 let left = self.parts.pop().ok_or(AllocError)?;
@@ -95,7 +95,7 @@ impl Progress {
         requires { length (finished self).digits < 64 }
         ensures { result ≡ finished self }
     {
-        let Progress { mut parts, builder } = self;
+        let OpenParts { mut parts, builder } = self;
         let last = match parts.pop() {
             Some(last) => last,
             None => Lists::none(builder.clauses.allocator()),
@@ -105,7 +105,7 @@ impl Progress {
 }
 
 /// The root that the steps make, with so many digits, if there are at most 2^17 clauses.
-pub(crate) fn root_of(instance: &Instance, steps: &[Step], digits: u32) -> Result<Root, Halt>
+pub(crate) fn root_of(instance: &Instance, steps: &[TreeStep], digits: u32) -> Result<Root, Halt>
     requires { digits < 64 }
     ensures root { IfOk result (λ r. r ≡ root_made instance.now (map step_of steps.now) digits) }
     ensures few { IfOk result (λ r. length r.clauses ≤ 2 ^ 17) }
@@ -113,7 +113,7 @@ pub(crate) fn root_of(instance: &Instance, steps: &[Step], digits: u32) -> Resul
         (2 ^ 17 < length (root_made instance.now (map step_of steps.now) digits).clauses) }
     ensures limits { IsInstance instance.now }
 {
-    let mut progress = Progress::of(instance);
+    let mut progress = OpenParts::of(instance);
     for (i, step) in steps.iter().enumerate() {
         let most = if i + 1 < steps.len() { MOST_BELOW } else { 0 };
         progress.make(instance, digits, most, step)?;
@@ -141,12 +141,12 @@ fn members_of(instance: &Instance, group: &[u32]) -> Result<Vec<AtLeast>, AllocE
 }
 
 /// The weights of all groups that come. A sum from 2^64 on counts as refused memory.
-pub(crate) fn weight_of(instance: &Instance, steps: &[Step]) -> Result<u64, AllocError>
+pub(crate) fn weight_of(instance: &Instance, steps: &[TreeStep]) -> Result<u64, AllocError>
     ensures { IfOk result (λ n. n ≡ steps_weight instance.now (map step_of steps.now)) }
 {
     let mut sum: u64 = 0;
     for step in steps {
-        if let Step::Take(group) = step {
+        if let TreeStep::Take(group) = step {
             sum = sum
                 .checked_add(weight_in(instance, group)?)
                 .ok_or(AllocError)?;

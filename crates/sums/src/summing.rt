@@ -11,7 +11,7 @@ use crate::root::Root;
 use crate::stepping::{root_of, weight_of};
 use cnf::types::Instance;
 use std::alloc::AllocError;
-use sums_tree::arrangement::{Step, arrange};
+use sums_tree::arrangement::{TreeStep, arrange};
 
 /// There are at most so many numbers of digits, from 0 on: weights sum to less than 2^62.
 const TRIES: u32 = 63;
@@ -39,7 +39,7 @@ pub fn sums_of(instance: &Instance) -> Result<Option<Root>, AllocError>
 }
 
 /// The root with as few digits as leave at most 2^17 clauses.
-fn first_root(instance: &Instance, steps: &[Step]) -> Result<Option<Root>, AllocError>
+fn first_root(instance: &Instance, steps: &[TreeStep]) -> Result<Option<Root>, AllocError>
     ensures root { IfOk result (λ r. r
         ≡ first_small (root_made instance.now (map step_of steps.now)) 63 0
         (steps_weight instance.now (map step_of steps.now))) }

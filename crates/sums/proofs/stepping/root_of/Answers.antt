@@ -2,7 +2,7 @@ use Rattle.std.proofs.Common.{◌≡◌, ℕ, ◌+◌, ◌<◌, ◌≤◌, ◌�
 use Rattle.std.proofs.lemmas.Result.{err_from_is_err_and}
 use Rattle.sums_tree.specs.Arrangement.{step_of}
 use Rattle.sums.specs.Sums.{Node}
-use Rattle.sums.specs.Stepping.{Progress, most_before}
+use Rattle.sums.specs.Stepping.{OpenParts, most_before}
 use Rattle.sums.proofs.OnTheWay.{is_too_many_weaker}
 use Rattle.sums.proofs.Steps.{most_more, most_last, step_forward, step_many, step_up}
 use Rattle.sums.proofs.Steps.{steps_ended, root_digits}
@@ -43,7 +43,7 @@ loop-i-preserved c =
       from_one =
           omega (
             arith,
-            ap (λ (s : Progress). s.fresh) c.in_ok-make.ensures.ok,
+            ap (λ (s : OpenParts). s.fresh) c.in_ok-make.ensures.ok,
             step_up c.args.instance.now c.args.digits c.if-i-steps.most
                 (step_of c.index-steps-i.result) c.loop-i.progress,
             c.loop-i.invariant.from_one,
