@@ -27,7 +27,7 @@ use Rattle.sums.specs.Stepping.{steps_made, begun, finished, last_part, root_mad
 use Rattle.sums.specs.Stepping.{step_weight, steps_weight}
 
 -- the parts of a tree one after another
-in_turn : (l r : Tree) (more : List Step)
+pub in_turn : (l r : Tree) (more : List Step)
     → steps_of (Fork l r) ++ more ≡ steps_of l ++ (steps_of r ++ (Join ∷ more))
 in_turn l r more =
     append_assoc (steps_of l ++ steps_of r) (Join ∷ []) more

@@ -1,7 +1,8 @@
 -- What the steps that build a tree make: the lists of each node, one node after another.
-use Rattle.std.specs.Prelude.{ℕ, ◌+◌, List, [], ◌∷◌, ◌++◌, length, sum_by}
+use Rattle.std.specs.Prelude.{ℕ, ◌+◌, ◌-◌, ◌<◌, ◌≤◌, List, [], ◌∷◌, ◌++◌, length, sum_by, All}
 use Rattle.cnf.specs.Literal.{Literal}
 use Rattle.cnf.specs.Problem.{Problem}
+use Rattle.cnf.specs.declared.limits.TheConstants.{NUMBER_LIMIT}
 use Rattle.sums_tree.specs.Tree.{Step, Take, Join}
 use Rattle.sums.specs.Sums.{AtLeast, Node, members, most_below}
 use Rattle.sums.specs.Parts.{group_node, joined_node}
@@ -82,3 +83,27 @@ step_weight problem Join = 0
 
 abbrev pub steps_weight : Problem → List Step → ℕ
 steps_weight problem steps = sum_by (step_weight problem) steps
+
+-- the places of a group are those of soft clauses
+abbrev pub IsPlaced : Problem → Step → Type 0
+IsPlaced problem (Take group) = All (λ i. i < length problem.soft) group
+IsPlaced problem Join = Unit {0}
+
+-- with so many parts a step can be taken, and how many there are then
+abbrev pub CanStep : ℕ → Step → Type 0
+CanStep parts (Take group) = Unit {0}
+CanStep parts Join = 2 ≤ parts
+
+abbrev pub parts_after : ℕ → Step → ℕ
+parts_after parts (Take group) = parts + 1
+parts_after parts Join = parts - 1
+
+abbrev pub CanStepAll : ℕ → List Step → Type 0
+CanStepAll parts [] = Unit {0}
+CanStepAll parts (step ∷ more) = CanStep parts step × CanStepAll (parts_after parts step) more
+
+-- what is known of the steps of an instance's tree
+pub record AreSteps (problem : Problem) (steps : List Step) : Type 0 where
+  pub placed : All (IsPlaced problem) steps
+  pub parts : CanStepAll 0 steps
+  pub weights : steps_weight problem steps < NUMBER_LIMIT

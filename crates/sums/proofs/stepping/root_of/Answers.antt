@@ -6,6 +6,7 @@ use Rattle.sums.specs.Stepping.{OpenParts, most_before}
 use Rattle.sums.proofs.OnTheWay.{is_too_many_weaker}
 use Rattle.sums.proofs.Steps.{most_more, most_last, step_forward, step_many, step_up}
 use Rattle.sums.proofs.Steps.{steps_ended, root_digits}
+use Rattle.sums.proofs.Fitting.{placed_at, steps_at, parts_next}
 use Rattle.sums.proofs.stepping.root_of.Goals as goal
 use Rattle.sums.proofs.stepping.root_of.Goals.{then-i-steps, else-i-steps}
 
@@ -25,6 +26,17 @@ returns-in_err-make-clause-many c =
     (below (step_many c.args.instance.now c.args.digits c.args.steps.now c.loop-i.i
     c.if-i-steps.most c.loop-i.progress c.index-steps-i.result c.loop-i-test.true
     c.index-steps-i.is most c.loop-i.invariant.way)) c.in_err-make.ensures.many)
+
+pub make-requires-clause-placed : goal.make-requires-clause-placed
+make-requires-clause-placed c =
+    placed_at c.args.instance.now c.args.steps.now c.loop-i.i c.index-steps-i.result
+    c.loop-i-test.true c.index-steps-i.is c.requires.steps.placed
+
+pub make-requires-clause-parts : goal.make-requires-clause-parts
+make-requires-clause-parts c =
+    (steps_at c.args.instance.now c.args.steps.now c.loop-i.i c.index-steps-i.result
+    c.loop-i-test.true c.index-steps-i.is (length c.loop-i.progress.parts)
+    c.loop-i.invariant.parts).0
 
 pub loop-i-preserved : goal.loop-i-preserved
 loop-i-preserved c =
@@ -48,6 +60,10 @@ loop-i-preserved c =
                 (step_of c.index-steps-i.result) c.loop-i.progress,
             c.loop-i.invariant.from_one,
           );
+      parts =
+          parts_next c.args.instance.now c.args.steps.now c.loop-i.i c.index-steps-i.result
+          c.loop-i-test.true c.index-steps-i.is c.args.digits c.if-i-steps.most c.loop-i.progress
+          c.make.new.self c.in_ok-make.ensures.ok c.loop-i.invariant.parts;
     }
 
 pub finish-requires : goal.finish-requires
