@@ -195,7 +195,14 @@ fn stand_at(store: &Store, candidate: &Candidate, place: usize) -> bool
 fn has_both(lits: &[Lit], left: Lit, right: Lit) -> bool
     ensures { result ≡ together left right lits.now }
 {
-    lits.contains(&left) && lits.contains(&right) && lits.len() >= SHORTEST
+    has(lits, left) && has(lits, right) && lits.len() >= SHORTEST
+}
+
+/// Whether the literal is one of these, in the words of the definitions.
+fn has(lits: &[Lit], lit: Lit) -> bool
+    ensures { result ≡ contains_literal lit lits.now }
+{
+    lits.contains(&lit)
 }
 
 /// Whether both literals are among these, and the variable is not.
@@ -203,9 +210,7 @@ fn has_pair(lits: &[Lit], definition: &Fresh) -> bool
     ensures { IsTrue result
         → HasPairOf definition.now.variable definition.now.left definition.now.right lits.now }
 {
-    lits.contains(&definition.left)
-        && lits.contains(&definition.right)
-        && lacks(lits, definition.variable)
+    has(lits, definition.left) && has(lits, definition.right) && lacks(lits, definition.variable)
 }
 
 /// Whether none of the literals has the variable.
