@@ -10,7 +10,7 @@ use Rattle.cores.specs.Totalizer.{totalizer, variables_from}
 use Rattle.cores.specs.Cores.{Core, CounterState, counters, first_relaxation, no_cores}
 use Rattle.cores.specs.Cores.{is_right, with_core}
 use Rattle.cores.specs.Counter.{IsCounter}
-use Rattle.cores.specs.Spans.{Span, variables_of, IsNamed, IsLiteralVariable}
+use Rattle.cores.specs.Spans.{OutputSpan, variables_of, IsNamed, IsLiteralVariable}
 use Rattle.cores.specs.declared.counting.TheConstants.{MOST_CORE_CLAUSES}
 use Rattle.cores.proofs.Right.{IsRight, right_from}
 use Rattle.cores.proofs.Rests.{core_is_paid, counted_is_paid}
@@ -120,7 +120,7 @@ variables_all v xs small h =
     All-weaker (IsNamed v) IsLiteralVariable (λ x p. (p.0, omega (arith, p.1))) xs h
 
 -- the first of them
-pub first_of : (s : Span) (xs : List ℕ) (v n : ℕ) → variables_of s ≡ xs
+pub first_of : (s : OutputSpan) (xs : List ℕ) (v n : ℕ) → variables_of s ≡ xs
     → xs ≡ variables_from v n → 0 < n → s.first ∷ [] ≡ take 1 xs
 first_of s xs v n e f some =
     let many : s.count ≡ n =

@@ -5,7 +5,7 @@ use Rattle.std.proofs.Common.{append_assoc}
 use Rattle.std.proofs.lemmas.List.{length-take, length-drop}
 use Rattle.cores.specs.Totalizer.{Totals, joined, totals_within, totalizer, variables_from}
 use Rattle.cores.specs.Totalizer.{sum_clauses}
-use Rattle.cores.specs.Spans.{Span, variables_of}
+use Rattle.cores.specs.Spans.{OutputSpan, variables_of}
 use Rattle.cores.proofs.Variables.{length-variables}
 
 -- more depth than the number of inputs changes nothing
@@ -104,7 +104,7 @@ module _ (most v f : ℕ) (xs first second : List ℕ) (split : IsSplit xs first
   pub right_room : (n : ℕ) → (totalizer most v xs).fresh ≤ n → right.fresh ≤ n
   right_room n h = omega (arith, ap (λ t. t.fresh) node)
 
-  pub node_made : (lo ro : Span) (k : ℕ) → variables_of lo ≡ left.outputs
+  pub node_made : (lo ro : OutputSpan) (k : ℕ) → variables_of lo ≡ left.outputs
       → variables_of ro ≡ right.outputs → k ≡ min most (lo.count + ro.count)
       → totalizer most v xs
       ≡ record {

@@ -3,13 +3,13 @@ use Rattle.std.proofs.Common.{◌≡◌, ℕ, zero, suc, ◌+◌, ◌-◌, ◌<�
 use Rattle.std.proofs.Common.{◌∷◌, ◌++◌, sym, ◌∙◌, ap, arith, append_assoc}
 use Rattle.cnf.specs.Literal.{Literal, positive, negative}
 use Rattle.cores.specs.Totalizer.{variables_from, right_clauses, left_clauses, order_clauses}
-use Rattle.cores.specs.Spans.{Span, variables_of}
+use Rattle.cores.specs.Spans.{OutputSpan, variables_of}
 
 -- all but the first
-abbrev pub after : Span → Span
+abbrev pub after : OutputSpan → OutputSpan
 after s = record { first = s.first + 1; count = s.count - 1 }
 
-pub variables_step : (s : Span) → 0 < s.count
+pub variables_step : (s : OutputSpan) → 0 < s.count
     → variables_of s ≡ s.first ∷ variables_of (after s)
 variables_step s h = by s.count (omega arith)
   where
@@ -27,14 +27,14 @@ one_pushed now old first x rest whole e f g =
     ap (λ z. z ++ rest) e ∙ append_assoc old (x ∷ []) rest
     ∙ ap (λ z. old ++ z) (sym f) ∙ g
 
-pub right_step : (lead : List Literal) (ys sums : Span) → 0 < ys.count → 0 < sums.count
+pub right_step : (lead : List Literal) (ys sums : OutputSpan) → 0 < ys.count → 0 < sums.count
     → right_clauses lead (variables_of ys) (variables_of sums)
     ≡ (lead ++ negative ys.first ∷ positive sums.first ∷ [])
     ∷ right_clauses lead (variables_of (after ys)) (variables_of (after sums))
 right_step lead ys sums h g =
     λ i. right_clauses lead (variables_step ys h i) (variables_step sums g i)
 
-pub left_step : (xs ys sums : Span) → 0 < xs.count → 0 < sums.count
+pub left_step : (xs ys sums : OutputSpan) → 0 < xs.count → 0 < sums.count
     → left_clauses (variables_of xs) (variables_of ys) (variables_of sums)
     ≡ (negative xs.first ∷ positive sums.first ∷ [])
     ∷ (right_clauses (negative xs.first ∷ []) (variables_of ys) (variables_of (after sums))
@@ -52,7 +52,7 @@ left_pushed now with old first c row rest whole e f g h =
     ∙ append_assoc old (c ∷ []) (row ++ rest)
     ∙ ap (λ z. old ++ z) (sym g) ∙ h
 
-pub order_step : (sums : Span) → 1 < sums.count
+pub order_step : (sums : OutputSpan) → 1 < sums.count
     → order_clauses (variables_of sums)
     ≡ (negative (after sums).first ∷ positive sums.first ∷ [])
     ∷ order_clauses (variables_of (after sums))

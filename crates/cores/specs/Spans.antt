@@ -3,11 +3,11 @@ use Rattle.std.specs.Prelude.{ℕ, ◌*◌, ◌<◌, ◌≤◌, ◌^◌, List}
 use Rattle.cores.specs.Totalizer.{variables_from}
 
 -- so many variables from the first one on
-pub record Span : Type 0 where
+pub record OutputSpan : Type 0 where
   pub first : ℕ
   pub count : ℕ
 
-abbrev pub variables_of : Span → List ℕ
+abbrev pub variables_of : OutputSpan → List ℕ
 variables_of s = variables_from s.first s.count
 
 -- a number that a literal may have as its variable

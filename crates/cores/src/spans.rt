@@ -6,17 +6,17 @@ use std::marker::Model;
 
 /// So many variables from the first one on.
 #[derive(Clone, Copy, Drop)]
-pub(crate) struct Span {
+pub(crate) struct OutputSpan {
     // From 1.
     first: u32,
     // The last one lies below 2^27.
     count: u32,
 }
 
-impl Model for Span {
+impl Model for OutputSpan {
     ghost use Rattle.std.specs.Prelude.{◌+◌, ◌<◌, ◌≤◌, ◌^◌};
     ghost use Rattle.cnf.specs.declared.limits.TheConstants.{VARIABLE_LIMIT};
-    ghost use Rattle.cores.specs.Spans.{Span as Variables};
+    ghost use Rattle.cores.specs.Spans.{OutputSpan as Variables};
 
     ghost Value = { Variables };
 
@@ -27,14 +27,14 @@ impl Model for Span {
     ghost inverse = { λ s. record { first = s.first; count = s.count } };
 }
 
-impl Span {
+impl OutputSpan {
     /// So many variables from this one on.
     pub fn new(first: u32, count: u32) -> Self
         requires from_one { 0 < first }
         requires small { first + count ≤ VARIABLE_LIMIT }
         ensures { result ≡ record { first = first; count = count } }
     {
-        Span { first, count }
+        OutputSpan { first, count }
     }
 
     /// The first variable.
@@ -59,7 +59,7 @@ impl Span {
         requires { 0 < self.count }
         ensures { result ≡ record { first = self.first + 1; count = self.count - 1 } }
     {
-        Span {
+        OutputSpan {
             first: self.first + 1,
             count: self.count - 1,
         }

@@ -10,7 +10,7 @@ ghost use Rattle.cores.specs.Totalizer.{right_clauses, left_clauses, order_claus
 ghost use Rattle.cores.specs.Totalizer.{totalizer};
 ghost use Rattle.cores.specs.Spans.{variables_of, IsLiteralVariable};
 
-use crate::spans::Span;
+use crate::spans::OutputSpan;
 use cnf::clause_list::ClauseList;
 use cnf::types::Lit;
 use std::alloc::AllocError;
@@ -19,7 +19,7 @@ use std::alloc::AllocError;
 #[derive(Drop)]
 pub(crate) struct Total {
     /// The j-th is true where at least j inputs are.
-    pub outputs: Span,
+    pub outputs: OutputSpan,
     /// The next new variable.
     pub fresh: u32,
 }
@@ -43,14 +43,14 @@ pub(crate) fn push_totalizer(
     ensures fresh { IfOk result (λ t. t.fresh ≡ (totalizer most fresh inputs.now).fresh) }
 {
     if inputs.len() == 1 {
-        let outputs = Span::new(inputs[0] as u32, 1);
+        let outputs = OutputSpan::new(inputs[0] as u32, 1);
         return Ok(Total { outputs, fresh });
     }
     let (first, second) = inputs.split_at(inputs.len() / 2);
     let left = push_totalizer(clauses, most, fresh, first)?;
     let right = push_totalizer(clauses, most, left.fresh, second)?;
     let count = most.min(left.outputs.count() + right.outputs.count());
-    let sums = Span::new(right.fresh, count);
+    let sums = OutputSpan::new(right.fresh, count);
     push_sums(clauses, left.outputs, right.outputs, sums)?;
     Ok(Total {
         outputs: sums,
@@ -61,9 +61,9 @@ pub(crate) fn push_totalizer(
 /// Each sum holds where so many of both lists do.
 fn push_sums(
     clauses: &mut ClauseList,
-    left: Span,
-    right: Span,
-    sums: Span,
+    left: OutputSpan,
+    right: OutputSpan,
+    sums: OutputSpan,
 ) -> Result<(), AllocError>
     ensures { OnOk result (clauses.new
         ≡ clauses.old
@@ -75,7 +75,11 @@ fn push_sums(
 }
 
 /// As many of the right list alone are as many of the sums.
-fn push_right(clauses: &mut ClauseList, right: Span, sums: Span) -> Result<(), AllocError>
+fn push_right(
+    clauses: &mut ClauseList,
+    right: OutputSpan,
+    sums: OutputSpan,
+) -> Result<(), AllocError>
     ensures { OnOk result (clauses.new
         ≡ clauses.old ++ right_clauses [] (variables_of right) (variables_of sums)) }
 {
@@ -92,9 +96,9 @@ fn push_right(clauses: &mut ClauseList, right: Span, sums: Span) -> Result<(), A
 /// Each of the left list, alone and with each of the right one.
 fn push_left(
     clauses: &mut ClauseList,
-    left: Span,
-    right: Span,
-    sums: Span,
+    left: OutputSpan,
+    right: OutputSpan,
+    sums: OutputSpan,
 ) -> Result<(), AllocError>
     ensures { OnOk result (clauses.new
         ≡ clauses.old
@@ -113,7 +117,12 @@ fn push_left(
 }
 
 /// The literal with each of the right list.
-fn push_with(clauses: &mut ClauseList, lead: Lit, right: Span, sums: Span) -> Result<(), AllocError>
+fn push_with(
+    clauses: &mut ClauseList,
+    lead: Lit,
+    right: OutputSpan,
+    sums: OutputSpan,
+) -> Result<(), AllocError>
     ensures { OnOk result (clauses.new
         ≡ clauses.old ++ right_clauses (lead ∷ []) (variables_of right) (variables_of sums)) }
 {
@@ -129,7 +138,7 @@ fn push_with(clauses: &mut ClauseList, lead: Lit, right: Span, sums: Span) -> Re
 }
 
 /// Each output holds only where the one before it does.
-fn push_order(clauses: &mut ClauseList, sums: Span) -> Result<(), AllocError>
+fn push_order(clauses: &mut ClauseList, sums: OutputSpan) -> Result<(), AllocError>
     ensures { OnOk result (clauses.new ≡ clauses.old ++ order_clauses (variables_of sums)) }
 {
     let mut rest = sums;

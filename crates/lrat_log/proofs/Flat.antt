@@ -8,45 +8,45 @@ use Rattle.std.proofs.lemmas.Option.{get_or_from_slice_get}
 use Rattle.cnf.specs.Literal.{Literal}
 use Rattle.cnf.proofs.Laws.{range-append, range-appended}
 use Rattle.lrat_log.specs.declared.lines.Hint.{Hint}
-use Rattle.lrat_log.specs.declared.heads.Head.{Head}
+use Rattle.lrat_log.specs.declared.heads.LineHead.{LineHead}
 use Rattle.lrat_log.specs.Log.{LogLine, IsLine, IsLog, line_at}
 use Rattle.lrat_log.specs.Flat.{lines_from, lines_in, AreEndsFrom, IsFlat, lits_before}
 use Rattle.lrat_log.specs.Flat.{hints_before}
 
-pub length-lines_from : (i j : ℕ) (hs : List Head) (lits : List Literal) (hints : List Hint)
+pub length-lines_from : (i j : ℕ) (hs : List LineHead) (lits : List Literal) (hints : List Hint)
     → length (lines_from i j hs lits hints) ≡ length hs
 length-lines_from i j [] lits hints = refl
 length-lines_from i j (h ∷ hs) lits hints =
     ap suc (length-lines_from h.lits_end h.hints_end hs lits hints)
 
-pub below_heads : (hs : List Head) (lits : List Literal) (hints : List Hint) (ls : List LogLine)
+pub below_heads : (hs : List LineHead) (lits : List Literal) (hints : List Hint) (ls : List LogLine)
     (k : ℕ) → lines_from 0 0 hs lits hints ≡ ls → k < length ls → k < length hs
 below_heads hs lits hints ls k e lt = let n = length-lines_from 0 0 hs lits hints in
     let m : length (lines_from 0 0 hs lits hints) ≡ length ls = ap length e in omega arith
 
-pub kind-line_at : (i j : ℕ) (hs : List Head) (lits : List Literal) (hints : List Hint) (k : ℕ)
-    (h : Head) → k < length hs → slice_get hs k ≡ Some h
+pub kind-line_at : (i j : ℕ) (hs : List LineHead) (lits : List Literal) (hints : List Hint) (k : ℕ)
+    (h : LineHead) → k < length hs → slice_get hs k ≡ Some h
     → h.kind ≡ (line_at (lines_from i j hs lits hints) k).kind
 kind-line_at i j [] lits hints k h lt e = absurd (omega arith)
 kind-line_at i j (g ∷ hs) lits hints zero h lt e =
-    ap (λ (x : Head). x.kind) (sym (get_or_from_slice_get (g ∷ hs) zero h h e))
+    ap (λ (x : LineHead). x.kind) (sym (get_or_from_slice_get (g ∷ hs) zero h h e))
 kind-line_at i j (g ∷ hs) lits hints (suc k) h lt e =
     kind-line_at g.lits_end g.hints_end hs lits hints k h (omega arith) e
 
 -- the ends of the line before
-lits_before-suc : (i : ℕ) (hs : List Head) (k : ℕ) (d : Head) → k < length hs
+lits_before-suc : (i : ℕ) (hs : List LineHead) (k : ℕ) (d : LineHead) → k < length hs
     → (get_or hs k d).lits_end ≡ lits_before i hs (suc k)
 lits_before-suc i [] k d lt = absurd (omega arith)
 lits_before-suc i (g ∷ hs) zero d lt = refl
 lits_before-suc i (g ∷ hs) (suc k) d lt = lits_before-suc g.lits_end hs k d (omega arith)
 
-hints_before-suc : (j : ℕ) (hs : List Head) (k : ℕ) (d : Head) → k < length hs
+hints_before-suc : (j : ℕ) (hs : List LineHead) (k : ℕ) (d : LineHead) → k < length hs
     → (get_or hs k d).hints_end ≡ hints_before j hs (suc k)
 hints_before-suc j [] k d lt = absurd (omega arith)
 hints_before-suc j (g ∷ hs) zero d lt = refl
 hints_before-suc j (g ∷ hs) (suc k) d lt = hints_before-suc g.hints_end hs k d (omega arith)
 
-module _ (hs : List Head) (n : ℕ) (h : Head) (some : n ≡ 0 → ⊥) (le : n ≤ length hs)
+module _ (hs : List LineHead) (n : ℕ) (h : LineHead) (some : n ≡ 0 → ⊥) (le : n ≤ length hs)
     (is : slice_get hs (n - 1) ≡ Some h) where
   last : get_or hs (n - 1) h ≡ h
   last = get_or_from_slice_get hs (n - 1) h h is
@@ -56,12 +56,12 @@ module _ (hs : List Head) (n : ℕ) (h : Head) (some : n ≡ 0 → ⊥) (le : n 
 
   pub lits_before-last : h.lits_end ≡ lits_before 0 hs n
   lits_before-last =
-      ap (λ (x : Head). x.lits_end) (sym last) ∙ lits_before-suc 0 hs (n - 1) h (omega arith)
+      ap (λ (x : LineHead). x.lits_end) (sym last) ∙ lits_before-suc 0 hs (n - 1) h (omega arith)
       ∙ ap (lits_before 0 hs) next
 
   pub hints_before-last : h.hints_end ≡ hints_before 0 hs n
   hints_before-last =
-      ap (λ (x : Head). x.hints_end) (sym last) ∙ hints_before-suc 0 hs (n - 1) h (omega arith)
+      ap (λ (x : LineHead). x.hints_end) (sym last) ∙ hints_before-suc 0 hs (n - 1) h (omega arith)
       ∙ ap (hints_before 0 hs) next
 
 -- where a line's literals lie
@@ -70,7 +70,7 @@ pub record Placed {X : Type 0} (xs : List X) (start end : ℕ) (part : List X) :
   pub within : end ≤ length xs
   pub part_is : slice_range xs start end ≡ part
 
-lits_placed : (i j : ℕ) (hs : List Head) (lits : List Literal) (hints : List Hint) (k : ℕ)
+lits_placed : (i j : ℕ) (hs : List LineHead) (lits : List Literal) (hints : List Hint) (k : ℕ)
     → AreEndsFrom i j hs lits hints → k < length hs
     → Placed lits (lits_before i hs k) (lits_before i hs (suc k))
     (line_at (lines_from i j hs lits hints) k).clause
@@ -80,7 +80,7 @@ lits_placed i j (h ∷ hs) lits hints zero ends lt =
 lits_placed i j (h ∷ hs) lits hints (suc k) ends lt =
     lits_placed h.lits_end h.hints_end hs lits hints k ends.4 (omega arith)
 
-hints_placed : (i j : ℕ) (hs : List Head) (lits : List Literal) (hints : List Hint) (k : ℕ)
+hints_placed : (i j : ℕ) (hs : List LineHead) (lits : List Literal) (hints : List Hint) (k : ℕ)
     → AreEndsFrom i j hs lits hints → k < length hs
     → Placed hints (hints_before j hs k) (hints_before j hs (suc k))
     (line_at (lines_from i j hs lits hints) k).hints
@@ -90,7 +90,7 @@ hints_placed i j (h ∷ hs) lits hints zero ends lt =
 hints_placed i j (h ∷ hs) lits hints (suc k) ends lt =
     hints_placed h.lits_end h.hints_end hs lits hints k ends.4 (omega arith)
 
-module _ (hs : List Head) (lits : List Literal) (hints : List Hint) (k s e : ℕ)
+module _ (hs : List LineHead) (lits : List Literal) (hints : List Hint) (k s e : ℕ)
     (ends : AreEndsFrom 0 0 hs lits hints) (lt : k < length hs) where
   pub clause-line_at : s ≡ lits_before 0 hs k → e ≡ lits_before 0 hs (k + 1)
       → Placed lits s e (line_at (lines_from 0 0 hs lits hints) k).clause
@@ -101,8 +101,8 @@ module _ (hs : List Head) (lits : List Literal) (hints : List Hint) (k s e : ℕ
   hints-line_at p q = rw (p, q, add-one) (hints_placed 0 0 hs lits hints k ends lt)
 
 -- a line more
-pub lines_from-push : (i j : ℕ) (hs : List Head) (lits more_lits : List Literal)
-    (hints more_hints : List Hint) (h : Head) → AreEndsFrom i j hs lits hints
+pub lines_from-push : (i j : ℕ) (hs : List LineHead) (lits more_lits : List Literal)
+    (hints more_hints : List Hint) (h : LineHead) → AreEndsFrom i j hs lits hints
     → h.lits_end ≡ length lits + length more_lits
     → h.hints_end ≡ length hints + length more_hints
     → lines_from i j (hs ++ h ∷ []) (lits ++ more_lits) (hints ++ more_hints)
@@ -123,8 +123,8 @@ lines_from-push i j (g ∷ hs) lits ml hints mh h ends p q =
       lines_from-push g.lits_end g.hints_end hs lits ml hints mh h ends.4 p q,
     ) refl
 
-pub AreEndsFrom-push : (i j : ℕ) (hs : List Head) (lits more_lits : List Literal)
-    (hints more_hints : List Hint) (h : Head) → AreEndsFrom i j hs lits hints
+pub AreEndsFrom-push : (i j : ℕ) (hs : List LineHead) (lits more_lits : List Literal)
+    (hints more_hints : List Hint) (h : LineHead) → AreEndsFrom i j hs lits hints
     → h.lits_end ≡ length lits + length more_lits
     → h.hints_end ≡ length hints + length more_hints
     → AreEndsFrom i j (hs ++ h ∷ []) (lits ++ more_lits) (hints ++ more_hints)
@@ -147,7 +147,8 @@ AreEndsFrom-push i j (g ∷ hs) lits ml hints mh h ends p q =
       AreEndsFrom-push g.lits_end g.hints_end hs lits ml hints mh h ends.4 p q,
     )
 
-module _ (hs : List Head) (lits : List Literal) (hints : List Hint) (h : Head) (line : LogLine)
+module _ (hs : List LineHead) (lits : List Literal) (hints : List Hint) (h : LineHead)
+    (line : LogLine)
     (flat : IsFlat hs lits hints)
     (kind : h.kind ≡ line.kind) (p : h.lits_end ≡ length lits + length line.clause)
     (q : h.hints_end ≡ length hints + length line.hints) where

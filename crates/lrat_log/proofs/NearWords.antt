@@ -7,7 +7,7 @@ use Rattle.std.proofs.lemmas.List.{get_or_append_left, get_or_read, get_or-map, 
 use Rattle.std.proofs.lemmas.Option.{slice_get_read}
 use Rattle.std.proofs.Math.Seq.{get_or-append_seam}
 use Rattle.lrat_log.specs.declared.heads.FarHead.{FarHead}
-use Rattle.lrat_log.specs.declared.heads.Head.{Head}
+use Rattle.lrat_log.specs.declared.heads.LineHead.{LineHead}
 use Rattle.lrat_log.specs.declared.lines.Kind.{Kind}
 use Rattle.lrat_log.specs.declared.lines.Kind.TheVariants.{Learned, Unit, Resolvent, Definition}
 use Rattle.lrat_log.specs.declared.lines.Kind.TheVariants.{Weaker, Delete, Empty}
@@ -20,7 +20,7 @@ pub length-near_heads : (i : ℕ) (bs : List Ends) (ws : List ℕ)
 length-near_heads i bs [] = refl
 length-near_heads i bs (w ∷ ws) = ap suc (length-near_heads (suc i) bs ws)
 
-near_heads-at : (i : ℕ) (bs : List Ends) (ws : List ℕ) (k : ℕ) (d : Head) → k < length ws
+near_heads-at : (i : ℕ) (bs : List Ends) (ws : List ℕ) (k : ℕ) (d : LineHead) → k < length ws
     → get_or (near_heads i bs ws) k d ≡ near_head (base_at bs (i + k)) (get_or ws k 0)
 near_heads-at i bs [] k d lt = absurd (omega arith)
 near_heads-at i bs (w ∷ ws) zero d lt =
@@ -54,7 +54,7 @@ near_heads-more i bs more (w ∷ ws) le =
     (near_heads-more (suc i) bs more ws (omega arith))
 
 -- heads are the same where their fields are
-pub same_head : (a b : Head) → a.kind ≡ b.kind → a.lits_end ≡ b.lits_end
+pub same_head : (a b : LineHead) → a.kind ≡ b.kind → a.lits_end ≡ b.lits_end
     → a.hints_end ≡ b.hints_end → a ≡ b
 same_head a b p q r =
     ap (λ k. record { kind = k; lits_end = a.lits_end; hints_end = a.hints_end }) p
@@ -70,7 +70,7 @@ kind_at-number_of Weaker = refl
 kind_at-number_of Delete = refl
 kind_at-number_of Empty = refl
 
-module _ (bs : List Ends) (ws : List ℕ) (h : Head) where
+module _ (bs : List Ends) (ws : List ℕ) (h : LineHead) where
   -- a line that begins a block
   pub block_begun : (n : ℕ) → length ws ≡ 32 * length bs → n ≡ number_of h.kind → n < 8
       → near_heads 0 (bs ++ record { lits = h.lits_end; hints = h.hints_end } ∷ []) (ws ++ n ∷ [])
@@ -104,7 +104,7 @@ module _ (bs : List Ends) (ws : List ℕ) (h : Head) where
       ∙ ap (λ x. near_heads 0 bs ws ++ x ∷ []) e
 
 -- the head in a place
-module _ (bs : List Ends) (ws : List ℕ) (fs : List FarHead) (whole : List Head)
+module _ (bs : List Ends) (ws : List ℕ) (fs : List FarHead) (whole : List LineHead)
     (joined : near_heads 0 bs ws ++ map far_head fs ≡ whole) where
   pub lengths : length ws + length fs ≡ length whole
   lengths = let n = length-near_heads 0 bs ws in

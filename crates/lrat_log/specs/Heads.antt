@@ -3,7 +3,7 @@
 -- without their 2^32s, and these are in the third word, with the number of the kind.
 use Rattle.std.specs.Prelude.{ℕ, suc, ◌+◌, ◌*◌, ◌/◌, ◌%◌, ◌==◌, if◌then◌else◌, List, []}
 use Rattle.std.specs.Prelude.{◌∷◌, slice_index_or}
-use Rattle.lrat_log.specs.declared.heads.Head.{Head}
+use Rattle.lrat_log.specs.declared.heads.LineHead.{LineHead}
 use Rattle.lrat_log.specs.declared.heads.FarHead.{FarHead}
 use Rattle.lrat_log.specs.declared.heads.TheConstants.{WORD, BLOCK, NEAR_LITS_UNIT}
 use Rattle.lrat_log.specs.declared.heads.TheConstants.{FAR_LITS_UNIT, HINTS_UNIT}
@@ -38,7 +38,7 @@ pub record Ends : Type 0 where
   pub hints : ℕ
 
 -- a line's word, over the ends of the first line of its block
-abbrev pub near_head : Ends → ℕ → Head
+abbrev pub near_head : Ends → ℕ → LineHead
 near_head base word = record {
   kind = kind_at (word % HINTS_UNIT);
   lits_end = base.lits + word / NEAR_LITS_UNIT;
@@ -49,13 +49,13 @@ abbrev pub base_at : List Ends → ℕ → Ends
 base_at bases place = slice_index_or bases (place / BLOCK) (record { lits = 0; hints = 0 })
 
 -- the words of the lines from a place on
-abbrev pub near_heads : ℕ → List Ends → List ℕ → List Head
+abbrev pub near_heads : ℕ → List Ends → List ℕ → List LineHead
 near_heads place bases [] = []
 near_heads place bases (word ∷ words) =
     near_head (base_at bases place) word ∷ near_heads (suc place) bases words
 
 -- a line in three words
-abbrev pub far_head : FarHead → Head
+abbrev pub far_head : FarHead → LineHead
 far_head h = record {
   kind = kind_at (h.tops % HINTS_UNIT);
   lits_end = h.lits_low + WORD * (h.tops / FAR_LITS_UNIT);

@@ -44,7 +44,7 @@ const HINTS_LIMIT: u64 = 1 << 46;
 /// A line, by what it is for and the places where its literals and its hints end. They begin where
 /// those of the line before end.
 #[derive(Clone, Copy, Drop)]
-pub struct Head {
+pub struct LineHead {
     /// What the line is for.
     pub kind: Kind,
     /// The place behind its last literal.
@@ -57,7 +57,7 @@ pub struct Head {
 #[derive(Drop)]
 pub struct HeadList {
     // For each 32 of the near words.
-    bases: Vec<Base>,
+    bases: Vec<BlockEnds>,
     // The first lines, in a word each. From the top: how many literals behind its base the line
     // ends, below 2^14; how many hints, below 2^15; and the number of its kind, from 0 to 6, in
     // three bits.
@@ -68,10 +68,10 @@ pub struct HeadList {
 
 impl Model for HeadList {
     ghost use Rattle.std.specs.Prelude.{List, ◌++◌, ◌≤◌, ◌*◌, length, map};
-    ghost use Rattle.lrat_log.specs.declared.heads.Head.{Head};
+    ghost use Rattle.lrat_log.specs.declared.heads.LineHead.{LineHead};
     ghost use Rattle.lrat_log.specs.Heads.{near_heads, far_head};
 
-    ghost Value = { List Head };
+    ghost Value = { List LineHead };
 
     ghost view = { λ h. near_heads 0 h.bases.items h.near.items ++ map far_head h.far.items };
 
@@ -98,7 +98,7 @@ impl HeadList {
     }
 
     /// The head in this place, from 0.
-    pub fn get(&self, place: usize) -> Head
+    pub fn get(&self, place: usize) -> LineHead
         requires { place < length self.now }
         ensures { slice_get self.now place ≡ Some result }
     {
@@ -116,7 +116,7 @@ impl HeadList {
     ///
     /// `AllocError` where a growth was refused, or literals or hints up to its ends take 2^48
     /// bytes, which no memory holds. The heads are then as they were.
-    pub fn push(&mut self, head: Head) -> Result<(), AllocError>
+    pub fn push(&mut self, head: LineHead) -> Result<(), AllocError>
         ensures ok { OnOk result (self.new ≡ self.old ++ head ∷ []) }
         ensures few { OnOk result (head.hints_end < 2 ^ 46) }
         ensures err { OnErr result (self.new ≡ self.old) }
@@ -132,14 +132,14 @@ impl HeadList {
 
 /// The places where the first line of a block ends.
 #[derive(Clone, Copy, Drop)]
-struct Base {
+struct BlockEnds {
     // The place behind its last literal, below 2^47.
     lits: u64,
     // The place behind its last hint, below 2^46.
     hints: u64,
 }
 
-impl Model for Base {
+impl Model for BlockEnds {
     ghost use Rattle.std.specs.Prelude.{◌<◌, ◌^◌};
     ghost use Rattle.lrat_log.specs.Heads.{Ends};
 
@@ -172,7 +172,7 @@ impl FarHead {
     /// # Errors
     ///
     /// `AllocError` where literals or hints up to its ends take 2^48 bytes: no memory holds them.
-    fn new(head: Head) -> Result<Self, AllocError>
+    fn new(head: LineHead) -> Result<Self, AllocError>
         ensures kind { IfOk result (λ far. (far_head far).kind ≡ head.kind) }
         ensures lits { IfOk result (λ far. (far_head far).lits_end ≡ head.lits_end) }
         ensures hints { IfOk result (λ far. (far_head far).hints_end ≡ head.hints_end) }
@@ -192,11 +192,11 @@ impl FarHead {
     }
 
     /// The head itself.
-    fn head(self) -> Head
+    fn head(self) -> LineHead
         ensures { result ≡ far_head self }
     {
         let tops = u64::from(self.tops);
-        Head {
+        LineHead {
             kind: kind(tops % HINTS_UNIT),
             lits_end: u64::from(self.lits_low) + WORD * (tops / FAR_LITS_UNIT),
             hints_end: u64::from(self.hints_low) + WORD * (tops % FAR_LITS_UNIT / HINTS_UNIT),
@@ -206,7 +206,11 @@ impl FarHead {
 
 /// Puts the head behind the near ones, and answers true; or changes nothing, where it ends too far
 /// behind its base.
-fn push_near(bases: &mut Vec<Base>, near: &mut Vec<u32>, head: Head) -> Result<bool, AllocError>
+fn push_near(
+    bases: &mut Vec<BlockEnds>,
+    near: &mut Vec<u32>,
+    head: LineHead,
+) -> Result<bool, AllocError>
     requires based { length near.old.items ≤ 32 * length bases.old.items }
     requires few_lits { head.lits_end < 2 ^ 47 }
     requires few_hints { head.hints_end < 2 ^ 46 }
@@ -221,7 +225,7 @@ fn push_near(bases: &mut Vec<Base>, near: &mut Vec<u32>, head: Head) -> Result<b
     if block == bases.len() {
         // Room comes first, so that a refused growth changes nothing.
         near.reserve(1)?;
-        bases.push(Base {
+        bases.push(BlockEnds {
             lits: head.lits_end,
             hints: head.hints_end,
         })?;
@@ -236,7 +240,7 @@ fn push_near(bases: &mut Vec<Base>, near: &mut Vec<u32>, head: Head) -> Result<b
 }
 
 /// The word of the head, where it ends not too far behind the base.
-fn near_word(base: Base, head: Head) -> Option<u32>
+fn near_word(base: BlockEnds, head: LineHead) -> Option<u32>
     ensures kind { IfSome result (λ word. (near_head base word).kind ≡ head.kind) }
     ensures lits { IfSome result (λ word. (near_head base word).lits_end ≡ head.lits_end) }
     ensures hints { IfSome result (λ word. (near_head base word).hints_end ≡ head.hints_end) }
@@ -253,11 +257,11 @@ fn near_word(base: Base, head: Head) -> Option<u32>
 }
 
 /// The head with this word.
-fn read_near(base: Base, word: u32) -> Head
+fn read_near(base: BlockEnds, word: u32) -> LineHead
     ensures { result ≡ near_head base word }
 {
     let word = u64::from(word);
-    Head {
+    LineHead {
         kind: kind(word % HINTS_UNIT),
         lits_end: base.lits + word / NEAR_LITS_UNIT,
         hints_end: base.hints + word % NEAR_LITS_UNIT / HINTS_UNIT,

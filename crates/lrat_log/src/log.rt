@@ -17,7 +17,7 @@ ghost use Rattle.lrat_log.specs.Log.{text_of};
 ghost use Rattle.lrat_log.specs.Texts.{line_text, numbered_after, last_after};
 ghost use Rattle.lrat_log.specs.Flat.{lits_before, hints_before};
 
-use crate::heads::{Head, HeadList};
+use crate::heads::{HeadList, LineHead};
 use crate::hints::{HintList, HintSlice};
 use crate::lines::{Hint, Kind, Line};
 use crate::sink::Sink;
@@ -146,7 +146,7 @@ impl Sink for Log {
         let lits = line.lits();
         let hints = line.hints();
         let count = self.hints.len();
-        let head = Head {
+        let head = LineHead {
             kind: line.kind(),
             lits_end: (self.lits.len() + lits.len()) as u64,
             hints_end: count.saturating_add(hints.len()) as u64,

@@ -44,7 +44,7 @@ get_seam [] ss s (suc i) e = absurd (omega arith)
 get_seam (x ∷ pre) ss s zero e = absurd (omega arith)
 get_seam (x ∷ pre) ss s (suc i) e = get_seam pre ss s i (omega arith)
 
-weight_seam : (pre ss : List SoftClause) (s : SoftClause) (i : ℕ) → length pre ≡ i
+pub weight_seam : (pre ss : List SoftClause) (s : SoftClause) (i : ℕ) → length pre ≡ i
     → get_or (map (λ s. s.weight) (pre ++ s ∷ ss)) i 0 ≡ s.weight
 weight_seam [] ss s zero e = refl
 weight_seam [] ss s (suc i) e = absurd (omega arith)

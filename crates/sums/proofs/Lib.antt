@@ -15,5 +15,7 @@ mod OnTheWay
 mod Descending
 mod Short
 mod Steps
+mod Listed
+mod Fitting
 mod Arranged
 pub mod Laws

@@ -2,12 +2,14 @@
 use Rattle.std.proofs.Common.{◌≡◌, ℕ, zero, suc, ◌+◌, ◌-◌, ◌*◌, ◌<◌, ◌≤◌, Bool, true, false}
 use Rattle.std.proofs.Common.{◌==◌, List, []}
 use Rattle.std.proofs.Common.{◌∷◌, ◌++◌, length, map, take, drop, get_or, nat_lt, if◌then◌else◌}
-use Rattle.std.proofs.Common.{refl, sym, ◌∙◌, ap}
+use Rattle.std.proofs.Common.{refl, sym, ◌∙◌, ap, Err, Contains}
 use Rattle.std.proofs.Common.{◌↔◌, inl, inr, subst, arith}
 use Rattle.std.specs.List.{AllByRecursion, HoldsAt, flat_map}
+use Rattle.std.specs.List.Sorted.{IsBinarySearchResult}
 use Rattle.std.specs.Ordering.{nat_cmp}
 use Rattle.std.specs.declared.cmp.Ordering.TheVariants.{Less, Equal, Greater}
-use Rattle.std.proofs.lemmas.Grind.{flat_map-append}
+use Rattle.std.proofs.lemmas.Grind.{flat_map-append, get_or_default_zero}
+use Rattle.std.proofs.lemmas.List.Sorted.{searched}
 use Rattle.std.proofs.lemmas.List.{take_more, append-nil, length-take-le, length-append}
 use Rattle.std.proofs.lemmas.List.{append_assoc, take_all}
 use Rattle.std.proofs.lemmas.List.{length-map}
@@ -105,6 +107,36 @@ literal_found list all n i x l r same lt found is e =
                 | false ↦ λ g f. cc
               ] refl
         ] h
+
+rises_least : (k least : ℕ) (ns : List ℕ) → k < length ns → RisesFrom least ns
+    → least ≤ get_or ns k 0
+rises_least k least [] lt r = absurd (omega arith)
+rises_least zero least (n ∷ ns) lt r = r.0
+rises_least (suc k) least (n ∷ ns) lt r =
+    omega (arith, rises_least k (n + 1) ns (omega arith) r.1, r.0)
+
+rises_up : (least : ℕ) (ns : List ℕ) → RisesFrom least ns → (i j : ℕ) → i ≤ j → j < length ns
+    → get_or ns i 0 ≤ get_or ns j 0
+rises_up least [] r i j le lt = absurd (omega arith)
+rises_up least (n ∷ ns) r zero zero le lt = omega arith
+rises_up least (n ∷ ns) r zero (suc j) le lt =
+    omega (arith, rises_least j (n + 1) ns (omega arith) r.1)
+rises_up least (n ∷ ns) r (suc i) zero le lt = absurd (omega arith)
+rises_up least (n ∷ ns) r (suc i) (suc j) le lt =
+    rises_up (n + 1) ns r.1 i j (omega arith) (omega arith)
+
+-- a number of the list is found
+pub not_absent : (list : List AtLeast) (all : List ℕ) (n i : ℕ) → RisesFrom 0 all
+    → numbers list ≡ all → IsBinarySearchResult (λ y. nat_cmp y n) all (Err i)
+    → Contains (numbers list) n → ⊥
+not_absent list all n i r same found has =
+    let at = searched all n (Err i) found (rises_up 0 all r) in
+    let c : Contains all n = subst (λ ns. Contains ns n) same has in
+    let here : get_or all c.0 0 ≡ n = sym (get_or_default_zero all c.0 n c.1) ∙ c.2 in
+    elim (cases_lt c.0 i) [
+      | inl lt ↦ omega (arith, at.1 c.0 lt)
+      | inr le ↦ omega (arith, at.2 c.0 le c.1)
+    ]
 
 -- how many clauses there are
 order_length : (x : AtLeast) (xs : List AtLeast) → length (order_after x xs) ≡ length xs

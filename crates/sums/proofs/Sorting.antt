@@ -85,7 +85,7 @@ rises_by_index least (n ∷ ns) h f = (
 has_from : (ns : List ℕ) (k : ℕ) → Contains ns k → has k ns ≡ true
 has_from ns k c = list_any_at (λ m. m == k) ns c.0 k c.1 (eq-eqb (get_or ns c.0 k) k c.2)
 
-contains_from : (ns : List ℕ) (k : ℕ) → has k ns ≡ true → Contains ns k
+pub contains_from : (ns : List ℕ) (k : ℕ) → has k ns ≡ true → Contains ns k
 contains_from ns k h =
     let a = Any-from_list_any (λ m. m == k) ns h in
     let same = eqb-true a.1 k a.4 in

@@ -11,7 +11,7 @@ use Rattle.std.proofs.lemmas.List.Sums.{sum_by-append}
 use Rattle.cnf.specs.Literal.{Literal}
 use Rattle.cnf.specs.Problem.{Problem}
 use Rattle.sums_tree.specs.Tree.{Tree, Leaf, Fork, Step, Take, Join, steps_of, groups_of}
-use Rattle.sums_tree.specs.declared.arrangement.Step as made
+use Rattle.sums_tree.specs.declared.arrangement.TreeStep as made
 use Rattle.sums_tree.specs.Arrangement.{step_of}
 use Rattle.sums.specs.Halts.{IsTooMany}
 use Rattle.sums.specs.declared.halts.Halt.{Halt}
@@ -22,12 +22,12 @@ use Rattle.sums.specs.Sums.{AtLeast, Node, Own, Both, members, most_below, node,
 use Rattle.sums.specs.Sums.{with_carries, digits_of, rest_of, both_digits, own_list, join, split}
 use Rattle.sums.specs.Sums.{first_small, tree_weight}
 use Rattle.sums.specs.Parts.{group_node, joined_node}
-use Rattle.sums.specs.Stepping.{Part, Progress, with_node, last_joined, step_made, most_before}
+use Rattle.sums.specs.Stepping.{Part, OpenParts, with_node, last_joined, step_made, most_before}
 use Rattle.sums.specs.Stepping.{steps_made, begun, finished, last_part, root_made, group_weight}
 use Rattle.sums.specs.Stepping.{step_weight, steps_weight}
 
 -- the parts of a tree one after another
-in_turn : (l r : Tree) (more : List Step)
+pub in_turn : (l r : Tree) (more : List Step)
     → steps_of (Fork l r) ++ more ≡ steps_of l ++ (steps_of r ++ (Join ∷ more))
 in_turn l r more =
     append_assoc (steps_of l ++ steps_of r) (Join ∷ []) more
@@ -39,7 +39,7 @@ some_before (Fork l r) more =
     ap most_before (in_turn l r more) ∙ some_before l (steps_of r ++ (Join ∷ more))
 
 -- the steps of a tree put its node behind what is there
-pub steps_then : (p : Problem) (d m : ℕ) (t : Tree) (more : List Step) (s : Progress)
+pub steps_then : (p : Problem) (d m : ℕ) (t : Tree) (more : List Step) (s : OpenParts)
     → most_before more ≡ m
     → steps_made p d (steps_of t ++ more) s
     ≡ steps_made p d more (with_node s s.parts (node p d m t s.fresh))
@@ -71,7 +71,7 @@ root_by_steps p t d =
     ∙ ap finished (steps_then p d 0 t [] (begun p) refl)
 
 -- clauses only come
-last_joined_grows : (m : ℕ) (s : Progress) (parts : List Part)
+last_joined_grows : (m : ℕ) (s : OpenParts) (parts : List Part)
     → length s.clauses ≤ length (last_joined m s parts).clauses
 last_joined_grows m s [] = omega arith
 last_joined_grows m s (r ∷ []) = omega arith
@@ -81,20 +81,20 @@ last_joined_grows m s (r ∷ l ∷ parts) =
       length-append s.clauses (joined_node m l.digits l.top r.digits r.top s.fresh).clauses,
     )
 
-step_grows : (p : Problem) (d m : ℕ) (step : Step) (s : Progress)
+step_grows : (p : Problem) (d m : ℕ) (step : Step) (s : OpenParts)
     → length s.clauses ≤ length (step_made p d m step s).clauses
 step_grows p d m (Take g) s =
     omega (arith, length-append s.clauses (group_node m d (members p g) s.fresh).clauses)
 step_grows p d m Join s = last_joined_grows m s s.parts
 
-pub finished_clauses : (s : Progress) → (finished s).clauses ≡ s.clauses
+pub finished_clauses : (s : OpenParts) → (finished s).clauses ≡ s.clauses
 finished_clauses s = by s.parts
   where
     by : (parts : List Part) → (last_part s parts).clauses ≡ s.clauses
     by [] = refl
     by (x ∷ parts) = refl
 
-pub steps_grow : (p : Problem) (d : ℕ) (steps : List Step) (s : Progress)
+pub steps_grow : (p : Problem) (d : ℕ) (steps : List Step) (s : OpenParts)
     → length s.clauses ≤ length (steps_made p d steps s).clauses
 steps_grow p d [] s = omega arith
 steps_grow p d (step ∷ more) s =
@@ -103,14 +103,14 @@ steps_grow p d (step ∷ more) s =
     omega arith
 
 -- new variables only come
-last_joined_up : (m : ℕ) (s : Progress) (parts : List Part)
+last_joined_up : (m : ℕ) (s : OpenParts) (parts : List Part)
     → s.fresh ≤ (last_joined m s parts).fresh
 last_joined_up m s [] = omega arith
 last_joined_up m s (r ∷ []) = omega arith
 last_joined_up m s (r ∷ l ∷ parts) =
     (carries_grow m s.fresh [] (both_digits l.digits r.digits) (Both l.top r.top)).up
 
-pub step_up : (p : Problem) (d m : ℕ) (step : Step) (s : Progress)
+pub step_up : (p : Problem) (d m : ℕ) (step : Step) (s : OpenParts)
     → s.fresh ≤ (step_made p d m step s).fresh
 step_up p d m (Take g) s =
     (carries_grow m s.fresh [] (digits_of d (members p g)) (rest_of d (members p g))).up
@@ -137,7 +137,7 @@ parts_digits zero (x ∷ xs) (y ∷ ys) le = absurd (omega arith)
 parts_digits (suc d) (x ∷ xs) (y ∷ ys) le =
     let rest = parts_digits d xs ys (omega arith) in omega arith
 
-joined_digits : (d m : ℕ) (s : Progress) (parts : List Part) → HaveDigits d s.parts
+joined_digits : (d m : ℕ) (s : OpenParts) (parts : List Part) → HaveDigits d s.parts
     → HaveDigits d parts → HaveDigits d (last_joined m s parts).parts
 joined_digits d m s [] h g = h
 joined_digits d m s (r ∷ []) h g = h
@@ -150,7 +150,7 @@ joined_digits d m s (r ∷ l ∷ parts) h g = (
   g.1.1,
 )
 
-step_digits : (p : Problem) (d m : ℕ) (step : Step) (s : Progress) → HaveDigits d s.parts
+step_digits : (p : Problem) (d m : ℕ) (step : Step) (s : OpenParts) → HaveDigits d s.parts
     → HaveDigits d (step_made p d m step s).parts
 step_digits p d m (Take g) s h = (
   omega (
@@ -162,14 +162,14 @@ step_digits p d m (Take g) s h = (
 )
 step_digits p d m Join s h = joined_digits d m s s.parts h h
 
-steps_digits : (p : Problem) (d : ℕ) (steps : List Step) (s : Progress) → HaveDigits d s.parts
+steps_digits : (p : Problem) (d : ℕ) (steps : List Step) (s : OpenParts) → HaveDigits d s.parts
     → HaveDigits d (steps_made p d steps s).parts
 steps_digits p d [] s h = h
 steps_digits p d (step ∷ more) s h =
     steps_digits p d more (step_made p d (most_before more) step s)
     (step_digits p d (most_before more) step s h)
 
-last_digits : (d : ℕ) (s : Progress) → HaveDigits d s.parts → length (finished s).digits ≤ d
+last_digits : (d : ℕ) (s : OpenParts) → HaveDigits d s.parts → length (finished s).digits ≤ d
 last_digits d s h = by s.parts h
   where
     by : (parts : List Part) → HaveDigits d parts
@@ -270,10 +270,11 @@ unfolding first_small
 first_over make steps d left e = ap (λ n. first_small make n d left) e
 
 -- the steps as the code goes through them
-module _ (p : Problem) (d : ℕ) (ss : List made.Step) (i most : ℕ) (s : Progress) (x : made.Step)
+module _ (p : Problem) (d : ℕ) (ss : List made.TreeStep) (i most : ℕ) (s : OpenParts)
+    (x : made.TreeStep)
     (within : i < length ss) (is : x ≡ get_or ss i x)
     (last : most ≡ most_before (map step_of (drop (i + 1) ss))) where
-  pub step_forward : (new : Progress) → new ≡ step_made p d most (step_of x) s
+  pub step_forward : (new : OpenParts) → new ≡ step_made p d most (step_of x) s
       → steps_made p d (map step_of (drop (i + 1) ss)) new
       ≡ steps_made p d (map step_of (drop i ss)) s
   step_forward new e =
@@ -291,23 +292,23 @@ module _ (p : Problem) (d : ℕ) (ss : List made.Step) (i most : ℕ) (s : Progr
       omega (
         arith,
         steps_grow p d (map step_of (drop (i + 1) ss)) (step_made p d most (step_of x) s),
-        ap (λ (z : Progress). length z.clauses)
+        ap (λ (z : OpenParts). length z.clauses)
             (step_forward (step_made p d most (step_of x) s) refl ∙ e),
         ap length (finished_clauses (steps_made p d (map step_of ss) (begun p))),
       )
 
-pub most_more : (ss : List made.Step) (k m : ℕ) → k < length ss → m ≡ most_below
+pub most_more : (ss : List made.TreeStep) (k m : ℕ) → k < length ss → m ≡ most_below
     → m ≡ most_before (map step_of (drop k ss))
 most_more [] k m lt e = absurd (omega arith)
 most_more (x ∷ ss) zero m lt e = e
 most_more (x ∷ ss) (suc k) m lt e = most_more ss k m (omega arith) e
 
-pub most_last : (ss : List made.Step) (k m : ℕ) → length ss ≤ k → m ≡ 0
+pub most_last : (ss : List made.TreeStep) (k m : ℕ) → length ss ≤ k → m ≡ 0
     → m ≡ most_before (map step_of (drop k ss))
 most_last ss k m le e = e ∙ ap (λ zs. most_before (map step_of zs)) (sym (drop_all k ss le))
 
 -- no step is left
-pub steps_ended : (p : Problem) (d : ℕ) (ss : List made.Step) (i : ℕ) (s : Progress)
+pub steps_ended : (p : Problem) (d : ℕ) (ss : List made.TreeStep) (i : ℕ) (s : OpenParts)
     → length ss ≤ i
     → steps_made p d (map step_of (drop i ss)) s ≡ steps_made p d (map step_of ss) (begun p)
     → finished s ≡ root_made p (map step_of ss) d

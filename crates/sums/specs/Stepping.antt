@@ -1,7 +1,8 @@
 -- What the steps that build a tree make: the lists of each node, one node after another.
-use Rattle.std.specs.Prelude.{ℕ, ◌+◌, List, [], ◌∷◌, ◌++◌, length, sum_by}
+use Rattle.std.specs.Prelude.{ℕ, ◌+◌, ◌-◌, ◌<◌, ◌≤◌, List, [], ◌∷◌, ◌++◌, length, sum_by, All}
 use Rattle.cnf.specs.Literal.{Literal}
 use Rattle.cnf.specs.Problem.{Problem}
+use Rattle.cnf.specs.declared.limits.TheConstants.{NUMBER_LIMIT}
 use Rattle.sums_tree.specs.Tree.{Step, Take, Join}
 use Rattle.sums.specs.Sums.{AtLeast, Node, members, most_below}
 use Rattle.sums.specs.Parts.{group_node, joined_node}
@@ -17,13 +18,13 @@ part_of l = record { digits = l.digits.items; top = l.top }
 
 -- the parts that wait for being joined, the last one first; the clauses of all parts so far, and
 -- the next new variable
-pub record Progress : Type 0 where
+pub record OpenParts : Type 0 where
   pub parts : List Part
   pub clauses : List (List Literal)
   pub fresh : ℕ
 
 -- a node comes behind some parts
-abbrev pub with_node : Progress → List Part → Node → Progress
+abbrev pub with_node : OpenParts → List Part → Node → OpenParts
 with_node s parts n = record {
   parts = record { digits = n.digits; top = n.top } ∷ parts;
   clauses = s.clauses ++ n.clauses;
@@ -31,13 +32,13 @@ with_node s parts n = record {
 }
 
 -- the last two parts become one; fewer than two stay
-abbrev pub last_joined : ℕ → Progress → List Part → Progress
+abbrev pub last_joined : ℕ → OpenParts → List Part → OpenParts
 last_joined most s [] = s
 last_joined most s (r ∷ []) = s
 last_joined most s (r ∷ l ∷ parts) =
     with_node s parts (joined_node most l.digits l.top r.digits r.top s.fresh)
 
-abbrev pub step_made : Problem → ℕ → ℕ → Step → Progress → Progress
+abbrev pub step_made : Problem → ℕ → ℕ → Step → OpenParts → OpenParts
 step_made problem p most (Take group) s =
     with_node s s.parts (group_node most p (members problem group) s.fresh)
 step_made problem p most Join s = last_joined most s s.parts
@@ -47,12 +48,12 @@ abbrev pub most_before : List Step → ℕ
 most_before [] = 0
 most_before (step ∷ more) = most_below
 
-abbrev pub steps_made : Problem → ℕ → List Step → Progress → Progress
+abbrev pub steps_made : Problem → ℕ → List Step → OpenParts → OpenParts
 steps_made problem p [] s = s
 steps_made problem p (step ∷ more) s =
     steps_made problem p more (step_made problem p (most_before more) step s)
 
-abbrev pub begun : Problem → Progress
+abbrev pub begun : Problem → OpenParts
 begun problem = record {
   parts = [];
   clauses = [];
@@ -60,12 +61,12 @@ begun problem = record {
 }
 
 -- the last part, with all clauses
-abbrev pub last_part : Progress → List Part → Node
+abbrev pub last_part : OpenParts → List Part → Node
 last_part s [] = record { digits = []; top = []; clauses = s.clauses; fresh = s.fresh }
 last_part s (x ∷ parts) =
     record { digits = x.digits; top = x.top; clauses = s.clauses; fresh = s.fresh }
 
-abbrev pub finished : Progress → Node
+abbrev pub finished : OpenParts → Node
 finished s = last_part s s.parts
 
 -- the root that the steps make
@@ -82,3 +83,27 @@ step_weight problem Join = 0
 
 abbrev pub steps_weight : Problem → List Step → ℕ
 steps_weight problem steps = sum_by (step_weight problem) steps
+
+-- the places of a group are those of soft clauses
+abbrev pub IsPlaced : Problem → Step → Type 0
+IsPlaced problem (Take group) = All (λ i. i < length problem.soft) group
+IsPlaced problem Join = Unit {0}
+
+-- with so many parts a step can be taken, and how many there are then
+abbrev pub CanStep : ℕ → Step → Type 0
+CanStep parts (Take group) = Unit {0}
+CanStep parts Join = 2 ≤ parts
+
+abbrev pub parts_after : ℕ → Step → ℕ
+parts_after parts (Take group) = parts + 1
+parts_after parts Join = parts - 1
+
+abbrev pub CanStepAll : ℕ → List Step → Type 0
+CanStepAll parts [] = Unit {0}
+CanStepAll parts (step ∷ more) = CanStep parts step × CanStepAll (parts_after parts step) more
+
+-- what is known of the steps of an instance's tree
+pub record AreSteps (problem : Problem) (steps : List Step) : Type 0 where
+  pub placed : All (IsPlaced problem) steps
+  pub parts : CanStepAll 0 steps
+  pub weights : steps_weight problem steps < NUMBER_LIMIT

@@ -1,6 +1,6 @@
 // Clauses that link a new list to those of which it is made.
-ghost use Rattle.std.specs.Prelude.{◌≡◌, ◌+◌, [], ◌∷◌, ◌++◌, map, OnOk};
-ghost use Rattle.sums.specs.Sums.{literal_of, no, order_clauses, own_clauses, sum_clauses};
+ghost use Rattle.std.specs.Prelude.{◌≡◌, ◌+◌, ◌<◌, ◌^◌, [], ◌∷◌, ◌++◌, map, All, Contains, OnOk};
+ghost use Rattle.sums.specs.Sums.{literal_of, no, numbers, order_clauses, own_clauses, sum_clauses};
 
 use crate::lists::AtLeast;
 use crate::naming::Named;
@@ -13,10 +13,11 @@ pub(crate) fn push_own(
     new: &Named,
     old: &[AtLeast],
 ) -> Result<(), AllocError>
+    requires { All (λ x. Contains (numbers new.now) x.number) old.now }
     ensures { OnOk result (clauses.new ≡ clauses.old ++ own_clauses new.now old.now) }
 {
     for each in old {
-        clauses.push(&[each.no(), new.literal(each.number())?])?;
+        clauses.push(&[each.no(), new.literal(each.number())])?;
     }
     Ok(())
 }
@@ -28,6 +29,9 @@ pub(crate) fn push_both(
     left: &[AtLeast],
     right: &[AtLeast],
 ) -> Result<(), AllocError>
+    requires named { All (λ x. All (λ y. Contains (numbers new.now) (x.number + y.number))
+        right.now) left.now }
+    requires small { All (λ x. All (λ y. x.number + y.number < 2 ^ 64) right.now) left.now }
     ensures { OnOk result
         (clauses.new ≡ clauses.old ++ sum_clauses new.now left.now right.now) }
 {
@@ -44,6 +48,8 @@ fn push_with(
     one: AtLeast,
     list: &[AtLeast],
 ) -> Result<(), AllocError>
+    requires named { All (λ y. Contains (numbers new.now) (one.number + y.number)) list.now }
+    requires small { All (λ y. one.number + y.number < 2 ^ 64) list.now }
     ensures { OnOk result (clauses.new
         ≡ clauses.old
         ++ map
@@ -51,8 +57,8 @@ fn push_with(
         list.now) }
 {
     for each in list {
-        let sum = one.number().checked_add(each.number()).ok_or(AllocError)?;
-        clauses.push(&[one.no(), each.no(), new.literal(sum)?])?;
+        let sum = one.number() + each.number();
+        clauses.push(&[one.no(), each.no(), new.literal(sum)])?;
     }
     Ok(())
 }

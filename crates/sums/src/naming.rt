@@ -1,5 +1,6 @@
 // The numbers of a new list: each once, by rising size, with a new variable each.
-ghost use Rattle.std.specs.Prelude.{◌≡◌, ℕ, ◌+◌, ◌<◌, ◌≤◌, ◌^◌, ◌++◌, map, length, OnOk, IfOk};
+ghost use Rattle.std.specs.Prelude.{◌≡◌, ℕ, ◌+◌, ◌<◌, ◌≤◌, ◌^◌, ◌++◌, map, length, All, Contains};
+ghost use Rattle.std.specs.Prelude.{OnOk, IfOk};
 ghost use Rattle.cnf.specs.declared.limits.TheConstants.{FORMULA_VARIABLE_LIMIT};
 ghost use Rattle.sums.specs.Sums.{literal_of, named_from, numbers, rising, sums_with};
 
@@ -25,7 +26,9 @@ pub(crate) fn push_sums(
     left: &[AtLeast],
     right: &[AtLeast],
 ) -> Result<(), AllocError>
-    ensures { OnOk result (all.new.items ≡ all.old.items ++ sums_with left.now right.now) }
+    ensures sums { OnOk result (all.new.items ≡ all.old.items ++ sums_with left.now right.now) }
+    ensures small { OnOk result
+        (All (λ x. All (λ y. x.number + y.number < 2 ^ 64) right.now) left.now) }
 {
     for each in left {
         push_row(all, each.number(), right)?;
@@ -35,10 +38,12 @@ pub(crate) fn push_sums(
 
 /// Puts the sums of the number and one of the list last.
 fn push_row(all: &mut Vec<u64>, number: u64, list: &[AtLeast]) -> Result<(), AllocError>
-    ensures { OnOk result
+    ensures sums { OnOk result
         (all.new.items ≡ all.old.items ++ map (λ y. number + y.number) list.now) }
+    ensures small { OnOk result (All (λ y. number + y.number < 2 ^ 64) list.now) }
 {
     for each in list {
+        // The numbers of a tree's lists sum to no more than its weights, so that none is too large.
         all.push(number.checked_add(each.number()).ok_or(AllocError)?)?;
     }
     Ok(())
@@ -125,13 +130,14 @@ impl Named {
         self.list
     }
 
-    /// The literal of a number. One that the list has not counts as refused memory.
-    pub fn literal(&self, number: u64) -> Result<Lit, AllocError>
-        ensures { IfOk result (λ l. l ≡ literal_of self.now number) }
+    /// The literal of a number of the list.
+    pub fn literal(&self, number: u64) -> Lit
+        requires { Contains (numbers self.now) number }
+        ensures { result ≡ literal_of self.now number }
     {
         match self.numbers.binary_search(&number) {
-            Ok(place) => Ok(self.list[place].yes()),
-            Err(_) => Err(AllocError),
+            Ok(place) => self.list[place].yes(),
+            Err(_) => unreachable!(),
         }
     }
 }

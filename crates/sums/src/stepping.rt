@@ -1,10 +1,11 @@
 // The sums along a tree, step by step: the lists of each node from those of its parts.
-ghost use Rattle.std.specs.Prelude.{◌≡◌, ◌+◌, ◌<◌, ◌≤◌, ◌^◌, length, map, OnOk, IfOk};
+ghost use Rattle.std.specs.Prelude.{◌≡◌, ◌+◌, ◌<◌, ◌≤◌, ◌^◌, [], ◌∷◌, ◌++◌, length, map, All};
+ghost use Rattle.std.specs.Prelude.{OnOk, IfOk};
 ghost use Rattle.cnf.specs.Instance.{IsInstance};
 ghost use Rattle.sums_tree.specs.Arrangement.{step_of};
 ghost use Rattle.sums.specs.Halts.{IfTooMany};
 ghost use Rattle.sums.specs.Stepping.{begun, finished, root_made, step_made};
-ghost use Rattle.sums.specs.Stepping.{group_weight, steps_weight};
+ghost use Rattle.sums.specs.Stepping.{group_weight, steps_weight, IsPlaced, CanStep, AreSteps};
 ghost use Rattle.sums.specs.Sums.{members};
 
 use crate::builder::Builder;
@@ -16,23 +17,23 @@ use cnf::clause_list::ClauseList;
 use cnf::types::Instance;
 use std::alloc::AllocError;
 use std::marker::Model;
-use sums_tree::arrangement::Step;
+use sums_tree::arrangement::TreeStep;
 
 /// A digit's list may be so long at a node below the root.
 const MOST_BELOW: usize = 32;
 
 /// The parts of a tree that wait for being joined.
 #[derive(Drop)]
-struct Progress {
+struct OpenParts {
     // The last part last; one at most for each step.
     parts: Vec<Lists>,
     // The clauses of all parts so far, also of those that were joined.
     builder: Builder,
 }
 
-impl Model for Progress {
+impl Model for OpenParts {
     ghost use Rattle.std.specs.Prelude.{map, reverse};
-    ghost use Rattle.sums.specs.Stepping.{Progress as Parts, part_of};
+    ghost use Rattle.sums.specs.Stepping.{OpenParts as Parts, part_of};
 
     ghost Value = { Parts };
 
@@ -43,7 +44,7 @@ impl Model for Progress {
     } };
 }
 
-impl Progress {
+impl OpenParts {
     /// No part yet.
     fn of(instance: &Instance) -> Self
         ensures begun { result ≡ begun instance.now }
@@ -51,7 +52,7 @@ impl Progress {
     {
         let alloc = instance.allocator();
         let fresh = instance.vars() + instance.soft().len() as u32 + 1;
-        Progress {
+        OpenParts {
             parts: Vec::new(alloc),
             builder: Builder {
                 clauses: ClauseList::new(alloc),
@@ -66,23 +67,24 @@ impl Progress {
         instance: &Instance,
         digits: u32,
         most: usize,
-        step: &Step,
+        step: &TreeStep,
     ) -> Result<(), Halt>
-        requires { 0 < self.old.fresh }
+        requires from_one { 0 < self.old.fresh }
+        requires placed { IsPlaced instance.now (step_of step.now) }
+        requires parts { CanStep (length self.old.parts) (step_of step.now) }
         ensures ok { OnOk result (self.new
             ≡ step_made instance.now digits most (step_of step.now) self.old) }
         ensures many { IfTooMany result (2 ^ 17
             < length (step_made instance.now digits most (step_of step.now) self.old).clauses) }
     {
         let lists = match step {
-            Step::Take(group) => {
+            TreeStep::Take(group) => {
                 let each = members_of(instance, group)?;
                 take_group(&mut self.builder, most, digits, each)?
             }
-            Step::Join => {
-                // The steps of a tree always leave two parts here.
-                let right = self.parts.pop().ok_or(AllocError)?;
-                let left = self.parts.pop().ok_or(AllocError)?;
+            TreeStep::Join => {
+                let right = last_of(&mut self.parts);
+                let left = last_of(&mut self.parts);
                 join_lists(&mut self.builder, most, left, right)?
             }
         };
@@ -95,7 +97,7 @@ impl Progress {
         requires { length (finished self).digits < 64 }
         ensures { result ≡ finished self }
     {
-        let Progress { mut parts, builder } = self;
+        let OpenParts { mut parts, builder } = self;
         let last = match parts.pop() {
             Some(last) => last,
             None => Lists::none(builder.clauses.allocator()),
@@ -104,16 +106,28 @@ impl Progress {
     }
 }
 
+/// Takes out the last part.
+fn last_of(parts: &mut Vec<Lists>) -> Lists
+    requires { 0 < length parts.old.items }
+    ensures { parts.old.items ≡ parts.new.items ++ result ∷ [] }
+{
+    match parts.pop() {
+        Some(last) => last,
+        None => unreachable!(),
+    }
+}
+
 /// The root that the steps make, with so many digits, if there are at most 2^17 clauses.
-pub(crate) fn root_of(instance: &Instance, steps: &[Step], digits: u32) -> Result<Root, Halt>
-    requires { digits < 64 }
+pub(crate) fn root_of(instance: &Instance, steps: &[TreeStep], digits: u32) -> Result<Root, Halt>
+    requires few { digits < 64 }
+    requires steps { AreSteps instance.now (map step_of steps.now) }
     ensures root { IfOk result (λ r. r ≡ root_made instance.now (map step_of steps.now) digits) }
     ensures few { IfOk result (λ r. length r.clauses ≤ 2 ^ 17) }
     ensures many { IfTooMany result
         (2 ^ 17 < length (root_made instance.now (map step_of steps.now) digits).clauses) }
     ensures limits { IsInstance instance.now }
 {
-    let mut progress = Progress::of(instance);
+    let mut progress = OpenParts::of(instance);
     for (i, step) in steps.iter().enumerate() {
         let most = if i + 1 < steps.len() { MOST_BELOW } else { 0 };
         progress.make(instance, digits, most, step)?;
@@ -128,41 +142,41 @@ pub(crate) fn root_of(instance: &Instance, steps: &[Step], digits: u32) -> Resul
 /// The members of a group: each weight, with the variable that is true where the soft clause is
 /// given up.
 fn members_of(instance: &Instance, group: &[u32]) -> Result<Vec<AtLeast>, AllocError>
+    requires { All (λ i. i < length (instance.now).soft) group.now }
     ensures { IfOk result (λ l. l.items ≡ members instance.now group.now) }
 {
     let alloc = instance.allocator();
     let mut list = Vec::with_capacity(alloc, group.len())?;
     for place in group {
-        // The groups of a tree have places within the instance.
-        let soft = instance.soft().get(*place as usize).ok_or(AllocError)?;
+        let soft = &instance.soft()[*place as usize];
         list.push(AtLeast::new(soft.weight(), instance.vars() + 1 + *place))?;
     }
     Ok(list)
 }
 
-/// The weights of all groups that come. A sum from 2^64 on counts as refused memory.
-pub(crate) fn weight_of(instance: &Instance, steps: &[Step]) -> Result<u64, AllocError>
-    ensures { IfOk result (λ n. n ≡ steps_weight instance.now (map step_of steps.now)) }
+/// The weights of all groups that come.
+pub(crate) fn weight_of(instance: &Instance, steps: &[TreeStep]) -> u64
+    requires { AreSteps instance.now (map step_of steps.now) }
+    ensures { result ≡ steps_weight instance.now (map step_of steps.now) }
 {
     let mut sum: u64 = 0;
     for step in steps {
-        if let Step::Take(group) = step {
-            sum = sum
-                .checked_add(weight_in(instance, group)?)
-                .ok_or(AllocError)?;
+        if let TreeStep::Take(group) = step {
+            sum += weight_in(instance, group);
         }
     }
-    Ok(sum)
+    sum
 }
 
 /// The weights of a group.
-fn weight_in(instance: &Instance, group: &[u32]) -> Result<u64, AllocError>
-    ensures { IfOk result (λ n. n ≡ group_weight instance.now group.now) }
+fn weight_in(instance: &Instance, group: &[u32]) -> u64
+    requires placed { All (λ i. i < length (instance.now).soft) group.now }
+    requires small { group_weight instance.now group.now < 2 ^ 64 }
+    ensures { result ≡ group_weight instance.now group.now }
 {
     let mut sum: u64 = 0;
     for place in group {
-        let soft = instance.soft().get(*place as usize).ok_or(AllocError)?;
-        sum = sum.checked_add(soft.weight()).ok_or(AllocError)?;
+        sum += instance.soft()[*place as usize].weight();
     }
-    Ok(sum)
+    sum
 }

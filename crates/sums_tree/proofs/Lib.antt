@@ -19,6 +19,7 @@ mod Ranking
 mod Summing
 mod Beside
 mod Connected
+mod Weighing
 mod Labels
 mod Relabelling
 mod Uniting

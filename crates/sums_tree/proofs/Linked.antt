@@ -5,12 +5,12 @@ use Rattle.std.proofs.Common.{◌^◌, inl, inr, replicate, lit<}
 use Rattle.std.proofs.lemmas.Bool.{cases_lt}
 use Rattle.std.proofs.lemmas.List.{get_or-map, map-set, length-map}
 use Rattle.std.proofs.lemmas.List.Elements.{All-replicate, All-set, All-weaker}
-use Rattle.sums_tree.specs.declared.chains.Entry.{Entry}
+use Rattle.sums_tree.specs.declared.chains.ChainEntry.{ChainEntry}
 use Rattle.sums_tree.specs.Chains.{chain_at, chains_from, chain_of, chain_rows}
 use Rattle.sums_tree.specs.Chains.{AreLinked, AreChains}
 
 -- the chains after one more entry
-abbrev one_more : List (List ℕ) → Entry → List (List ℕ)
+abbrev one_more : List (List ℕ) → ChainEntry → List (List ℕ)
 one_more chains e = chains ++ (e.number ∷ chain_at chains e.before) ∷ []
 
 get_or-left : {X : Type 0} (xs ys : List X) (i : ℕ) (d : X) → i < length xs
@@ -28,7 +28,7 @@ at-left cs ds zero h = refl
 at-left cs ds (suc n) h = get_or-left cs ds n [] (omega arith)
 
 -- chains that are there stay
-pub from-left : (cs : List (List ℕ)) (es : List Entry) (n : ℕ) → n ≤ length cs
+pub from-left : (cs : List (List ℕ)) (es : List ChainEntry) (n : ℕ) → n ≤ length cs
     → chain_at (chains_from cs es) n ≡ chain_at cs n
 from-left cs [] n h = refl
 from-left cs (e ∷ es) n h =
@@ -36,12 +36,12 @@ from-left cs (e ∷ es) n h =
     (omega (arith, length-append cs ((e.number ∷ chain_at cs e.before) ∷ [])))
     ∙ at-left cs ((e.number ∷ chain_at cs e.before) ∷ []) n h
 
-pub from-push : (cs : List (List ℕ)) (es : List Entry) (e : Entry)
+pub from-push : (cs : List (List ℕ)) (es : List ChainEntry) (e : ChainEntry)
     → chains_from cs (es ++ e ∷ []) ≡ one_more (chains_from cs es) e
 from-push cs [] e = refl
 from-push cs (d ∷ es) e = from-push (one_more cs d) es e
 
-pub length-chains_from : (cs : List (List ℕ)) (es : List Entry)
+pub length-chains_from : (cs : List (List ℕ)) (es : List ChainEntry)
     → length (chains_from cs es) ≡ length cs + length es
 length-chains_from cs [] = omega arith
 length-chains_from cs (e ∷ es) =
@@ -49,8 +49,8 @@ length-chains_from cs (e ∷ es) =
     omega (arith, rest, length-append cs ((e.number ∷ chain_at cs e.before) ∷ []))
 
 -- an entry ends what it names and its own number
-unrolled_from : (cs : List (List ℕ)) (es : List Entry) (k : ℕ) (d : Entry)
-    → ((j : ℕ) (d : Entry) → j < length es → (get_or es j d).before ≤ length cs + j)
+unrolled_from : (cs : List (List ℕ)) (es : List ChainEntry) (k : ℕ) (d : ChainEntry)
+    → ((j : ℕ) (d : ChainEntry) → j < length es → (get_or es j d).before ≤ length cs + j)
     → k < length es → chain_at (chains_from cs es) (suc (length cs + k))
     ≡ (get_or es k d).number ∷ chain_at (chains_from cs es) (get_or es k d).before
 unrolled_from cs [] k d linked h = absurd (omega arith)
@@ -75,7 +75,7 @@ unrolled_from cs (e ∷ es) (suc k) d linked h =
     ∙ unrolled_from now es k d
     (λ j c lt. let step = linked (suc j) c (omega arith) in omega arith) (omega arith)
 
-pub unrolled : (es : List Entry) (k : ℕ) (d : Entry) → AreLinked es → k < length es
+pub unrolled : (es : List ChainEntry) (k : ℕ) (d : ChainEntry) → AreLinked es → k < length es
     → chain_of es (suc k) ≡ (get_or es k d).number ∷ chain_of es (get_or es k d).before
 unrolled es k d linked h =
     let place : suc k ≡ suc (zero + k) = omega arith in
@@ -83,14 +83,14 @@ unrolled es k d linked h =
     ∙ unrolled_from [] es k d (λ j c lt. let step = linked j c lt in omega arith) h
 
 -- an entry that comes leaves the chains before it
-pub chain-push_old : (es : List Entry) (e : Entry) (n : ℕ) → n ≤ length es
+pub chain-push_old : (es : List ChainEntry) (e : ChainEntry) (n : ℕ) → n ≤ length es
     → chain_of (es ++ e ∷ []) n ≡ chain_of es n
 chain-push_old es e n h =
     ap (λ cs. chain_at cs n) (from-push [] es e)
     ∙ at-left (chains_from [] es) ((e.number ∷ chain_of es e.before) ∷ []) n
     (omega (arith, length-chains_from [] es))
 
-pub chain-push_new : (es : List Entry) (e : Entry)
+pub chain-push_new : (es : List ChainEntry) (e : ChainEntry)
     → chain_of (es ++ e ∷ []) (length es + 1) ≡ e.number ∷ chain_of es e.before
 chain-push_new es e =
     let long : length es + 1 ≡ suc (length (chains_from [] es)) =
@@ -100,7 +100,7 @@ chain-push_new es e =
     ∙ get_or-end (chains_from [] es) (e.number ∷ chain_of es e.before) []
 
 -- the rows after a push
-pub rows-push : (es : List Entry) (e : Entry) (lasts : List ℕ) (row : ℕ)
+pub rows-push : (es : List ChainEntry) (e : ChainEntry) (lasts : List ℕ) (row : ℕ)
     → All (λ n. n ≤ length es) lasts → row < length lasts → e.before ≡ get_or lasts row 0
     → chain_rows (es ++ e ∷ []) (set lasts row (length es + 1))
     ≡ set (chain_rows es lasts) row (e.number ∷ get_or (chain_rows es lasts) row [])
@@ -125,7 +125,7 @@ rows-push es e (n ∷ lasts) (suc row) within h is =
     (rows-push es e lasts row (λ k d lt. within (suc k) d (omega arith)) (omega arith) is)
 
 -- a chain is no longer than the entries up to its last
-length-chain_within : (steps : ℕ) (es : List Entry) (n : ℕ) → AreLinked es → n ≤ length es
+length-chain_within : (steps : ℕ) (es : List ChainEntry) (n : ℕ) → AreLinked es → n ≤ length es
     → n ≤ steps → length (chain_of es n) ≤ n
 length-chain_within steps es zero linked h le = omega arith
 length-chain_within zero es (suc k) linked h le = absurd (omega arith)
@@ -139,7 +139,8 @@ length-chain_within (suc steps) es (suc k) linked h le =
     omega arith
 
 -- a row is no longer than all entries
-pub length-row : (lasts counts : List ℕ) (es : List Entry) (row : ℕ) → AreChains lasts counts es
+pub length-row : (lasts counts : List ℕ) (es : List ChainEntry) (row : ℕ)
+    → AreChains lasts counts es
     → row < length lasts → get_or counts row 0 ≤ length es
 length-row lasts counts es row h lt =
     let last = get_or lasts row 0 in
@@ -161,11 +162,11 @@ no_counts : (n : ℕ) → replicate n 0 ≡ map length (chain_rows [] (replicate
 no_counts zero = refl
 no_counts (suc n) = ap (λ z. 0 ∷ z) (no_counts n)
 
-pub rows-none : (lasts : List ℕ) (es : List Entry) (n : ℕ) → lasts ≡ replicate n 0 → es ≡ []
+pub rows-none : (lasts : List ℕ) (es : List ChainEntry) (n : ℕ) → lasts ≡ replicate n 0 → es ≡ []
     → chain_rows es lasts ≡ replicate n []
 rows-none lasts es n e f = rw (e, f) (no_rows n)
 
-pub chains_none : (lasts counts : List ℕ) (es : List Entry) (n : ℕ) → lasts ≡ replicate n 0
+pub chains_none : (lasts counts : List ℕ) (es : List ChainEntry) (n : ℕ) → lasts ≡ replicate n 0
     → counts ≡ replicate n 0 → es ≡ [] → AreChains lasts counts es
 chains_none lasts counts es n e c f =
     subst (λ ls. AreChains ls counts es) (sym e)
@@ -178,20 +179,20 @@ chains_none lasts counts es n e c f =
     })))
 
 -- one more entry
-linked-push : (es : List Entry) (e : Entry) → AreLinked es → e.before ≤ length es
+linked-push : (es : List ChainEntry) (e : ChainEntry) → AreLinked es → e.before ≤ length es
     → AreLinked (es ++ e ∷ [])
 linked-push es e linked h k d lt =
     let long = length-append es (e ∷ []) in
     elim (cases_lt k (length es)) [
-      | inl old ↦ subst (λ (x : Entry). x.before ≤ k) (sym (get_or-left es (e ∷ []) k d old))
+      | inl old ↦ subst (λ (x : ChainEntry). x.before ≤ k) (sym (get_or-left es (e ∷ []) k d old))
           (linked k d old)
       | inr new ↦
           let same : k ≡ length es = omega arith in
           subst (λ i. (get_or (es ++ e ∷ []) i d).before ≤ i) (sym same)
-          (subst (λ (x : Entry). x.before ≤ length es) (sym (get_or-end es e d)) h)
+          (subst (λ (x : ChainEntry). x.before ≤ length es) (sym (get_or-end es e d)) h)
     ]
 
-pub chains_push : (lasts counts : List ℕ) (es : List Entry) (e : Entry) (row : ℕ)
+pub chains_push : (lasts counts : List ℕ) (es : List ChainEntry) (e : ChainEntry) (row : ℕ)
     → AreChains lasts counts es → row < length lasts → e.before ≡ get_or lasts row 0
     → length es + 1 < 2 ^ 32
     → AreChains (set lasts row (length es + 1)) (set counts row (get_or counts row 0 + 1))
@@ -219,7 +220,7 @@ chains_push lasts counts es e row h lt is small =
     }
 
 -- each row has its count
-pub length-counts : (lasts counts : List ℕ) (es : List Entry) → AreChains lasts counts es
+pub length-counts : (lasts counts : List ℕ) (es : List ChainEntry) → AreChains lasts counts es
     → length counts ≡ length lasts
 length-counts lasts counts es h =
     ap length h.counted ∙ length-map (chain_rows es lasts) length

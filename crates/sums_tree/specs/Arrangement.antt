@@ -2,15 +2,15 @@
 use Rattle.std.specs.Prelude.{nat_le, List, [], length, Option, Some, None}
 use Rattle.std.specs.Prelude.{if◌then◌else◌}
 use Rattle.cnf.specs.Problem.{Problem}
-use Rattle.sums_tree.specs.declared.arrangement.Step as made
-use Rattle.sums_tree.specs.declared.arrangement.Step.TheVariants as variant
+use Rattle.sums_tree.specs.declared.arrangement.TreeStep as made
+use Rattle.sums_tree.specs.declared.arrangement.TreeStep.TheVariants as variant
 use Rattle.sums_tree.specs.declared.arrangement.TheConstants.{GROUP_LIMIT}
 use Rattle.sums_tree.specs.Tree.{Tree, Step, Take, Join, steps_of}
 use Rattle.sums_tree.specs.Groups.{groups}
 use Rattle.sums_tree.specs.Arranging.{tree}
 
 -- a step of the code, its group as a list
-abbrev pub step_of : made.Step → Step
+abbrev pub step_of : made.TreeStep → Step
 step_of (variant.Take group) = Take group.items
 step_of variant.Join = Join
 

@@ -1,6 +1,6 @@
 // The parts of connections are added up: sorted by groups, those of the same two groups lie side by
 // side.
-ghost use Rattle.std.specs.Prelude.{◌≡◌, ◌+◌, ◌∷◌, IfOk, IsPermutation};
+ghost use Rattle.std.specs.Prelude.{◌≡◌, ◌+◌, ◌<◌, ◌^◌, ◌∷◌, sum_by, IfOk, IsPermutation};
 ghost use Rattle.std.specs.List.Sorted.{IsSortedBy};
 ghost use Rattle.sums_tree.specs.Connections.{comes_before};
 ghost use Rattle.sums_tree.specs.Adding.{added_along, is_lower, same_groups};
@@ -26,10 +26,10 @@ pub(crate) fn sort_by_weight(connections: &mut Vec<Connection>)
     });
 }
 
-/// Adds up the parts of each connection. They are sorted by groups. A sum past 2^64 - 1 counts as a
-/// refused growth.
+/// Adds up the parts of each connection. They are sorted by groups.
 pub(crate) fn add_up(alloc: Global, parts: &[Connection]) -> Result<Vec<Connection>, AllocError>
-    requires { IsSortedBy is_lower parts.now }
+    requires sorted { IsSortedBy is_lower parts.now }
+    requires small { sum_by (λ k. k.weight) parts.now < 2 ^ 64 }
     ensures { IfOk result (λ connections. connections.items ≡ added_along parts.now) }
 {
     match parts {
@@ -44,14 +44,15 @@ fn add_to(
     first: Connection,
     more: &[Connection],
 ) -> Result<Vec<Connection>, AllocError>
-    requires { IsSortedBy is_lower (first ∷ more.now) }
+    requires sorted { IsSortedBy is_lower (first ∷ more.now) }
+    requires small { sum_by (λ k. k.weight) (first ∷ more.now) < 2 ^ 64 }
     ensures { IfOk result (λ connections. connections.items ≡ added_along (first ∷ more.now)) }
 {
     let mut connections = Vec::new(alloc);
     let mut present = first;
     for part in more {
         if are_same(&present, part) {
-            present.weight = sum(present.weight, part.weight)?;
+            present.weight += part.weight;
             continue;
         }
         connections.push(present)?;
@@ -66,14 +67,4 @@ fn are_same(one: &Connection, other: &Connection) -> bool
     ensures { result ≡ same_groups one.now other.now }
 {
     one.low == other.low && one.high == other.high
-}
-
-/// The sum of two weights.
-fn sum(weight: u64, more: u64) -> Result<u64, AllocError>
-    ensures { IfOk result (λ n. n ≡ weight + more) }
-{
-    match weight.checked_add(more) {
-        Some(total) => Ok(total),
-        None => Err(AllocError),
-    }
 }

@@ -15,7 +15,7 @@ pub const GROUP_LIMIT: usize = 32_768;
 
 /// A step that builds a tree over groups of soft clauses.
 #[derive(Drop)]
-pub enum Step {
+pub enum TreeStep {
     /// A group of soft clauses comes, each by its place in the instance, from 0, in the order of
     /// the text.
     Take(Vec<u32>),
@@ -31,7 +31,7 @@ pub enum Step {
 /// # Errors
 ///
 /// `AllocError` where memory was refused.
-pub fn arrange(instance: &Instance) -> Result<Option<Vec<Step>>, AllocError>
+pub fn arrange(instance: &Instance) -> Result<Option<Vec<TreeStep>>, AllocError>
     ensures { IfOk result (λ r. MatchOption r (arranged instance.now ≡ None)
         (λ steps. arranged instance.now ≡ Some (map step_of steps.items))) }
 {

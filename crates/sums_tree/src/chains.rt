@@ -9,7 +9,7 @@ use std::marker::Model;
 
 /// A number in a row.
 #[derive(Clone, Copy, Drop)]
-struct Entry {
+struct ChainEntry {
     number: u32,
     // One more than the place of the entry before it in its row, or 0 where it is the first.
     before: u32,
@@ -23,7 +23,7 @@ pub(crate) struct Chains {
     // For each row how many entries it has.
     counts: Vec<u32>,
     // The entries of all rows, in the order in which they came. Fewer than 2^32.
-    entries: Vec<Entry>,
+    entries: Vec<ChainEntry>,
 }
 
 impl Model for Chains {
@@ -80,7 +80,7 @@ impl Chains {
             return Err(AllocError);
         }
         let before = self.lasts[row];
-        self.entries.push(Entry { number, before })?;
+        self.entries.push(ChainEntry { number, before })?;
         self.lasts[row] = place as u32 + 1;
         self.counts[row] += 1;
         Ok(())
@@ -117,7 +117,7 @@ fn zeros(alloc: Global, count: usize) -> Result<Vec<u32>, AllocError>
 #[derive(Drop)]
 pub(crate) struct Chain<'a> {
     // The entries of all rows.
-    entries: &'a [Entry],
+    entries: &'a [ChainEntry],
     // One more than the place of the entry that comes next, or 0 where none is left.
     next: u32,
 }

@@ -19,6 +19,7 @@ pub(crate) fn connections_of(
     requires few { length members.now ≤ 2 ^ 15 }
     ensures { IfOk result (λ v. v.items ≡ connections instance.now) }
 {
+    instance.limits();
     let homes = homes_of(instance, members)?;
     let mut parts = parts_of(instance, &homes)?;
     sort_by_groups(&mut parts);

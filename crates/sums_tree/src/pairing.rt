@@ -9,7 +9,7 @@ ghost use Rattle.sums_tree.specs.Nodes.{AreLabels, AreNodes, BuildNodes, BuildTr
 ghost use Rattle.sums_tree.specs.Nodes.{step_at, steps_at};
 ghost use Rattle.sums_tree.specs.Tree.{Tree};
 
-use crate::arrangement::Step;
+use crate::arrangement::TreeStep;
 use crate::chains::Chains;
 use crate::connecting::take_row;
 use crate::track::Track;
@@ -84,11 +84,11 @@ pub(crate) fn steps_from(
     alloc: Global,
     members: &Chains,
     track: &Track,
-) -> Result<Vec<Step>, AllocError>
+) -> Result<Vec<TreeStep>, AllocError>
     ensures { IfOk result (λ steps. map step_of steps.items
         ≡ steps_at (map reverse members.now) track.now) }
 {
-    let mut steps: Vec<Step> = Vec::new(alloc);
+    let mut steps: Vec<TreeStep> = Vec::new(alloc);
     for place in 0..track.len() {
         steps.push(step_from(alloc, members, track.at(place))?)?;
     }
@@ -96,14 +96,14 @@ pub(crate) fn steps_from(
 }
 
 /// One step.
-fn step_from(alloc: Global, members: &Chains, step: u32) -> Result<Step, AllocError>
+fn step_from(alloc: Global, members: &Chains, step: u32) -> Result<TreeStep, AllocError>
     ensures { IfOk result (λ s. step_of s ≡ step_at (map reverse members.now) step) }
 {
     if step as usize >= members.len() {
-        return Ok(Step::Join);
+        return Ok(TreeStep::Join);
     }
     let mut group = Vec::new(alloc);
     take_row(members, step as usize, &mut group)?;
     group.reverse();
-    Ok(Step::Take(group))
+    Ok(TreeStep::Take(group))
 }

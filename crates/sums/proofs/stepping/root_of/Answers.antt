@@ -2,10 +2,11 @@ use Rattle.std.proofs.Common.{◌≡◌, ℕ, ◌+◌, ◌<◌, ◌≤◌, ◌�
 use Rattle.std.proofs.lemmas.Result.{err_from_is_err_and}
 use Rattle.sums_tree.specs.Arrangement.{step_of}
 use Rattle.sums.specs.Sums.{Node}
-use Rattle.sums.specs.Stepping.{Progress, most_before}
+use Rattle.sums.specs.Stepping.{OpenParts, most_before}
 use Rattle.sums.proofs.OnTheWay.{is_too_many_weaker}
 use Rattle.sums.proofs.Steps.{most_more, most_last, step_forward, step_many, step_up}
 use Rattle.sums.proofs.Steps.{steps_ended, root_digits}
+use Rattle.sums.proofs.Fitting.{placed_at, steps_at, parts_next}
 use Rattle.sums.proofs.stepping.root_of.Goals as goal
 use Rattle.sums.proofs.stepping.root_of.Goals.{then-i-steps, else-i-steps}
 
@@ -26,6 +27,17 @@ returns-in_err-make-clause-many c =
     c.if-i-steps.most c.loop-i.progress c.index-steps-i.result c.loop-i-test.true
     c.index-steps-i.is most c.loop-i.invariant.way)) c.in_err-make.ensures.many)
 
+pub make-requires-clause-placed : goal.make-requires-clause-placed
+make-requires-clause-placed c =
+    placed_at c.args.instance.now c.args.steps.now c.loop-i.i c.index-steps-i.result
+    c.loop-i-test.true c.index-steps-i.is c.requires.steps.placed
+
+pub make-requires-clause-parts : goal.make-requires-clause-parts
+make-requires-clause-parts c =
+    (steps_at c.args.instance.now c.args.steps.now c.loop-i.i c.index-steps-i.result
+    c.loop-i-test.true c.index-steps-i.is (length c.loop-i.progress.parts)
+    c.loop-i.invariant.parts).0
+
 pub loop-i-preserved : goal.loop-i-preserved
 loop-i-preserved c =
     let most : c.if-i-steps.most
@@ -43,11 +55,15 @@ loop-i-preserved c =
       from_one =
           omega (
             arith,
-            ap (λ (s : Progress). s.fresh) c.in_ok-make.ensures.ok,
+            ap (λ (s : OpenParts). s.fresh) c.in_ok-make.ensures.ok,
             step_up c.args.instance.now c.args.digits c.if-i-steps.most
                 (step_of c.index-steps-i.result) c.loop-i.progress,
             c.loop-i.invariant.from_one,
           );
+      parts =
+          parts_next c.args.instance.now c.args.steps.now c.loop-i.i c.index-steps-i.result
+          c.loop-i-test.true c.index-steps-i.is c.args.digits c.if-i-steps.most c.loop-i.progress
+          c.make.new.self c.in_ok-make.ensures.ok c.loop-i.invariant.parts;
     }
 
 pub finish-requires : goal.finish-requires

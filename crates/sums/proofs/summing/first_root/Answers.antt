@@ -9,7 +9,7 @@ use Rattle.sums.proofs.summing.first_root.Goals as goal
 pub loop-digits-init : goal.loop-digits-init
 loop-digits-init c =
     ap (first_small (root_made c.args.instance.now (map step_of c.args.steps.now)) 63 0)
-    c.in_ok-left.ensures
+    c.weight_of-left.ensures
 
 pub returns-in-Ok-clause-root : goal.returns-in-Ok-clause-root
 returns-in-Ok-clause-root c =

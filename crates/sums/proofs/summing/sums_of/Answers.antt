@@ -1,11 +1,12 @@
-use Rattle.std.proofs.Common.{◌≡◌, ap, subst, map, ◌∙◌, Some, IfOk}
+use Rattle.std.proofs.Common.{◌≡◌, ap, sym, subst, map, ◌∙◌, Some, IfOk}
 use Rattle.cnf.specs.Instance.{IsInstance}
 use Rattle.sums_tree.specs.Arranging.{tree}
 use Rattle.sums_tree.specs.Arrangement.{step_of, arranged}
-use Rattle.sums.specs.Stepping.{root_made, steps_weight}
+use Rattle.sums.specs.Stepping.{root_made, steps_weight, AreSteps}
 use Rattle.sums.specs.Sums.{first_small, sums_over, AreSmall}
 use Rattle.sums.proofs.Arranged.{arranged_sums, arranged_none, instance_cheaper, instance_small}
 use Rattle.sums.proofs.Arranged.{if_some}
+use Rattle.sums.proofs.Fitting.{arranged_steps}
 use Rattle.sums.proofs.Covers.{covers_larger}
 use Rattle.sums.proofs.summing.sums_of.Goals as goal
 
@@ -21,6 +22,14 @@ sums c =
     c.deref.ensures.value
     ∙ arranged_sums p (map step_of c.in-Some.steps.items) is)
     c.first_root.ensures.root
+
+pub first_root-requires : goal.first_root-requires
+first_root-requires c =
+    let p = c.args.instance.now in
+    let is : arranged p ≡ Some (map step_of c.in-Some.steps.items) =
+    rw c.in-Some.is at c.in_ok-steps.ensures in
+    subst (λ ss. AreSteps p (map step_of ss)) (sym c.deref.ensures.value)
+    (arranged_steps p (map step_of c.in-Some.steps.items) c.limits.ensures is)
 
 pub returns-in-Some-clause-sums : goal.returns-in-Some-clause-sums
 returns-in-Some-clause-sums c = sums c

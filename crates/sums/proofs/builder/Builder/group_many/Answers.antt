@@ -1,7 +1,13 @@
 use Rattle.std.proofs.Common.{◌≡◌, ◌++◌, length, ap, arith, ◌∙◌}
 use Rattle.sums.specs.Sums.{grouped, named_from, numbers, rising}
 use Rattle.sums.proofs.Making.{grouped_length, too_many}
+use Rattle.sums.proofs.Listed.{grouped_listed}
 use Rattle.sums.proofs.builder.Builder.group_many.Goals as goal
+
+pub push_own-requires : goal.push_own-requires
+push_own-requires c =
+    grouped_listed c.args.self.now.fresh c.args.members.now c.in_ok-list.list _ _
+    c.new-all.ensures.items c.in_ok-push_numbers.ensures c.in_ok-list.ensures.list
 
 pub returns-then-not-has_room-2-clause-many : goal.returns-then-not-has_room-2-clause-many
 returns-then-not-has_room-2-clause-many c =
