@@ -1,8 +1,8 @@
 -- A bit of the mask is the test of its lane.
 use Rattle.std.proofs.Common.{◌≡◌, ◌<◌, get_or, length, nat_eq, ◌/◌, ◌%◌, ◌^◌, arith, rules}
-use Rattle.subsume.specs.Signatures.{is_within}
-use Rattle.subsume.proofs.Lanes.{filled_more, filled_all, lane_is}
-use Rattle.subsume.proofs.signatures.subsets8.Goals as goal
+use Rattle.eliminate_tables.specs.Signatures.{is_within}
+use Rattle.eliminate_tables.proofs.Lanes.{filled_more, filled_all, lane_is}
+use Rattle.eliminate_tables.proofs.signatures.subsets8.Goals as goal
 
 pub loop-lane-preserved : goal.loop-lane-preserved
 loop-lane-preserved c =

@@ -1,7 +1,7 @@
 // How clauses lie against the marked one, found in time linear in these.
 ghost use Rattle.std.specs.Prelude.{◌≡◌, length, All};
 ghost use Rattle.cnf.specs.Marks.{HasPlace};
-ghost use Rattle.subsume.specs.Against.{LiesAgainst, against_of, but_for};
+ghost use Rattle.eliminate_tables.specs.Against.{LiesAgainst, against_of, but_for};
 
 use cnf::marks::Marks;
 use cnf::types::Lit;

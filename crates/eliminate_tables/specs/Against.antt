@@ -4,8 +4,8 @@ use Rattle.std.specs.Prelude.{List, [], ◌∷◌, Option, Some, None, filter}
 use Rattle.cnf.specs.Literal.{Literal, negation}
 use Rattle.cnf.specs.Clause.{contains_literal, without_literal}
 use Rattle.cnf.specs.Marks.{mark_of, are_marked}
-use Rattle.subsume.specs.declared.against.Against.{Against}
-use Rattle.subsume.specs.declared.against.Against.TheVariants.{Apart, Within, ButFor}
+use Rattle.eliminate_tables.specs.declared.against.Against.{Against}
+use Rattle.eliminate_tables.specs.declared.against.Against.TheVariants.{Apart, Within, ButFor}
 
 -- the literals of a clause that are not marked
 abbrev pub unmarked : List Bool → List Literal → List Literal

@@ -3,12 +3,12 @@ use Rattle.std.proofs.Common.{◌≡◌, ◌∙◌, false, take, sym, ap, subst,
 use Rattle.std.proofs.lemmas.List.{take_all}
 use Rattle.cnf.specs.Literal.{negation}
 use Rattle.cnf.specs.Marks.{mark_of}
-use Rattle.subsume.specs.Against.{unmarked}
-use Rattle.subsume.specs.declared.against.Against.TheVariants.{Within}
-use Rattle.subsume.proofs.Lying.{IsOpen, apart_second, apart_neither, open_lies}
-use Rattle.subsume.proofs.against.hold_against.Goals as goal
-use Rattle.subsume.proofs.against.hold_against.Goals.{then-ne-via-then-ne}
-use Rattle.subsume.proofs.against.hold_against.Goals.{then-ne-via-else-ne+then-not-is_marked-2}
+use Rattle.eliminate_tables.specs.Against.{unmarked}
+use Rattle.eliminate_tables.specs.declared.against.Against.TheVariants.{Within}
+use Rattle.eliminate_tables.proofs.Lying.{IsOpen, apart_second, apart_neither, open_lies}
+use Rattle.eliminate_tables.proofs.against.hold_against.Goals as goal
+use Rattle.eliminate_tables.proofs.against.hold_against.Goals.{then-ne-via-then-ne}
+use Rattle.eliminate_tables.proofs.against.hold_against.Goals.{then-ne-via-else-ne+then-not-is_marked-2}
 
 pub returns-then-ne-clause-exact : goal.returns-then-ne-clause-exact
 returns-then-ne-clause-exact c =

@@ -8,9 +8,9 @@ use Rattle.cnf.specs.Literal.{Literal, literal_eq, negation}
 use Rattle.cnf.specs.Clause.{contains_literal, without_literal}
 use Rattle.cnf.specs.Marks.{mark_of, are_marked}
 use Rattle.cnf.proofs.Laws.{literal_eq-refl}
-use Rattle.subsume.specs.Against.{LiesAgainst, unmarked, against_without, against_of}
-use Rattle.subsume.specs.declared.against.Against.{Against}
-use Rattle.subsume.specs.declared.against.Against.TheVariants.{Apart, Within, ButFor}
+use Rattle.eliminate_tables.specs.Against.{LiesAgainst, unmarked, against_without, against_of}
+use Rattle.eliminate_tables.specs.declared.against.Against.{Against}
+use Rattle.eliminate_tables.specs.declared.against.Against.TheVariants.{Apart, Within, ButFor}
 
 are_marked-without : (marks : List Bool) (p : Literal) (a : List Literal)
     → are_marked marks a ≡ true → are_marked marks (without_literal p a) ≡ true
