@@ -2,7 +2,7 @@
 //! subset tests by `signatures` are handed on.
 #![tactic(auto)]
 
-pub use subsume::signatures;
+pub use eliminate_tables::signatures;
 
 pub mod elimination;
 mod ending;

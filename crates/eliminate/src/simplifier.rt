@@ -6,7 +6,7 @@ ghost use Rattle.cnf.specs.Formula.{IsFormula};
 ghost use Rattle.clauses.specs.Slots.{IsLive, live_clauses};
 ghost use Rattle.lrat_log.specs.Steps.{is_empty_clause};
 ghost use Rattle.eliminate_tables.specs.Rows.{AreRows};
-ghost use Rattle.subsume.specs.declared.against.Against.TheVariants.{Within};
+ghost use Rattle.eliminate_tables.specs.declared.against.Against.TheVariants.{Within};
 ghost use Rattle.eliminate.specs.State.{Start};
 ghost use Rattle.eliminate.specs.Simplifier.{IsSimplified, IsOpen, Passes, IsAddableLine};
 ghost use Rattle.eliminate.specs.Subsuming.{AreBeside};

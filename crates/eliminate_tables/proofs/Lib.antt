@@ -1,5 +1,7 @@
 mod Built
 mod Counted
+mod Lanes
+mod Lying
 mod Needed
 mod Resolve
 mod StackPieces

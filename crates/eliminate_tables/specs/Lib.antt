@@ -1,8 +1,10 @@
+pub mod Against
 pub mod Bins
 pub mod Flat
 pub mod Removals
 pub mod Resolvents
 pub mod Rows
 pub mod Schedule
+pub mod Signatures
 pub mod Vectors
 pub mod Worthwhile

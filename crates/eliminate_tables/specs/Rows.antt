@@ -5,7 +5,7 @@ use Rattle.std.specs.Prelude.{◌-◌, ◌/◌, nat_lt, slice_set, if◌then◌e
 use Rattle.cnf.specs.Literal.{Literal, index_of}
 use Rattle.cnf.specs.Clause.{contains_literal}
 use Rattle.clauses.specs.Slots.{Slots, clause_at}
-pub use Rattle.propagate_block.specs.Rows.{Roomed, row_at, with_row, room_at, doubled_room, IsFull}
+pub use Rattle.flat_rows.specs.Rows.{Roomed, row_at, with_row, room_at, doubled_room, IsFull}
 
 -- a reference more in the row of a literal
 abbrev pub with_entry : ℕ → List (List ℕ) → Literal → List (List ℕ)

@@ -3,6 +3,7 @@ use Rattle.std.specs.Prelude.{ℕ, ◌+◌, ◌-◌, ◌^◌, min, nat_le, nat_l
 use Rattle.std.specs.Prelude.{if◌then◌else◌, List, [], ◌∷◌, ◌++◌, slice_index_or, slice_set}
 use Rattle.std.specs.Prelude.{Option, Some, None}
 use Rattle.cnf.specs.Literal.{Literal, index_of, negation}
+use Rattle.eliminate_tables.specs.declared.worthwhile.TheConstants.{MOST_OF_A_SIGN}
 
 -- the counts by literal; by variable from 1, whether it waits; the variables that wait, in order
 pub record ScheduleState : Type 0 where
@@ -49,7 +50,8 @@ without_first s (v ∷ vs) = record {
   waiting = vs;
 }
 
--- some clause has the literal or its negation, and at most ten have each
+-- some clause has the literal or its negation, and few have each
 abbrev pub is_candidate : ScheduleState → Literal → Bool
-is_candidate s l = nat_le (count_of s l) 10 && nat_le (count_of s (negation l)) 10
+is_candidate s l =
+    nat_le (count_of s l) MOST_OF_A_SIGN && nat_le (count_of s (negation l)) MOST_OF_A_SIGN
     && (nat_lt 0 (count_of s l) || nat_lt 0 (count_of s (negation l)))

@@ -1,10 +1,14 @@
--- Worked values of extended bits, of rows, of a schedule, and of what is worthwhile.
-use Rattle.std.specs.Prelude.{◌≡◌, ℕ, true, false, List, [], ◌∷◌, fold, Some, None, refl}
+-- Worked values of extended bits, of rows, of a schedule, and of what is worthwhile; and
+-- signatures, entries against one, and clauses against marks.
+use Rattle.std.specs.Prelude.{◌≡◌, ℕ, Bool, true, false, List, [], ◌∷◌, fold, Some, None, refl}
 use Rattle.cnf.specs.Literal.{Literal, positive as p, negative as n}
+use Rattle.eliminate_tables.specs.Against.{against_of}
+use Rattle.eliminate_tables.specs.declared.against.Against.TheVariants.{Apart, Within, ButFor}
 use Rattle.eliminate_tables.specs.Removals.{Removed, extended}
 use Rattle.eliminate_tables.specs.Rows.{Roomed, cleaned, with_space}
 use Rattle.eliminate_tables.specs.Schedule.{ScheduleState, entered, left, first_of, without_first}
 use Rattle.eliminate_tables.specs.Schedule.{is_candidate}
+use Rattle.eliminate_tables.specs.Signatures.{signature_of, all_within}
 use Rattle.eliminate_tables.specs.Worthwhile.{are_opposed, is_worthwhile}
 
 -- variable 1 was eliminated from the clauses 1 2 and -1 3
@@ -100,3 +104,32 @@ no_worth = refl
 
 opposed : are_opposed (p 1) (p 1 ∷ p 2 ∷ []) (n 1 ∷ n 2 ∷ []) ≡ true
 opposed = refl
+
+two_literals : signature_of (p 1 ∷ n 2 ∷ []) ≡ 9
+two_literals = refl
+
+-- the bits start again after 32 variables
+wrapped : signature_of (p 33 ∷ []) ≡ 1
+wrapped = refl
+
+five_entries : all_within 9 (1 ∷ 8 ∷ 9 ∷ 2 ∷ 0 ∷ []) ≡ true ∷ true ∷ true ∷ false ∷ true ∷ []
+five_entries = refl
+
+-- the marks of 'one or not two'
+abbrev marks : List Bool
+marks = true ∷ false ∷ false ∷ true ∷ []
+
+within : against_of marks (n 2 ∷ p 1 ∷ []) ≡ Within
+within = refl
+
+-- one literal stands here with the other sign
+but_for_two : against_of marks (p 1 ∷ p 2 ∷ []) ≡ ButFor (p 2)
+but_for_two = refl
+
+-- two do
+apart : against_of marks (n 1 ∷ p 2 ∷ []) ≡ Apart
+apart = refl
+
+-- of three neither sign is marked
+apart_three : against_of marks (p 1 ∷ p 3 ∷ []) ≡ Apart
+apart_three = refl

@@ -4,6 +4,8 @@ use Rattle.std.specs.Prelude.{count_by, sum_by}
 use Rattle.std.specs.List.{list_all, list_any}
 use Rattle.cnf.specs.Literal.{Literal, negation}
 use Rattle.cnf.specs.Clause.{contains_literal, without_literal}
+use Rattle.eliminate_tables.specs.declared.worthwhile.TheConstants.{LONGEST_PARENT, MOST_LITERALS}
+use Rattle.eliminate_tables.specs.declared.worthwhile.TheConstants.{MOST_OF_A_SIGN}
 
 -- the literals that a resolvent has from its second clause alone
 abbrev pub rest_of : Literal → List Literal → List Literal → List Literal
@@ -15,9 +17,9 @@ abbrev pub are_opposed : Literal → List Literal → List Literal → Bool
 are_opposed p c d =
     list_any (λ k. contains_literal (negation k) (without_literal p c)) (rest_of p c d)
 
--- the resolvent has at most 32 literals; the first clause has the pivot beside those that it gives
+-- the resolvent is not too long; the first clause has the pivot beside those that it gives
 abbrev pub is_short : Literal → List Literal → List Literal → Bool
-is_short p c d = nat_le (length (rest_of p c d) + length c) 33
+is_short p c d = nat_le (length (rest_of p c d) + length c) (MOST_LITERALS + 1)
 
 -- no resolvent of c with these is long
 abbrev pub are_short : Literal → List Literal → List (List Literal) → Bool
@@ -27,9 +29,10 @@ are_short p c ds = list_all (λ d. are_opposed p c d || is_short p c d) ds
 abbrev pub resolvent_count : Literal → List Literal → List (List Literal) → ℕ
 resolvent_count p c ds = count_by (λ d. not (are_opposed p c d)) ds
 
--- at most ten clauses, each with at most a hundred literals
+-- few clauses, and none that is long
 abbrev pub are_few_and_short : List (List Literal) → Bool
-are_few_and_short cs = list_all (λ c. nat_le (length c) 100) cs && nat_le (length cs) 10
+are_few_and_short cs =
+    list_all (λ c. nat_le (length c) LONGEST_PARENT) cs && nat_le (length cs) MOST_OF_A_SIGN
 
 -- the clauses with a literal and those with its negation have no more resolvents than they are, of
 -- which none is long

@@ -12,13 +12,13 @@
 ghost use Rattle.std.specs.Prelude.{◌≡◌, length, Some, IfOk, IfSome};
 ghost use Rattle.eliminate_tables.specs.Bins.{ArePlaced, IsOther};
 
+use crate::against::{Against, hold_against};
+use crate::signatures::{maybe_subsets, signature};
 use clauses::store::{CRef, Store};
 use cnf::marks::Marks;
 use cnf::types::Lit;
 use std::alloc::{AllocError, Global};
 use std::marker::Model;
-use subsume::against::{Against, hold_against};
-use subsume::signatures::{maybe_subsets, signature};
 
 /// So many clauses have room in a bin.
 const MOST_IN_A_BIN: usize = 100;

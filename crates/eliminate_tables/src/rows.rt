@@ -12,7 +12,7 @@ ghost use Rattle.eliminate_tables.specs.Rows.{cleaned, room_at, with_space, IsFu
 
 use clauses::store::{CRef, Store};
 use cnf::types::Lit;
-use propagate_block::rows::BlockRows;
+use flat_rows::rows::FlatRows;
 use std::alloc::{AllocError, Global};
 use std::marker::Model;
 
@@ -20,12 +20,12 @@ use std::marker::Model;
 #[derive(Drop)]
 pub struct Rows {
     // By a literal's index: the clauses with the literal, also such as were deleted since.
-    rows: BlockRows<CRef>,
+    rows: FlatRows<CRef>,
 }
 
 impl Model for Rows {
     ghost use Rattle.std.specs.Prelude.{ℕ};
-    ghost use Rattle.propagate_block.specs.Rows.{Roomed};
+    ghost use Rattle.flat_rows.specs.Rows.{Roomed};
 
     ghost Value = { Roomed ℕ };
 
@@ -41,7 +41,7 @@ impl Rows {
         }) }
     {
         Ok(Rows {
-            rows: BlockRows::new(alloc, count)?,
+            rows: FlatRows::new(alloc, count)?,
         })
     }
 

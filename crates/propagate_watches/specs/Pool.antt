@@ -1,2 +1,2 @@
 -- Rows of entries, in the words of the block in which they lie.
-pub use Rattle.propagate_block.specs.Rows.{row_at, with_row, closed_row}
+pub use Rattle.flat_rows.specs.Rows.{row_at, with_row, closed_row}

@@ -3,7 +3,7 @@
 // Propagation goes along the row of each literal that became false: `get` reads its entries one
 // after another, `set` writes those that stay over those that leave, and `push` adds an entry to
 // another row. What is left over at the end of the row `truncate` cuts off; where propagation stops
-// before it, `close` takes the gap out. Where the rows lie is the business of `BlockRows`.
+// before it, `close` takes the gap out. Where the rows lie is the business of `FlatRows`.
 ghost use Rattle.std.specs.Prelude.{◌≡◌, ℕ, ◌<◌, ◌≤◌, List, [], ◌∷◌, ◌++◌, length, map, replicate};
 ghost use Rattle.std.specs.Prelude.{take, Some, slice_get, slice_set, OnOk, OnErr, IfOk};
 ghost use Rattle.std.specs.Prelude.{filter, not, ◌==◌};
@@ -15,7 +15,7 @@ use crate::doomed::is_doomed;
 use crate::moved::new_entry;
 use clauses::store::{CRef, Moves};
 use cnf::types::Lit;
-use propagate_block::rows::BlockRows;
+use flat_rows::rows::FlatRows;
 use std::alloc::{AllocError, Global};
 use std::marker::Model;
 
@@ -34,7 +34,7 @@ pub struct WatchEntry {
 #[derive(Drop)]
 pub struct WatchPool {
     // The entries, by row.
-    rows: BlockRows<WatchEntry>,
+    rows: FlatRows<WatchEntry>,
 }
 
 impl Model for WatchPool {
@@ -56,7 +56,7 @@ impl WatchPool {
         ensures { IfOk result (λ p. p ≡ replicate rows []) }
     {
         Ok(WatchPool {
-            rows: BlockRows::new(alloc, rows)?,
+            rows: FlatRows::new(alloc, rows)?,
         })
     }
 

@@ -1,7 +1,7 @@
 -- One row keeps what is live.
 use Rattle.std.proofs.Common.{◌<◌, ◌∙◌, length, arith, rules}
 use Rattle.eliminate_tables.specs.Rows.{row_at, has_clause}
-use Rattle.propagate_block.proofs.Laws.{sieved_kept, sieved_left, sieved_all}
+use Rattle.flat_rows.proofs.Laws.{sieved_kept, sieved_left, sieved_all}
 use Rattle.eliminate_tables.proofs.rows.Rows.clean.Goals as goal
 use Rattle.eliminate_tables.proofs.rows.Rows.clean.Goals.{then-has_clause, else-has_clause}
 

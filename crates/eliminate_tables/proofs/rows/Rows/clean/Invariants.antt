@@ -1,7 +1,7 @@
 -- What is live of the places so far stands in the first ones.
 use Rattle.std.proofs.Common.{◌≡◌}
 use Rattle.eliminate_tables.specs.Rows.{has_clause}
-use Rattle.propagate_block.proofs.Laws.{IsSieved}
+use Rattle.flat_rows.proofs.Laws.{IsSieved}
 use Rattle.eliminate_tables.proofs.rows.Rows.clean.Given as goal
 
 abbrev pub invariant-loop-read : goal.invariant-loop-read

@@ -1,5 +1,5 @@
 use Rattle.std.proofs.Common.{◌≡◌, ◌-◌, arith}
-use Rattle.propagate_block.proofs.Laws.{closing_more, closing_all}
+use Rattle.flat_rows.proofs.Laws.{closing_more, closing_all}
 use Rattle.propagate_watches.proofs.pool.WatchPool.close.Goals as goal
 
 pub loop-moved-preserved : goal.loop-moved-preserved

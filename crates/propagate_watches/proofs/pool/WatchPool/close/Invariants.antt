@@ -1,4 +1,4 @@
-use Rattle.propagate_block.proofs.Laws.{IsClosing}
+use Rattle.flat_rows.proofs.Laws.{IsClosing}
 use Rattle.propagate_watches.proofs.pool.WatchPool.close.Given as goal
 
 abbrev pub invariant-loop-moved : goal.invariant-loop-moved

@@ -3,7 +3,7 @@ use Rattle.std.specs.Prelude.{not}
 use Rattle.propagate_watches.specs.declared.pool.WatchEntry.{WatchEntry}
 use Rattle.propagate_watches.specs.Doomed.{is_doomed}
 use Rattle.propagate_watches.specs.Pool.{row_at}
-use Rattle.propagate_block.proofs.Laws.{sieved_kept, sieved_left, sieved_all}
+use Rattle.flat_rows.proofs.Laws.{sieved_kept, sieved_left, sieved_all}
 use Rattle.propagate_watches.proofs.pool.WatchPool.drop_doomed_of.Goals as goal
 use Rattle.propagate_watches.proofs.pool.WatchPool.drop_doomed_of.Goals.{then-not-is_doomed}
 use Rattle.propagate_watches.proofs.pool.WatchPool.drop_doomed_of.Goals.{else-not-is_doomed}

@@ -1,7 +1,7 @@
 use Rattle.std.specs.Prelude.{not}
 use Rattle.propagate_watches.specs.Doomed.{is_doomed}
 use Rattle.propagate_watches.specs.declared.pool.WatchEntry.{WatchEntry}
-use Rattle.propagate_block.proofs.Laws.{IsSieved}
+use Rattle.flat_rows.proofs.Laws.{IsSieved}
 use Rattle.propagate_watches.proofs.pool.WatchPool.drop_doomed_of.Given as goal
 
 abbrev pub invariant-loop-read : goal.invariant-loop-read

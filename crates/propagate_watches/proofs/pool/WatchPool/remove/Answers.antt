@@ -2,7 +2,7 @@ use Rattle.std.proofs.Common.{◌<◌, ◌∙◌, length, arith, rules}
 use Rattle.std.specs.Prelude.{not, ◌==◌}
 use Rattle.propagate_watches.specs.declared.pool.WatchEntry.{WatchEntry}
 use Rattle.propagate_watches.specs.Pool.{row_at}
-use Rattle.propagate_block.proofs.Laws.{sieved_kept, sieved_left, sieved_all}
+use Rattle.flat_rows.proofs.Laws.{sieved_kept, sieved_left, sieved_all}
 use Rattle.propagate_watches.proofs.pool.WatchPool.remove.Goals as goal
 use Rattle.propagate_watches.proofs.pool.WatchPool.remove.Goals.{then-ne, else-ne}
 

@@ -1,6 +1,6 @@
 use Rattle.std.specs.Prelude.{not, ◌==◌}
 use Rattle.propagate_watches.specs.declared.pool.WatchEntry.{WatchEntry}
-use Rattle.propagate_block.proofs.Laws.{IsSieved}
+use Rattle.flat_rows.proofs.Laws.{IsSieved}
 use Rattle.propagate_watches.proofs.pool.WatchPool.remove.Given as goal
 
 abbrev pub invariant-loop-read : goal.invariant-loop-read

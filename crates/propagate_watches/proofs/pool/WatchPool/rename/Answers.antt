@@ -1,6 +1,6 @@
 use Rattle.std.proofs.Common.{◌∙◌, map, arith}
 use Rattle.propagate_watches.specs.Renames.{named_entry}
-use Rattle.propagate_block.proofs.Laws.{rows_more}
+use Rattle.flat_rows.proofs.Laws.{rows_more}
 use Rattle.propagate_watches.proofs.pool.WatchPool.rename.Goals as goal
 
 pub loop-row-preserved : goal.loop-row-preserved

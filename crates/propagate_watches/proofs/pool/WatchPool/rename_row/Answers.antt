@@ -1,6 +1,6 @@
 use Rattle.std.proofs.Common.{arith}
 use Rattle.propagate_watches.specs.Renames.{named_entry}
-use Rattle.propagate_block.proofs.Laws.{mapped_more}
+use Rattle.flat_rows.proofs.Laws.{mapped_more}
 use Rattle.propagate_watches.proofs.pool.WatchPool.rename_row.Goals as goal
 
 pub loop-i-preserved : goal.loop-i-preserved

@@ -1,5 +1,5 @@
 use Rattle.propagate_watches.specs.Renames.{named_entry}
-use Rattle.propagate_block.proofs.Laws.{IsMapped}
+use Rattle.flat_rows.proofs.Laws.{IsMapped}
 use Rattle.propagate_watches.proofs.pool.WatchPool.rename_row.Given as goal
 
 abbrev pub invariant-loop-i : goal.invariant-loop-i
