@@ -52,14 +52,6 @@ loop-i-preserved c =
           c.if-i-steps.most c.loop-i.progress c.index-steps-i.result c.loop-i-test.true
           c.index-steps-i.is most c.make.new.self c.in_ok-make.ensures.ok
           ∙ c.loop-i.invariant.way;
-      from_one =
-          omega (
-            arith,
-            ap (λ (s : OpenParts). s.fresh) c.in_ok-make.ensures.ok,
-            step_up c.args.instance.now c.args.digits c.if-i-steps.most
-                (step_of c.index-steps-i.result) c.loop-i.progress,
-            c.loop-i.invariant.from_one,
-          );
       parts =
           parts_next c.args.instance.now c.args.steps.now c.loop-i.i c.index-steps-i.result
           c.loop-i-test.true c.index-steps-i.is c.args.digits c.if-i-steps.most c.loop-i.progress

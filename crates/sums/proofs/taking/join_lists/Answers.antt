@@ -65,14 +65,6 @@ loop-j-preserved c =
           c.in_ok-halves.halves.list.items c.in_ok-halves.halves.carry.items
           c.join_digit.new.builder.clauses c.join_digit.new.builder.fresh e.list e.carry e.clauses
           e.fresh);
-      from_one =
-          omega (
-            arith,
-            e.fresh,
-            digit_up c.args.most c.loop-j.builder.fresh (Both c.in_ok-a.a.items c.in_ok-b.b.items)
-                c.loop-j.carry.items,
-            c.loop-j.invariant.from_one,
-          );
     }
 
 pub returns-in_err-rest-clause-many : goal.returns-in_err-rest-clause-many

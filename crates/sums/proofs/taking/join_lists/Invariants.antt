@@ -11,5 +11,4 @@ invariant-loop-j l = record {
       (with_carries l.most l.builder.fresh l.carry.items
       (both_digits (drop l.j l.fn.left.digits.items) (drop l.j l.fn.right.digits.items))
       (Both l.fn.left.top l.fn.right.top));
-  from_one : 0 < l.builder.fresh;
 }

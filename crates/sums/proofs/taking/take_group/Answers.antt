@@ -62,12 +62,4 @@ loop-left-preserved c =
           c.in_ok-members.members.items c.group_digit.new.builder.clauses
           c.group_digit.new.builder.fresh e.list e.carry e.clauses e.fresh
           (c.in_ok-members.ensures ∙ ap without_lowest c.deref-in-loop-left.ensures.value));
-      from_one =
-          omega (
-            arith,
-            e.fresh,
-            digit_up c.args.most c.loop-left.builder.fresh (Members c.in_ok-own.own.items)
-                c.loop-left.carry.items,
-            c.loop-left.invariant.from_one,
-          );
     }

@@ -9,7 +9,6 @@ invariant-loop-left l = record {
       l.fn.builder.clauses l.lists.items l.builder.clauses
       (with_carries l.most l.builder.fresh l.carry.items (digits_of l.left l.members.items)
       (rest_of l.left l.members.items));
-  from_one : 0 < l.builder.fresh;
 }
 
 abbrev pub decreases-loop-left : goal.decreases-loop-left
