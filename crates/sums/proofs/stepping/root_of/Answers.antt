@@ -2,9 +2,9 @@ use Rattle.std.proofs.Common.{◌≡◌, ℕ, ◌+◌, ◌<◌, ◌≤◌, ◌�
 use Rattle.std.proofs.lemmas.Result.{err_from_is_err_and}
 use Rattle.sums_tree.specs.Arrangement.{step_of}
 use Rattle.sums.specs.Sums.{Node}
-use Rattle.sums.specs.Stepping.{OpenParts, most_before}
+use Rattle.sums.specs.Stepping.{most_before}
 use Rattle.sums.proofs.OnTheWay.{is_too_many_weaker}
-use Rattle.sums.proofs.Steps.{most_more, most_last, step_forward, step_many, step_up}
+use Rattle.sums.proofs.Steps.{most_more, most_last, step_forward, step_many}
 use Rattle.sums.proofs.Steps.{steps_ended, root_digits}
 use Rattle.sums.proofs.Fitting.{placed_at, steps_at, parts_next}
 use Rattle.sums.proofs.stepping.root_of.Goals as goal

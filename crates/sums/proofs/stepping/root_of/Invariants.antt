@@ -1,4 +1,4 @@
-use Rattle.std.proofs.Common.{◌≡◌, ◌<◌, length, map, drop}
+use Rattle.std.proofs.Common.{◌≡◌, length, map, drop}
 use Rattle.sums_tree.specs.Arrangement.{step_of}
 use Rattle.sums.specs.Stepping.{steps_made, begun, CanStepAll}
 use Rattle.sums.proofs.stepping.root_of.Given as goal

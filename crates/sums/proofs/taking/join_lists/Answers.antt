@@ -5,7 +5,7 @@ use Rattle.std.proofs.lemmas.List.{get_or_read}
 use Rattle.std.proofs.lemmas.Result.{err_from_is_err_and}
 use Rattle.sums.specs.Sums.{Made, Both, with_carries, both_digits}
 use Rattle.sums.specs.Parts.{IsOnTheWay, joined_node, rest_made}
-use Rattle.sums.proofs.OnTheWay.{parts_many, parts_step, parts_last, is_too_many_weaker, digit_up}
+use Rattle.sums.proofs.OnTheWay.{parts_many, parts_step, parts_last, is_too_many_weaker}
 use Rattle.sums.proofs.Making.{same_lengths}
 use Rattle.sums.proofs.taking.join_lists.Goals as goal
 

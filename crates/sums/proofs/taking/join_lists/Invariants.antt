@@ -1,4 +1,4 @@
-use Rattle.std.proofs.Common.{◌<◌, drop}
+use Rattle.std.proofs.Common.{drop}
 use Rattle.sums.specs.Sums.{with_carries, both_digits, Both}
 use Rattle.sums.specs.Parts.{IsOnTheWay, joined_node}
 use Rattle.sums.proofs.taking.join_lists.Given as goal

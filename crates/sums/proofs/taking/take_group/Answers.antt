@@ -1,10 +1,10 @@
 use Rattle.std.proofs.Common.{◌≡◌, ◌+◌, ◌-◌, ◌<◌, ◌≤◌, ◌∷◌, [], ◌++◌, length, ap, arith, sym, subst}
 use Rattle.std.proofs.Common.{◌∙◌}
 use Rattle.std.proofs.lemmas.Result.{err_from_is_err_and}
-use Rattle.sums.specs.Sums.{Members, with_carries, digits_of, rest_of, lowest, counted}
+use Rattle.sums.specs.Sums.{with_carries, digits_of, rest_of, lowest, counted}
 use Rattle.sums.specs.Sums.{without_lowest}
 use Rattle.sums.specs.Parts.{IsOnTheWay, group_node}
-use Rattle.sums.proofs.OnTheWay.{group_many, group_step, rest_many, is_too_many_weaker, digit_up}
+use Rattle.sums.proofs.OnTheWay.{group_many, group_step, rest_many, is_too_many_weaker}
 use Rattle.sums.proofs.taking.take_group.Goals as goal
 
 below : {a b : Rattle.std.proofs.Common.ℕ} → a ≤ b → 131072 < a → 131072 < b

@@ -1,4 +1,3 @@
-use Rattle.std.proofs.Common.{◌<◌}
 use Rattle.sums.specs.Sums.{with_carries, digits_of, rest_of}
 use Rattle.sums.specs.Parts.{IsOnTheWay, group_node}
 use Rattle.sums.proofs.taking.take_group.Given as goal
