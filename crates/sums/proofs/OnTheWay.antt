@@ -14,7 +14,6 @@ use Rattle.sums.specs.Halts.{IsTooMany}
 use Rattle.sums.specs.declared.halts.Halt.{Halt}
 use Rattle.sums.specs.declared.halts.Halt.TheVariants.{TooMany, Memory}
 use Rattle.sums.proofs.Making.{same_lengths}
-use Rattle.sums.proofs.Variables.{own_grows, join_grows, split_grows}
 
 abbrev Clauses : Type 0
 Clauses = List (List Literal)
@@ -138,19 +137,6 @@ module _ (whole : Node) (before : Clauses) (lists : List (List AtLeast)) (now : 
 pub is_too_many_weaker : (h : Halt) (P Q : Type 0) → (P → Q) → IsTooMany h P → IsTooMany h Q
 is_too_many_weaker TooMany P Q f p = f p
 is_too_many_weaker Memory P Q f p = tt
-
--- variables only rise
-pub digit_up : (most v : ℕ) (digit : Own) (carry : List AtLeast)
-    → v ≤ (digit_made most v digit carry).fresh
-digit_up most v digit carry =
-    let own = own_list v digit in
-    let sum = join own.fresh own.list carry in
-    omega (
-      arith,
-      (own_grows v digit).up,
-      (join_grows own.fresh own.list carry).up,
-      (split_grows most sum.fresh sum.list).up,
-    )
 
 -- two parts with digits left
 module _ (whole : Node) (before : Clauses) (lists : List (List AtLeast)) (now : Clauses)

@@ -17,7 +17,6 @@ use Rattle.sums.specs.Halts.{IsTooMany}
 use Rattle.sums.specs.declared.halts.Halt.{Halt}
 use Rattle.sums.specs.declared.halts.Halt.TheVariants.{TooMany, Memory}
 use Rattle.sums.proofs.Shape.{digits_length}
-use Rattle.sums.proofs.Variables.{carries_grow}
 use Rattle.sums.specs.Sums.{AtLeast, Node, Own, Both, members, most_below, node, root}
 use Rattle.sums.specs.Sums.{with_carries, digits_of, rest_of, both_digits, own_list, join, split}
 use Rattle.sums.specs.Sums.{first_small, tree_weight}
@@ -101,20 +100,6 @@ steps_grow p d (step ∷ more) s =
     let one = step_grows p d (most_before more) step s in
     let others = steps_grow p d more (step_made p d (most_before more) step s) in
     omega arith
-
--- new variables only come
-last_joined_up : (m : ℕ) (s : OpenParts) (parts : List Part)
-    → s.fresh ≤ (last_joined m s parts).fresh
-last_joined_up m s [] = omega arith
-last_joined_up m s (r ∷ []) = omega arith
-last_joined_up m s (r ∷ l ∷ parts) =
-    (carries_grow m s.fresh [] (both_digits l.digits r.digits) (Both l.top r.top)).up
-
-pub step_up : (p : Problem) (d m : ℕ) (step : Step) (s : OpenParts)
-    → s.fresh ≤ (step_made p d m step s).fresh
-step_up p d m (Take g) s =
-    (carries_grow m s.fresh [] (digits_of d (members p g)) (rest_of d (members p g))).up
-step_up p d m Join s = last_joined_up m s s.parts
 
 -- no part has more digits than are asked for
 abbrev pub HaveDigits : ℕ → List Part → Type 0

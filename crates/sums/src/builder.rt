@@ -5,6 +5,7 @@ ghost use Rattle.std.specs.Prelude.{IsTrue};
 ghost use Rattle.sums.specs.Halts.{IfTooMany};
 ghost use Rattle.sums.specs.Sums.{grouped, group_list, joined, join};
 
+use crate::fresh::Fresh;
 use crate::halts::Halt;
 use crate::linking::{push_both, push_order, push_own};
 use crate::lists::AtLeast;
@@ -17,14 +18,13 @@ use cnf::clause_list::ClauseList;
 pub(crate) struct Builder {
     /// At most 2^17.
     pub clauses: ClauseList,
-    /// From 1.
-    pub fresh: u32,
+    /// The next new variable.
+    pub fresh: Fresh,
 }
 
 impl Builder {
     /// The list of members of a group of which at most one is given up.
     pub fn group(&mut self, members: Vec<AtLeast>) -> Result<Vec<AtLeast>, Halt>
-        requires { 0 < self.old.fresh }
         ensures list { IfOk result
             (λ l. l.items ≡ (group_list self.old.fresh members.items).list) }
         ensures clauses { OnOk result (self.new.clauses
@@ -43,8 +43,7 @@ impl Builder {
 
     /// The list of two members or more.
     fn group_many(&mut self, members: &[AtLeast]) -> Result<Vec<AtLeast>, Halt>
-        requires from_one { 0 < self.old.fresh }
-        requires some { 0 < length members.now }
+        requires { 0 < length members.now }
         ensures list { IfOk result (λ l. l.items ≡ (grouped self.old.fresh members.now).list) }
         ensures clauses { OnOk result (self.new.clauses
             ≡ self.old.clauses ++ (grouped self.old.fresh members.now).clauses) }
@@ -64,13 +63,12 @@ impl Builder {
         }
         push_own(&mut self.clauses, &list, members)?;
         push_order(&mut self.clauses, list.list())?;
-        self.fresh += list.len() as u32;
+        self.fresh = self.fresh.after(list.len() as u32);
         Ok(list.into_list())
     }
 
     /// The list of the sums of two lists.
     pub fn join(&mut self, left: Vec<AtLeast>, right: Vec<AtLeast>) -> Result<Vec<AtLeast>, Halt>
-        requires { 0 < self.old.fresh }
         ensures list { IfOk result
             (λ l. l.items ≡ (join self.old.fresh left.items right.items).list) }
         ensures clauses { OnOk result (self.new.clauses
@@ -92,8 +90,7 @@ impl Builder {
 
     /// The list of the sums of two lists that are not empty.
     fn join_both(&mut self, left: &[AtLeast], right: &[AtLeast]) -> Result<Vec<AtLeast>, Halt>
-        requires from_one { 0 < self.old.fresh }
-        requires some { 0 < length left.now }
+        requires { 0 < length left.now }
         ensures list { IfOk result
             (λ l. l.items ≡ (joined self.old.fresh left.now right.now).list) }
         ensures clauses { OnOk result (self.new.clauses
@@ -126,7 +123,7 @@ impl Builder {
         push_own(&mut self.clauses, &list, right)?;
         push_both(&mut self.clauses, &list, left, right)?;
         push_order(&mut self.clauses, list.list())?;
-        self.fresh += list.len() as u32;
+        self.fresh = self.fresh.after(list.len() as u32);
         Ok(list.into_list())
     }
 

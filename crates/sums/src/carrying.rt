@@ -16,7 +16,6 @@ pub(crate) fn carry_on(
     own: Vec<AtLeast>,
     carry: Vec<AtLeast>,
 ) -> Result<Halves, Halt>
-    requires { 0 < builder.old.fresh }
     ensures list { IfOk result
         (λ h. h.list.items ≡ (carried most builder.old.fresh own.items carry.items).list) }
     ensures carry { IfOk result
@@ -41,7 +40,6 @@ pub(crate) fn group_digit(
     members: Vec<AtLeast>,
     carry: Vec<AtLeast>,
 ) -> Result<Halves, Halt>
-    requires { 0 < builder.old.fresh }
     ensures list { IfOk result (λ h. h.list.items
         ≡ (digit_made most builder.old.fresh (Members members.items) carry.items).list) }
     ensures carry { IfOk result (λ h. h.carry.items
@@ -67,7 +65,6 @@ pub(crate) fn join_digit(
     right: Vec<AtLeast>,
     carry: Vec<AtLeast>,
 ) -> Result<Halves, Halt>
-    requires { 0 < builder.old.fresh }
     ensures list { IfOk result (λ h. h.list.items
         ≡ (digit_made most builder.old.fresh (Both left.items right.items) carry.items).list) }
     ensures carry { IfOk result (λ h. h.carry.items
@@ -92,7 +89,6 @@ pub(crate) fn group_rest(
     members: Vec<AtLeast>,
     carry: Vec<AtLeast>,
 ) -> Result<Vec<AtLeast>, Halt>
-    requires { 0 < builder.old.fresh }
     ensures list { IfOk result (λ l. l.items
         ≡ (rest_made builder.old.fresh (Members members.items) carry.items).list) }
     ensures clauses { OnOk result (builder.new.clauses
@@ -115,7 +111,6 @@ pub(crate) fn join_rest(
     right: Vec<AtLeast>,
     carry: Vec<AtLeast>,
 ) -> Result<Vec<AtLeast>, Halt>
-    requires { 0 < builder.old.fresh }
     ensures list { IfOk result (λ l. l.items
         ≡ (rest_made builder.old.fresh (Both left.items right.items) carry.items).list) }
     ensures clauses { OnOk result (builder.new.clauses

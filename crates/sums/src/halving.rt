@@ -25,7 +25,6 @@ pub(crate) fn split_list(
     most: usize,
     list: Vec<AtLeast>,
 ) -> Result<Halves, Halt>
-    requires { 0 < builder.old.fresh }
     ensures list { IfOk result
         (λ h. h.list.items ≡ (split most builder.old.fresh list.items).list) }
     ensures carry { IfOk result
@@ -47,7 +46,6 @@ pub(crate) fn split_list(
 
 /// The odd one and the half.
 fn halve_list(builder: &mut Builder, list: &[AtLeast]) -> Result<Halves, Halt>
-    requires { 0 < builder.old.fresh }
     ensures list { IfOk result
         (λ h. h.list.items ≡ (halved builder.old.fresh list.now).list) }
     ensures carry { IfOk result
@@ -61,15 +59,15 @@ fn halve_list(builder: &mut Builder, list: &[AtLeast]) -> Result<Halves, Halt>
     if !builder.has_room(list.len() / 2 + list.len() % 2) {
         return Err(Halt::TooMany);
     }
-    if builder.fresh >= FORMULA_VARIABLE_LIMIT {
+    if builder.fresh.get() >= FORMULA_VARIABLE_LIMIT {
         return Err(Halt::Memory);
     }
     let alloc = builder.clauses.allocator();
-    let odd = AtLeast::new(1, builder.fresh);
+    let odd = AtLeast::new(1, builder.fresh.get());
     let carry = halve(alloc, list)?;
     let list_left = one(alloc, odd)?;
     push_odd(&mut builder.clauses, odd, list)?;
-    builder.fresh += 1;
+    builder.fresh = builder.fresh.after(1);
     Ok(Halves {
         list: list_left,
         carry,

@@ -5,6 +5,7 @@
 mod builder;
 mod carrying;
 pub mod comparators;
+mod fresh;
 mod halts;
 mod halving;
 mod linking;

@@ -4,6 +4,7 @@ ghost use Rattle.std.specs.Prelude.{OnOk, IfOk};
 ghost use Rattle.cnf.specs.declared.limits.TheConstants.{FORMULA_VARIABLE_LIMIT};
 ghost use Rattle.sums.specs.Sums.{literal_of, named_from, numbers, rising, sums_with};
 
+use crate::fresh::Fresh;
 use crate::lists::AtLeast;
 use cnf::limits::FORMULA_VARIABLE_LIMIT;
 use cnf::types::Lit;
@@ -58,16 +59,16 @@ fn sort_once(all: &mut Vec<u64>)
 }
 
 /// The numbers with new variables. One from 2^26 on counts as refused memory.
-fn name(alloc: Global, fresh: u32, all: &[u64]) -> Result<Vec<AtLeast>, AllocError>
-    requires { 0 < fresh }
+fn name(alloc: Global, fresh: Fresh, all: &[u64]) -> Result<Vec<AtLeast>, AllocError>
     ensures list { IfOk result (λ l. l.items ≡ named_from fresh all.now) }
     ensures small { OnOk result (fresh + length all.now ≤ FORMULA_VARIABLE_LIMIT) }
 {
-    if fresh > FORMULA_VARIABLE_LIMIT || all.len() > (FORMULA_VARIABLE_LIMIT - fresh) as usize {
+    let first = fresh.get();
+    if first > FORMULA_VARIABLE_LIMIT || all.len() > (FORMULA_VARIABLE_LIMIT - first) as usize {
         return Err(AllocError);
     }
     let mut list = Vec::with_capacity(alloc, all.len())?;
-    let mut variable = fresh;
+    let mut variable = first;
     for number in all {
         list.push(AtLeast::new(*number, variable))?;
         variable += 1;
@@ -99,8 +100,7 @@ impl Model for Named {
 
 impl Named {
     /// Each of the numbers once, by rising size, with the variables from `fresh` on.
-    pub fn of(fresh: u32, mut all: Vec<u64>) -> Result<Self, AllocError>
-        requires { 0 < fresh }
+    pub fn of(fresh: Fresh, mut all: Vec<u64>) -> Result<Self, AllocError>
         ensures list { IfOk result (λ n. n ≡ named_from fresh (rising all.items)) }
         ensures small { IfOk result (λ n. fresh + length n ≤ FORMULA_VARIABLE_LIMIT) }
     {

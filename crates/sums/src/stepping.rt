@@ -9,6 +9,7 @@ ghost use Rattle.sums.specs.Stepping.{group_weight, steps_weight, IsPlaced, CanS
 ghost use Rattle.sums.specs.Sums.{members};
 
 use crate::builder::Builder;
+use crate::fresh::Fresh;
 use crate::halts::Halt;
 use crate::lists::AtLeast;
 use crate::root::Root;
@@ -56,7 +57,7 @@ impl OpenParts {
             parts: Vec::new(alloc),
             builder: Builder {
                 clauses: ClauseList::new(alloc),
-                fresh,
+                fresh: Fresh::new(fresh),
             },
         }
     }
@@ -69,7 +70,6 @@ impl OpenParts {
         most: usize,
         step: &TreeStep,
     ) -> Result<(), Halt>
-        requires from_one { 0 < self.old.fresh }
         requires placed { IsPlaced instance.now (step_of step.now) }
         requires parts { CanStep (length self.old.parts) (step_of step.now) }
         ensures ok { OnOk result (self.new
@@ -102,7 +102,7 @@ impl OpenParts {
             Some(last) => last,
             None => Lists::none(builder.clauses.allocator()),
         };
-        Root::new(builder.clauses, last, builder.fresh)
+        Root::new(builder.clauses, last, builder.fresh.get())
     }
 }
 

@@ -73,7 +73,6 @@ pub(crate) fn take_group(
     digits: u32,
     members: Vec<AtLeast>,
 ) -> Result<Lists, Halt>
-    requires { 0 < builder.old.fresh }
     ensures digits { IfOk result (λ l. l.digits.items
         ≡ (group_node most digits members.items builder.old.fresh).digits) }
     ensures top { IfOk result
@@ -114,7 +113,6 @@ pub(crate) fn join_lists(
     left: Lists,
     right: Lists,
 ) -> Result<Lists, Halt>
-    requires { 0 < builder.old.fresh }
     ensures digits { IfOk result (λ l. l.digits.items
         ≡ (joined_node most left.digits.items left.top right.digits.items right.top
         builder.old.fresh).digits) }

@@ -6,8 +6,8 @@ pub loop-number-preserved : goal.loop-number-preserved
 loop-number-preserved c = record {
   named =
       c.in_ok-push.ensures.items
-      ∙ named_more c.args.fresh c.args.all.now c.loop-number.number-index c.loop-number.list.items
-      c.new.result c.loop-number.variable c.loop-number-test.true c.loop-number.invariant.named
-      c.loop-number.invariant.next c.new.ensures;
+      ∙ named_more c.get-first.result c.args.all.now c.loop-number.number-index
+      c.loop-number.list.items c.new.result c.loop-number.variable c.loop-number-test.true
+      c.loop-number.invariant.named c.loop-number.invariant.next c.new.ensures;
   next = omega arith;
 }

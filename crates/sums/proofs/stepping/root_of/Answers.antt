@@ -2,9 +2,9 @@ use Rattle.std.proofs.Common.{◌≡◌, ℕ, ◌+◌, ◌<◌, ◌≤◌, ◌�
 use Rattle.std.proofs.lemmas.Result.{err_from_is_err_and}
 use Rattle.sums_tree.specs.Arrangement.{step_of}
 use Rattle.sums.specs.Sums.{Node}
-use Rattle.sums.specs.Stepping.{OpenParts, most_before}
+use Rattle.sums.specs.Stepping.{most_before}
 use Rattle.sums.proofs.OnTheWay.{is_too_many_weaker}
-use Rattle.sums.proofs.Steps.{most_more, most_last, step_forward, step_many, step_up}
+use Rattle.sums.proofs.Steps.{most_more, most_last, step_forward, step_many}
 use Rattle.sums.proofs.Steps.{steps_ended, root_digits}
 use Rattle.sums.proofs.Fitting.{placed_at, steps_at, parts_next}
 use Rattle.sums.proofs.stepping.root_of.Goals as goal
@@ -52,14 +52,6 @@ loop-i-preserved c =
           c.if-i-steps.most c.loop-i.progress c.index-steps-i.result c.loop-i-test.true
           c.index-steps-i.is most c.make.new.self c.in_ok-make.ensures.ok
           ∙ c.loop-i.invariant.way;
-      from_one =
-          omega (
-            arith,
-            ap (λ (s : OpenParts). s.fresh) c.in_ok-make.ensures.ok,
-            step_up c.args.instance.now c.args.digits c.if-i-steps.most
-                (step_of c.index-steps-i.result) c.loop-i.progress,
-            c.loop-i.invariant.from_one,
-          );
       parts =
           parts_next c.args.instance.now c.args.steps.now c.loop-i.i c.index-steps-i.result
           c.loop-i-test.true c.index-steps-i.is c.args.digits c.if-i-steps.most c.loop-i.progress

@@ -1,4 +1,4 @@
-use Rattle.std.proofs.Common.{◌≡◌, ◌<◌, length, map, drop}
+use Rattle.std.proofs.Common.{◌≡◌, length, map, drop}
 use Rattle.sums_tree.specs.Arrangement.{step_of}
 use Rattle.sums.specs.Stepping.{steps_made, begun, CanStepAll}
 use Rattle.sums.proofs.stepping.root_of.Given as goal
@@ -7,6 +7,5 @@ abbrev pub invariant-loop-i : goal.invariant-loop-i
 invariant-loop-i l = record {
   way : steps_made l.instance l.digits (map step_of (drop l.i l.steps)) l.progress
       ≡ steps_made l.instance l.digits (map step_of l.steps) (begun l.instance);
-  from_one : 0 < l.progress.fresh;
   parts : CanStepAll (length l.progress.parts) (map step_of (drop l.i l.steps));
 }

@@ -5,7 +5,7 @@ use Rattle.std.proofs.lemmas.List.{get_or_read}
 use Rattle.std.proofs.lemmas.Result.{err_from_is_err_and}
 use Rattle.sums.specs.Sums.{Made, Both, with_carries, both_digits}
 use Rattle.sums.specs.Parts.{IsOnTheWay, joined_node, rest_made}
-use Rattle.sums.proofs.OnTheWay.{parts_many, parts_step, parts_last, is_too_many_weaker, digit_up}
+use Rattle.sums.proofs.OnTheWay.{parts_many, parts_step, parts_last, is_too_many_weaker}
 use Rattle.sums.proofs.Making.{same_lengths}
 use Rattle.sums.proofs.taking.join_lists.Goals as goal
 
@@ -65,14 +65,6 @@ loop-j-preserved c =
           c.in_ok-halves.halves.list.items c.in_ok-halves.halves.carry.items
           c.join_digit.new.builder.clauses c.join_digit.new.builder.fresh e.list e.carry e.clauses
           e.fresh);
-      from_one =
-          omega (
-            arith,
-            e.fresh,
-            digit_up c.args.most c.loop-j.builder.fresh (Both c.in_ok-a.a.items c.in_ok-b.b.items)
-                c.loop-j.carry.items,
-            c.loop-j.invariant.from_one,
-          );
     }
 
 pub returns-in_err-rest-clause-many : goal.returns-in_err-rest-clause-many

@@ -1,4 +1,4 @@
-use Rattle.std.proofs.Common.{◌<◌, drop}
+use Rattle.std.proofs.Common.{drop}
 use Rattle.sums.specs.Sums.{with_carries, both_digits, Both}
 use Rattle.sums.specs.Parts.{IsOnTheWay, joined_node}
 use Rattle.sums.proofs.taking.join_lists.Given as goal
@@ -11,5 +11,4 @@ invariant-loop-j l = record {
       (with_carries l.most l.builder.fresh l.carry.items
       (both_digits (drop l.j l.fn.left.digits.items) (drop l.j l.fn.right.digits.items))
       (Both l.fn.left.top l.fn.right.top));
-  from_one : 0 < l.builder.fresh;
 }

@@ -1,10 +1,10 @@
 use Rattle.std.proofs.Common.{◌≡◌, ◌+◌, ◌-◌, ◌<◌, ◌≤◌, ◌∷◌, [], ◌++◌, length, ap, arith, sym, subst}
 use Rattle.std.proofs.Common.{◌∙◌}
 use Rattle.std.proofs.lemmas.Result.{err_from_is_err_and}
-use Rattle.sums.specs.Sums.{Members, with_carries, digits_of, rest_of, lowest, counted}
+use Rattle.sums.specs.Sums.{with_carries, digits_of, rest_of, lowest, counted}
 use Rattle.sums.specs.Sums.{without_lowest}
 use Rattle.sums.specs.Parts.{IsOnTheWay, group_node}
-use Rattle.sums.proofs.OnTheWay.{group_many, group_step, rest_many, is_too_many_weaker, digit_up}
+use Rattle.sums.proofs.OnTheWay.{group_many, group_step, rest_many, is_too_many_weaker}
 use Rattle.sums.proofs.taking.take_group.Goals as goal
 
 below : {a b : Rattle.std.proofs.Common.ℕ} → a ≤ b → 131072 < a → 131072 < b
@@ -62,12 +62,4 @@ loop-left-preserved c =
           c.in_ok-members.members.items c.group_digit.new.builder.clauses
           c.group_digit.new.builder.fresh e.list e.carry e.clauses e.fresh
           (c.in_ok-members.ensures ∙ ap without_lowest c.deref-in-loop-left.ensures.value));
-      from_one =
-          omega (
-            arith,
-            e.fresh,
-            digit_up c.args.most c.loop-left.builder.fresh (Members c.in_ok-own.own.items)
-                c.loop-left.carry.items,
-            c.loop-left.invariant.from_one,
-          );
     }

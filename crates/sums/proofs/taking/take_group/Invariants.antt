@@ -1,4 +1,3 @@
-use Rattle.std.proofs.Common.{◌<◌}
 use Rattle.sums.specs.Sums.{with_carries, digits_of, rest_of}
 use Rattle.sums.specs.Parts.{IsOnTheWay, group_node}
 use Rattle.sums.proofs.taking.take_group.Given as goal
@@ -9,7 +8,6 @@ invariant-loop-left l = record {
       l.fn.builder.clauses l.lists.items l.builder.clauses
       (with_carries l.most l.builder.fresh l.carry.items (digits_of l.left l.members.items)
       (rest_of l.left l.members.items));
-  from_one : 0 < l.builder.fresh;
 }
 
 abbrev pub decreases-loop-left : goal.decreases-loop-left
