@@ -1,2 +1,4 @@
+pub mod Laws
+mod Seen
 mod Stamps
 mod WorseHalf

@@ -1,4 +1,6 @@
-// What is told of a search while it runs. No contract speaks of it.
+// What is told of a search while it runs.
+ghost use Rattle.std.specs.Prelude.{◌≡◌, List, Option, None};
+ghost use Rattle.cdcl_order.specs.Watch.{Sight};
 
 /// How far a search has come.
 #[derive(Clone, Copy, Debug, PartialEq, Eq, Drop)]
@@ -17,8 +19,13 @@ pub struct SearchReport {
 /// Is told how far a search has come, each time that it has learned a clause. What the search
 /// answers, and what it writes, does not depend on it.
 pub trait Watch {
+    /// The solutions and ends that it was shown, one after another, where that is known; None where
+    /// it is not, as of one that writes them to a file.
+    ghost seen: { Self → Option (List Sight) };
+
     /// The search has learned a clause.
-    fn learned(&mut self, report: &SearchReport);
+    fn learned(&mut self, report: &SearchReport)
+        ensures quiet { seen self.new ≡ seen self.old };
 }
 
 /// Looks at nothing.
@@ -26,5 +33,7 @@ pub trait Watch {
 pub struct Unwatched;
 
 impl Watch for Unwatched {
+    ghost seen = { λ _. None };
+
     fn learned(&mut self, _report: &SearchReport) {}
 }

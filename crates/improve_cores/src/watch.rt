@@ -1,8 +1,10 @@
-// Who looks on while cores are looked for. No contract of the search speaks of it.
+// Who looks on while cores are looked for.
+ghost use Rattle.std.specs.Prelude.{◌≡◌};
 
 /// Looks on while cores are looked for, and is told what those found so far are worth together.
 pub trait Watch: cdcl::watch::Watch {
     /// Is told what the cores found so far are worth together, as the search counts: below 2^62,
     /// and more each time. No proof rests on it.
-    fn raised(&mut self, lower: u64);
+    fn raised(&mut self, lower: u64)
+        ensures quiet { Self.seen self.new ≡ Self.seen self.old };
 }
