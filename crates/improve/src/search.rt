@@ -6,6 +6,7 @@ ghost use Rattle.cnf.specs.Refute.{IsRefutedByHints};
 ghost use Rattle.lrat_log.specs.Steps.{IsAcceptedLog, AddsNoEmptyClause, learned_count};
 ghost use Rattle.bound.specs.Bound.{hard_cnf};
 ghost use Rattle.cdcl_order.specs.Budgets.{BudgetState};
+ghost use Rattle.cdcl_order.specs.Watch.{Better, with_seen};
 ghost use Rattle.cdcl.specs.Solving.{given_to};
 ghost use Rattle.improve.specs.Improving.{Improves, IsHardLog, IsRightFound, IsSolution, OnWork};
 ghost use Rattle.improve.specs.Improving.{PaysForHard, EndsWith, AreFalling, IsCostOfSome};
@@ -363,6 +364,9 @@ pub fn tell<T: Progress, W: Watch>(
     ensures err { OnErr result
         (T.state progress.new ≡ with_failed solution.now.cost (T.state progress.old)) }
     ensures follows { (first : T) → T.follows first progress.old → T.follows first progress.new }
+    ensures shown { W.seen watch.new
+        ≡ with_seen (Better instance.now solution.now.cost solution.now.bits.items ∷ [])
+        (W.seen watch.old) }
 {
     watch.better(instance, solution.cost, &solution.bits);
     progress.improved(solution.cost)
