@@ -319,6 +319,12 @@ checker_stays c None e = tt
 checker_stays c (Some v) e =
     λ formula bytes more s. refused_stays c.reading (Some v) e formula bytes more s.holds
 
+-- what holds of the value of a checker holds of what it is the value of
+pub holds_seen : (c d : CheckerState) → c ≡ d → (formula : List (List Literal)) (bytes : List ℕ)
+    → Holds d.reading formula bytes → Holds c.reading formula bytes
+holds_seen c d e formula bytes h =
+    subst (λ (x : CheckerState). Holds x.reading formula bytes) (sym e) h
+
 -- what was read and fed
 pub read_more : (o m n : Option (List ℕ)) (a b : List ℕ) → Consumes o m a → Consumes m n b
     → Consumes o n (a ++ b)

@@ -10,7 +10,6 @@ use Rattle.lrat_read.specs.Batch.{AreRead}
 use Rattle.lrat_machine.specs.declared.verdicts.Cause.{Cause}
 use Rattle.lrat_machine.specs.declared.verdicts.Verdict.{Verdict}
 use Rattle.lrat_machine.specs.declared.verdicts.Verdict.TheVariants.{No}
-use Rattle.lrat_check.specs.declared.reading.Reading.{Reading}
 use Rattle.lrat_machine.specs.Machine.{MachineState, verdict_after}
 use Rattle.lrat_check.specs.Stopping.{ReadsOn}
 use Rattle.lrat_check.specs.Verdict.{proof_verdict}
@@ -23,10 +22,6 @@ pub record ReadingState : Type 0 where
   pub rest : List ℕ
   -- the first fault
   pub refused : Option Verdict
-
--- what is seen of a reading: the lines that were read together last are not
-abbrev pub reading_state : Reading → ReadingState
-reading_state r = record { machine = r.machine; rest = r.rest; refused = r.refused }
 
 -- no ended line of the bytes is faulty: the rest is what follows the last of them, and from the
 -- machine the verdict follows, whatever comes

@@ -1,6 +1,6 @@
 -- After a fault the piece is dropped.
 use Rattle.std.proofs.Common.{◌∙◌, sym, subst, arith, length-append}
-use Rattle.lrat_check.specs.Pieces.{CheckerState, HasJudged, reading_state}
+use Rattle.lrat_check.specs.Pieces.{CheckerState, HasJudged}
 use Rattle.lrat_check.proofs.PieceLaws.{holds_more, some_from_true}
 use Rattle.lrat_check.proofs.pieces.Checker.feed.Goals as goal
 
@@ -10,6 +10,6 @@ returns-then-is_some-clause-judged c = λ formula bytes s.
     record {
       fed = omega (arith, inside.fed, length-append bytes c.args.piece.now);
       holds =
-          holds_more (reading_state c.self.inside.reading) formula bytes c.args.piece.now
+          holds_more _ formula bytes c.args.piece.now
           (some_from_true _ (sym c.is_some.ensures ∙ c.if-is_some.true)) inside.holds;
     }

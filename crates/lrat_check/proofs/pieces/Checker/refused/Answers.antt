@@ -6,5 +6,5 @@ use Rattle.lrat_check.proofs.pieces.Checker.refused.Goals as goal
 
 pub returns-clause-stays : goal.returns-clause-stays
 returns-clause-stays c =
-    checker_stays c.args.self.now c.self.inside.reading.refused
+    checker_stays c.args.self.now c.self.inside.refused
     (ap (λ (x : CheckerState). (x.reading).refused) c.self.view_is)

@@ -2,7 +2,7 @@
 use Rattle.std.proofs.Common.{◌≡◌, ℕ, ◌+◌, List, drop}
 use Rattle.lrat_read.specs.Batch.{AreRead}
 use Rattle.lrat_check.specs.Pieces.{JudgesUpTo}
-use Rattle.lrat_check.proofs.reading.judge_batch.Given as goal
+use Rattle.lrat_check.proofs.lines.judge_batch.Given as goal
 
 abbrev pub invariant-loop-place : goal.invariant-loop-place
 invariant-loop-place l = record {

@@ -3,7 +3,7 @@ use Rattle.std.proofs.Common.{ap, arith, drop, subst, sym}
 use Rattle.lrat_machine.specs.Machine.{MachineState}
 use Rattle.lrat_check.specs.Pieces.{JudgesUpTo}
 use Rattle.lrat_check.proofs.ReadingLaws.{judged_more, judged_fault}
-use Rattle.lrat_check.proofs.reading.judge_batch.Goals as goal
+use Rattle.lrat_check.proofs.lines.judge_batch.Goals as goal
 
 pub returns-in-Some-clause-judges : goal.returns-in-Some-clause-judges
 returns-in-Some-clause-judges c = λ bytes read.
