@@ -186,6 +186,7 @@ pub(crate) fn run_assuming<S: Sink, W: Watch>(
         (λ halt. IsLiveRefuted input.now.given (S.lines sink.old)
         → halt ≡ Refuted) }
     ensures plain { IfOk result (λ halt. IsPlain input.now → halt ≡ Refuted) }
+    ensures quiet { W.seen watch.new ≡ W.seen watch.old }
 {
     if refutes_at_once(search, input, sink)? {
         return Ok(Halt::Refuted);
@@ -215,8 +216,9 @@ fn descend_assuming<S: Sink, W: Watch>(
 ) -> Result<Halt, AllocError>
     requires runs { Runs search.old input.now (S.lines sink.old) }
     requires known { AreKnown input.now.stack.variables assumptions.now }
-    ensures { Halts result search.new input.now assumptions.now (S.lines sink.old)
+    ensures search { Halts result search.new input.now assumptions.now (S.lines sink.old)
         (S.lines sink.new) budget.old budget.new }
+    ensures quiet { W.seen watch.new ≡ W.seen watch.old }
 {
     let alloc = search.store.allocator();
     let mut progress = Progress::new(alloc, assumptions.len(), share, passed)?;
@@ -250,8 +252,9 @@ fn round_assuming<S: Sink, W: Watch>(
 ) -> Result<Option<Halt>, AllocError>
     requires runs { Runs search.old input.now (S.lines sink.old) }
     requires known { AreKnown input.now.stack.variables assumptions.now }
-    ensures { TurnsOrHalts result search.old search.new input.now assumptions.now (S.lines sink.old)
-        (S.lines sink.new) budget.old budget.new }
+    ensures turns { TurnsOrHalts result search.old search.new input.now assumptions.now
+        (S.lines sink.old) (S.lines sink.new) budget.old budget.new }
+    ensures quiet { W.seen watch.new ≡ W.seen watch.old }
 {
     match search.propagate()? {
         Some(conflict) => learn_assuming(
@@ -284,8 +287,9 @@ fn learn_assuming<S: Sink, W: Watch>(
 ) -> Result<Option<Halt>, AllocError>
     requires runs { Runs search.old input.now (S.lines sink.old) }
     requires conflict { IsFalseClause search.old.store.slots search.old.engine conflict }
-    ensures { TurnsOrHalts result search.old search.new input.now assumptions.now (S.lines sink.old)
-        (S.lines sink.new) budget.old budget.new }
+    ensures turns { TurnsOrHalts result search.old search.new input.now assumptions.now
+        (S.lines sink.old) (S.lines sink.new) budget.old budget.new }
+    ensures quiet { W.seen watch.new ≡ W.seen watch.old }
 {
     if search.engine.depth() == 0 {
         refute(search, input, sink, conflict)?;

@@ -49,6 +49,7 @@ pub(crate) fn run<S: Sink, W: Watch>(
     ensures propagates { IfOk result
         (λ end. IsLiveRefuted input.now.given (S.lines sink.old)
         → end ≡ Refuted) }
+    ensures quiet { W.seen watch.new ≡ W.seen watch.old }
 {
     if refutes_at_once(search, input, sink)? {
         return Ok(End::Refuted);
@@ -86,8 +87,9 @@ fn descend<S: Sink, W: Watch>(
     watch: &mut W,
 ) -> Result<End, AllocError>
     requires runs { Runs search.old input.now (S.lines sink.old) }
-    ensures { Ends result search.new input.now (S.lines sink.old) (S.lines sink.new) budget.old
-        budget.new }
+    ensures search { Ends result search.new input.now (S.lines sink.old) (S.lines sink.new)
+        budget.old budget.new }
+    ensures quiet { W.seen watch.new ≡ W.seen watch.old }
 {
     'rounds: loop {
         match round(search, input, sink, budget, watch)? {
@@ -106,8 +108,9 @@ fn round<S: Sink, W: Watch>(
     watch: &mut W,
 ) -> Result<Option<End>, AllocError>
     requires runs { Runs search.old input.now (S.lines sink.old) }
-    ensures { Turns result search.old search.new input.now (S.lines sink.old) (S.lines sink.new)
-        budget.old budget.new }
+    ensures turns { Turns result search.old search.new input.now (S.lines sink.old)
+        (S.lines sink.new) budget.old budget.new }
+    ensures quiet { W.seen watch.new ≡ W.seen watch.old }
 {
     match search.propagate()? {
         Some(conflict) => on_conflict(search, input, sink, budget, watch, conflict),
@@ -126,8 +129,9 @@ fn on_conflict<S: Sink, W: Watch>(
 ) -> Result<Option<End>, AllocError>
     requires runs { Runs search.old input.now (S.lines sink.old) }
     requires conflict { IsFalseClause search.old.store.slots search.old.engine conflict }
-    ensures { Turns result search.old search.new input.now (S.lines sink.old) (S.lines sink.new)
-        budget.old budget.new }
+    ensures turns { Turns result search.old search.new input.now (S.lines sink.old)
+        (S.lines sink.new) budget.old budget.new }
+    ensures quiet { W.seen watch.new ≡ W.seen watch.old }
 {
     if search.engine.depth() == 0 {
         refute(search, input, sink, conflict)?;

@@ -278,8 +278,9 @@ impl<S: Sink> Solver<S> {
         budget: &mut Budget,
         watch: &mut W,
     ) -> Result<Outcome, SolveFault>
-        ensures { Solves result self.old self.new (S.lines self.old.sink) (S.lines self.new.sink)
-            budget.old budget.new }
+        ensures solves { Solves result self.old self.new (S.lines self.old.sink)
+            (S.lines self.new.sink) budget.old budget.new }
+        ensures quiet { W.seen watch.new ≡ W.seen watch.old }
     {
         if self.failed {
             return Err(SolveFault::Failed);
@@ -317,8 +318,9 @@ impl<S: Sink> Solver<S> {
         watch: &mut W,
     ) -> Result<Assumed, SolveFault>
         requires { All (IsFrozen self.old.frozen) assumptions.now }
-        ensures { SolvesAssuming result self.old self.new assumptions.now
+        ensures solves { SolvesAssuming result self.old self.new assumptions.now
             (S.lines self.old.sink) (S.lines self.new.sink) budget.old budget.new }
+        ensures quiet { W.seen watch.new ≡ W.seen watch.old }
     {
         let mut none = Passed::new(self.search.store.allocator(), 0);
         self.solve_passing(assumptions, share, &mut none, budget, watch)
@@ -341,8 +343,9 @@ impl<S: Sink> Solver<S> {
         watch: &mut W,
     ) -> Result<Assumed, SolveFault>
         requires { All (IsFrozen self.old.frozen) assumptions.now }
-        ensures { SolvesAssuming result self.old self.new assumptions.now
+        ensures solves { SolvesAssuming result self.old self.new assumptions.now
             (S.lines self.old.sink) (S.lines self.new.sink) budget.old budget.new }
+        ensures quiet { W.seen watch.new ≡ W.seen watch.old }
     {
         if self.failed {
             return Err(SolveFault::Failed);
@@ -404,6 +407,7 @@ fn answer_assuming<S: Sink, W: Watch>(
     ensures pays { Pays input.now.given (S.lines sink.old) (S.lines sink.new)
         budget.old budget.new }
     ensures err { OnErr result (StaysOpen input.now (S.lines sink.new)) }
+    ensures quiet { W.seen watch.new ≡ W.seen watch.old }
 {
     let halt = run_assuming(
         search,
@@ -443,6 +447,7 @@ fn answer<S: Sink, W: Watch>(
     ensures pays { PaysFor result input.now.given (S.lines sink.old) (S.lines sink.new)
         budget.old budget.new }
     ensures err { OnErr result (StaysOpen input.now (S.lines sink.new)) }
+    ensures quiet { W.seen watch.new ≡ W.seen watch.old }
 {
     let end = run(search, input, sink, budget, watch)?;
     match end {

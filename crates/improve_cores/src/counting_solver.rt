@@ -140,6 +140,7 @@ impl CountingSolver {
         ensures clauses { KeepsClauses self.old self.new }
         ensures answer { IfOk result (IsAnswerOf self.new) }
         ensures learned { CountsLearned self.old.lines self.new.lines budget.old budget.new }
+        ensures quiet { W.seen watch.new ≡ W.seen watch.old }
     {
         let mut none = Passed::new(self.allocator(), 0);
         self.assume_passing(assumptions, share, &mut none, budget, watch)
@@ -161,6 +162,7 @@ impl CountingSolver {
         ensures clauses { KeepsClauses self.old self.new }
         ensures answer { IfOk result (IsAnswerOf self.new) }
         ensures learned { CountsLearned self.old.lines self.new.lines budget.old budget.new }
+        ensures quiet { W.seen watch.new ≡ W.seen watch.old }
     {
         match literal(variable, true) {
             Some(lit) => self.assume(&[lit], share, budget, watch),
@@ -185,6 +187,7 @@ impl CountingSolver {
         ensures clauses { KeepsClauses self.old self.new }
         ensures answer { IfOk result (IsAnswerOf self.new) }
         ensures learned { CountsLearned self.old.lines self.new.lines budget.old budget.new }
+        ensures quiet { W.seen watch.new ≡ W.seen watch.old }
     {
         let are_assumable = are_between(assumptions, self.free, self.last);
         let some: &[Lit] = if are_assumable { assumptions } else { &[] };

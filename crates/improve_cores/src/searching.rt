@@ -209,6 +209,7 @@ impl CoreSearch {
         ensures formula { KeepsFormula self.old self.new }
         ensures event { IfOk result (IsEventOf self.new) }
         ensures learned { CountsLearned self.old.lines self.new.lines budget.old budget.new }
+        ensures quiet { W.seen watch.new ≡ W.seen watch.old }
     {
         for _ in 0..u64::MAX {
             if self.policy.lower >= best {
@@ -231,6 +232,7 @@ impl CoreSearch {
         ensures formula { KeepsFormula self.old self.new }
         ensures step { IfOk result (IsStepOf self.new) }
         ensures learned { CountsLearned self.old.lines self.new.lines budget.old budget.new }
+        ensures quiet { W.seen watch.new ≡ W.seen watch.old }
     {
         let before = budget.learned();
         self.policy.assume_stratum(&mut self.assumptions)?;
@@ -277,6 +279,7 @@ impl CoreSearch {
     ) -> Result<(), AllocError>
         ensures clauses { KeepsClauses self.old self.new }
         ensures learned { CountsLearned self.old.lines self.new.lines budget.old budget.new }
+        ensures quiet { W.seen watch.new ≡ W.seen watch.old }
     {
         for core in cores.iter() {
             if self.policy.share > 0 && self.policy.are_listed(core) {
@@ -295,6 +298,7 @@ impl CoreSearch {
     ) -> Result<(), AllocError>
         ensures clauses { KeepsClauses self.old self.new }
         ensures learned { CountsLearned self.old.lines self.new.lines budget.old budget.new }
+        ensures quiet { W.seen watch.new ≡ W.seen watch.old }
     {
         let before = budget.learned();
         let inputs = variables_of(core, self.solver.allocator())?;

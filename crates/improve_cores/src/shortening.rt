@@ -45,6 +45,7 @@ pub(crate) fn shorten<W: Watch>(
 ) -> Result<Vec<u32>, AllocError>
     ensures clauses { KeepsClauses solver.old solver.new }
     ensures learned { CountsLearned solver.old.lines solver.new.lines budget.old budget.new }
+    ensures quiet { W.seen watch.new ≡ W.seen watch.old }
 {
     let again = search_again(core, items, solver, budget, watch)?;
     leave_out_each(again, items, solver, budget, watch)
@@ -61,6 +62,7 @@ fn search_again<W: Watch>(
 ) -> Result<Vec<u32>, AllocError>
     ensures clauses { KeepsClauses solver.old solver.new }
     ensures learned { CountsLearned solver.old.lines solver.new.lines budget.old budget.new }
+    ensures quiet { W.seen watch.new ≡ W.seen watch.old }
 {
     let share = Share {
         learned: AGAIN_CONFLICTS,
@@ -90,6 +92,7 @@ fn leave_out_each<W: Watch>(
 ) -> Result<Vec<u32>, AllocError>
     ensures clauses { KeepsClauses solver.old solver.new }
     ensures learned { CountsLearned solver.old.lines solver.new.lines budget.old budget.new }
+    ensures quiet { W.seen watch.new ≡ W.seen watch.old }
 {
     let share = Share {
         learned: WITHOUT_ONE,
@@ -147,6 +150,7 @@ fn find_core<W: Watch>(
 ) -> Result<Option<Vec<u32>>, AllocError>
     ensures clauses { KeepsClauses solver.old solver.new }
     ensures learned { CountsLearned solver.old.lines solver.new.lines budget.old budget.new }
+    ensures quiet { W.seen watch.new ≡ W.seen watch.old }
 {
     let mut assumptions = Vec::with_capacity(solver.allocator(), variables.len())?;
     for (place, variable) in variables.iter().enumerate() {

@@ -107,6 +107,7 @@ impl Refutation {
         ensures formula { self.new.formula ≡ self.old.formula }
         ensures end { IfOk result (IsEndOf self.new) }
         ensures learned { CountsLearned self.old.lines self.new.lines budget.old budget.new }
+        ensures quiet { W.seen watch.new ≡ W.seen watch.old }
     {
         let start = budget.learned();
         let are_all = guide(&mut self.solver, firsts, effort, shown, budget, watch)?;
@@ -151,6 +152,7 @@ fn guide<W: Watch>(
 ) -> Result<bool, AllocError>
     ensures clauses { KeepsClauses solver.old solver.new }
     ensures learned { CountsLearned solver.old.lines solver.new.lines budget.old budget.new }
+    ensures quiet { W.seen watch.new ≡ W.seen watch.old }
 {
     let start = budget.learned();
     let mut are_all = true;

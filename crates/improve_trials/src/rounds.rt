@@ -66,6 +66,7 @@ pub fn refute<W: Watch>(
         budget.old budget.new) }
     ensures answers { budget.new.answers ≡ budget.old.answers }
     ensures limit { budget.new.limit ≡ budget.old.limit }
+    ensures quiet { W.seen watch.new ≡ W.seen watch.old }
 {
     let mut left = counted;
     for _ in 0..ROUNDS {
@@ -95,6 +96,7 @@ fn try_once<W: Watch>(
         budget.old budget.new) }
     ensures answers { budget.new.answers ≡ budget.old.answers }
     ensures limit { budget.new.limit ≡ budget.old.limit }
+    ensures quiet { W.seen watch.new ≡ W.seen watch.old }
 {
     let mut shown = Vec::new(instance.allocator());
     let Some(trial) = make_trial(instance, aim, &counted, &mut shown, budget, watch)? else {

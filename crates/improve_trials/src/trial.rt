@@ -57,6 +57,7 @@ pub(crate) fn make_trial<W: Watch>(
         ≡ budget.old.learned + learned_count (trial_lines t)) }
     ensures answers { budget.new.answers ≡ budget.old.answers }
     ensures limit { budget.new.limit ≡ budget.old.limit }
+    ensures quiet { W.seen watch.new ≡ W.seen watch.old }
 {
     instance.limits();
     let weight = counted.counter.weight();

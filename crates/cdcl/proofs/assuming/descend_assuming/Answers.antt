@@ -1,10 +1,11 @@
+use Rattle.std.proofs.Common.{refl, ◌∙◌}
 use Rattle.cdcl.proofs.Rounds.{pays_nothing, pays_join}
 use Rattle.cdcl.proofs.Rounds.{open_log}
 use Rattle.cdcl.proofs.Halts.{halt_fails}
 use Rattle.cdcl.proofs.assuming.descend_assuming.Goals as goal
 
-pub returns-in_err-progress : goal.returns-in_err-progress
-returns-in_err-progress g c =
+pub returns-in_err-progress-clause-search : goal.returns-in_err-progress-clause-search
+returns-in_err-progress-clause-search g c =
     let p = c.args.input.now in
     let b = c.args.budget.now in
     let ls = g.S.Sink.lines c.args.sink.now in
@@ -18,36 +19,38 @@ rounds-init g c =
       runs = c.requires.runs;
       pays = pays_nothing c.args.input.now.given (g.S.Sink.lines c.args.sink.now)
           c.args.budget.now;
+      quiet = refl;
     }
 
 pub rounds-preserved : goal.rounds-preserved
 rounds-preserved g c = record {
-  runs = (let goes = rw c.in-None.is at c.in_ok-halt.ensures.goes in goes.runs);
+  runs = (let goes = rw c.in-None.is at c.in_ok-halt.ensures.turns.goes in goes.runs);
   pays =
       pays_join c.args.input.now.given (g.S.Sink.lines c.args.sink.now)
       (g.S.Sink.lines c.rounds.sink) (g.S.Sink.lines c.round_assuming.new.sink) c.args.budget.now
       c.rounds.budget c.round_assuming.new.budget c.rounds.invariant.pays
-      c.round_assuming.ensures.pays;
+      c.round_assuming.ensures.turns.pays;
+  quiet = c.round_assuming.ensures.quiet ∙ c.rounds.invariant.quiet;
 }
 
-pub returns-in_err-halt : goal.returns-in_err-halt
-returns-in_err-halt g c =
+pub returns-in_err-halt-clause-search : goal.returns-in_err-halt-clause-search
+returns-in_err-halt-clause-search g c =
     halt_fails c.from_residual-in_err-halt.result c.round_assuming.new.search c.args.input.now
     c.args.assumptions.now (g.S.Sink.lines c.args.sink.now)
     (g.S.Sink.lines c.round_assuming.new.sink) c.args.budget.now c.round_assuming.new.budget
-    c.from_residual-in_err-halt.ensures.0 c.in_err-halt.ensures.err
+    c.from_residual-in_err-halt.ensures.0 c.in_err-halt.ensures.turns.err
     (pays_join c.args.input.now.given (g.S.Sink.lines c.args.sink.now)
     (g.S.Sink.lines c.rounds.sink) (g.S.Sink.lines c.round_assuming.new.sink) c.args.budget.now
     c.rounds.budget c.round_assuming.new.budget c.rounds.invariant.pays
-    c.round_assuming.ensures.pays)
+    c.round_assuming.ensures.turns.pays)
 
-pub returns-in-Some : goal.returns-in-Some
-returns-in-Some g c = record {
-  ends = (let ends = rw c.in-Some.is at c.in_ok-halt.ensures.ends in ends);
+pub returns-in-Some-clause-search : goal.returns-in-Some-clause-search
+returns-in-Some-clause-search g c = record {
+  ends = (let ends = rw c.in-Some.is at c.in_ok-halt.ensures.turns.ends in ends);
   pays =
       pays_join c.args.input.now.given (g.S.Sink.lines c.args.sink.now)
       (g.S.Sink.lines c.rounds.sink) (g.S.Sink.lines c.round_assuming.new.sink) c.args.budget.now
       c.rounds.budget c.round_assuming.new.budget c.rounds.invariant.pays
-      c.round_assuming.ensures.pays;
+      c.round_assuming.ensures.turns.pays;
   err = tt;
 }

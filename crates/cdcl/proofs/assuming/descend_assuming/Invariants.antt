@@ -1,3 +1,4 @@
+use Rattle.std.proofs.Common.{◌≡◌}
 use Rattle.cdcl_search.specs.Running.{Runs}
 use Rattle.cdcl.specs.Turns.{Pays, rounds_left}
 use Rattle.cdcl.proofs.assuming.descend_assuming.Given as goal
@@ -7,6 +8,7 @@ invariant-rounds g l = record {
   runs : Runs l.search l.input (g.S.Sink.lines l.sink);
   pays : Pays l.input.given (g.S.Sink.lines l.fn.sink) (g.S.Sink.lines l.sink)
       l.fn.budget l.budget;
+  quiet : g.W.Watch.seen l.watch ≡ g.W.Watch.seen l.fn.watch;
 }
 
 abbrev pub decreases-rounds : goal.decreases-rounds

@@ -7,8 +7,8 @@ use Rattle.cdcl.proofs.Rounds.{open_log}
 use Rattle.cdcl.proofs.Halts.{turn_halts, turn_breaks}
 use Rattle.cdcl.proofs.assuming.learn_assuming.Goals as goal
 
-pub returns-in_err-refute : goal.returns-in_err-refute
-returns-in_err-refute g c =
+pub returns-in_err-refute-clause-turns : goal.returns-in_err-refute-clause-turns
+returns-in_err-refute-clause-turns g c =
     let p = c.args.input.now in
     let b = c.args.budget.now in
     let ls = g.S.Sink.lines c.args.sink.now in
@@ -17,8 +17,8 @@ returns-in_err-refute g c =
     c.args.assumptions.now ls more b b c.from_residual.ensures.0 c.in_err-refute.ensures.err
     (pays_none p.given ls more b c.refute.ensures.writes)
 
-pub returns-then-depth-eq0 : goal.returns-then-depth-eq0
-returns-then-depth-eq0 g c =
+pub returns-then-depth-eq0-clause-turns : goal.returns-then-depth-eq0-clause-turns
+returns-then-depth-eq0-clause-turns g c =
     let p = c.args.input.now in
     let b = c.args.budget.now in
     let ls = g.S.Sink.lines c.args.sink.now in
@@ -26,8 +26,8 @@ returns-then-depth-eq0 g c =
     turn_halts c.args.search.now c.refute.new.search p c.args.assumptions.now ls more b b Refuted
     c.in_ok-refute.ensures.leaves (pays_none p.given ls more b c.refute.ensures.writes)
 
-pub returns-then-left-eq0 : goal.returns-then-left-eq0
-returns-then-left-eq0 g c =
+pub returns-then-left-eq0-clause-turns : goal.returns-then-left-eq0-clause-turns
+returns-then-left-eq0-clause-turns g c =
     let s = c.args.search.now in
     let p = c.args.input.now in
     let b = c.args.budget.now in
@@ -35,8 +35,8 @@ returns-then-left-eq0 g c =
     turn_halts s s p c.args.assumptions.now ls ls b b Spent
     (c.requires.runs, sym c.left.ensures.left ∙ c.if-left-eq0.true) (pays_nothing p.given ls b)
 
-pub returns-then-progress-eq0 : goal.returns-then-progress-eq0
-returns-then-progress-eq0 g c =
+pub returns-then-progress-eq0-clause-turns : goal.returns-then-progress-eq0-clause-turns
+returns-then-progress-eq0-clause-turns g c =
     let s = c.args.search.now in
     let p = c.args.input.now in
     let b = c.args.budget.now in
@@ -44,8 +44,8 @@ returns-then-progress-eq0 g c =
     turn_halts s s p c.args.assumptions.now ls ls b b Open c.requires.runs
     (pays_nothing p.given ls b)
 
-pub returns-in_err-learn : goal.returns-in_err-learn
-returns-in_err-learn g c =
+pub returns-in_err-learn-clause-turns : goal.returns-in_err-learn-clause-turns
+returns-in_err-learn-clause-turns g c =
     let p = c.args.input.now in
     let b = c.args.budget.now in
     let ls = g.S.Sink.lines c.args.sink.now in
@@ -58,8 +58,8 @@ returns-in_err-learn g c =
     (subst (λ x. Writes p.given ls x 0) (sym c.in_err-learn.ensures.err)
     (writes_none p.given ls)))
 
-pub returns : goal.returns
-returns g c = record {
+pub returns-clause-turns : goal.returns-clause-turns
+returns-clause-turns g c = record {
   ends = tt;
   goes =
       goes_learned c.args.search.now c.learn.new.search c.args.input.now

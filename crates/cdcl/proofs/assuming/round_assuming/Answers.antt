@@ -6,8 +6,8 @@ use Rattle.cdcl.proofs.Rounds.{open_log}
 use Rattle.cdcl.proofs.Halts.{turn_breaks, turn_after}
 use Rattle.cdcl.proofs.assuming.round_assuming.Goals as goal
 
-pub returns-in_err-conflict : goal.returns-in_err-conflict
-returns-in_err-conflict g c =
+pub returns-in_err-conflict-clause-turns : goal.returns-in_err-conflict-clause-turns
+returns-in_err-conflict-clause-turns g c =
     let p = c.args.input.now in
     let ls = g.S.Sink.lines c.args.sink.now in
     turn_breaks c.from_residual.result c.args.search.now c.propagate.new.self p
@@ -19,8 +19,8 @@ learn_assuming-requires-clause-runs g c =
     c.in_ok-conflict.ensures.runs c.args.input.now (g.S.Sink.lines c.args.sink.now)
     c.requires.runs
 
-pub returns-in-Some : goal.returns-in-Some
-returns-in-Some g c =
+pub returns-in-Some-clause-turns : goal.returns-in-Some-clause-turns
+returns-in-Some-clause-turns g c =
     let e = c.in_ok-conflict.ensures in
     let p = c.args.input.now in
     let ls = g.S.Sink.lines c.args.sink.now in
@@ -28,15 +28,15 @@ returns-in-Some g c =
     c.learn_assuming.new.search p c.args.assumptions.now ls ls
     (g.S.Sink.lines c.learn_assuming.new.sink) c.args.budget.now c.learn_assuming.new.budget
     e.engine.variables (ap (λ (x : Search). x.policy) e.engine.rest) e.grows
-    (writes_none p.given ls) c.learn_assuming.ensures
+    (writes_none p.given ls) c.learn_assuming.ensures.turns
 
 pub decide_assuming-requires-clause-runs : goal.decide_assuming-requires-clause-runs
 decide_assuming-requires-clause-runs g c =
     c.in_ok-conflict.ensures.runs c.args.input.now (g.S.Sink.lines c.args.sink.now)
     c.requires.runs
 
-pub returns-in-None : goal.returns-in-None
-returns-in-None g c =
+pub returns-in-None-clause-turns : goal.returns-in-None-clause-turns
+returns-in-None-clause-turns g c =
     let e = c.in_ok-conflict.ensures in
     let p = c.args.input.now in
     let ls = g.S.Sink.lines c.args.sink.now in

@@ -38,7 +38,7 @@ returns-clause-search g c =
     c.args.assumptions.now x (g.S.Sink.lines c.descend_assuming.new.sink) c.args.budget.now
     c.descend_assuming.new.budget)
     (c.in_ok-refutes_at_once.ensures.opened c.if-branch.false).unwritten
-    c.descend_assuming.ensures
+    c.descend_assuming.ensures.search
 
 pub returns-clause-propagates : goal.returns-clause-propagates
 returns-clause-propagates g c =
@@ -48,7 +48,7 @@ returns-clause-propagates g c =
     (IsHaltOf c.descend_assuming.new.search p (g.S.Sink.lines c.descend_assuming.new.sink)
     c.descend_assuming.new.budget c.args.assumptions.now)
     (λ halt. IsLiveRefuted p.given (g.S.Sink.lines c.args.sink.now) → halt ≡ Refuted)
-    (λ halt w h. absurd (o.live h)) c.descend_assuming.ensures.ends
+    (λ halt w h. absurd (o.live h)) c.descend_assuming.ensures.search.ends
 
 pub returns-clause-plain : goal.returns-clause-plain
 returns-clause-plain g c =
@@ -58,4 +58,4 @@ returns-clause-plain g c =
     (IsHaltOf c.descend_assuming.new.search p (g.S.Sink.lines c.descend_assuming.new.sink)
     c.descend_assuming.new.budget c.args.assumptions.now)
     (λ halt. IsPlain p → halt ≡ Refuted)
-    (λ halt w h. absurd (o.plain h)) c.descend_assuming.ensures.ends
+    (λ halt w h. absurd (o.plain h)) c.descend_assuming.ensures.search.ends

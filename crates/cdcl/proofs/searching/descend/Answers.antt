@@ -1,3 +1,4 @@
+use Rattle.std.proofs.Common.{refl, ◌∙◌}
 use Rattle.cdcl.proofs.Rounds.{pays_nothing, pays_join, search_fails}
 use Rattle.cdcl.proofs.searching.descend.Goals as goal
 
@@ -7,32 +8,34 @@ rounds-init g c =
       runs = c.requires.runs;
       pays = pays_nothing c.args.input.now.given (g.S.Sink.lines c.args.sink.now)
           c.args.budget.now;
+      quiet = refl;
     }
 
 pub rounds-preserved : goal.rounds-preserved
 rounds-preserved g c = record {
-  runs = (let goes = rw c.in-None.is at c.in_ok-end.ensures.goes in goes.runs);
+  runs = (let goes = rw c.in-None.is at c.in_ok-end.ensures.turns.goes in goes.runs);
   pays =
       pays_join c.args.input.now.given (g.S.Sink.lines c.args.sink.now)
       (g.S.Sink.lines c.rounds.sink) (g.S.Sink.lines c.round.new.sink) c.args.budget.now
-      c.rounds.budget c.round.new.budget c.rounds.invariant.pays c.round.ensures.pays;
+      c.rounds.budget c.round.new.budget c.rounds.invariant.pays c.round.ensures.turns.pays;
+  quiet = c.round.ensures.quiet ∙ c.rounds.invariant.quiet;
 }
 
-pub returns-in_err-end : goal.returns-in_err-end
-returns-in_err-end g c =
+pub returns-in_err-end-clause-search : goal.returns-in_err-end-clause-search
+returns-in_err-end-clause-search g c =
     search_fails c.from_residual.result c.round.new.search c.args.input.now
     (g.S.Sink.lines c.args.sink.now) (g.S.Sink.lines c.round.new.sink) c.args.budget.now
-    c.round.new.budget c.from_residual.ensures.0 c.in_err-end.ensures.err
+    c.round.new.budget c.from_residual.ensures.0 c.in_err-end.ensures.turns.err
     (pays_join c.args.input.now.given (g.S.Sink.lines c.args.sink.now)
     (g.S.Sink.lines c.rounds.sink) (g.S.Sink.lines c.round.new.sink) c.args.budget.now
-    c.rounds.budget c.round.new.budget c.rounds.invariant.pays c.round.ensures.pays)
+    c.rounds.budget c.round.new.budget c.rounds.invariant.pays c.round.ensures.turns.pays)
 
-pub returns-in-Some : goal.returns-in-Some
-returns-in-Some g c = record {
-  ends = (let ends = rw c.in-Some.is at c.in_ok-end.ensures.ends in ends);
+pub returns-in-Some-clause-search : goal.returns-in-Some-clause-search
+returns-in-Some-clause-search g c = record {
+  ends = (let ends = rw c.in-Some.is at c.in_ok-end.ensures.turns.ends in ends);
   pays =
       pays_join c.args.input.now.given (g.S.Sink.lines c.args.sink.now)
       (g.S.Sink.lines c.rounds.sink) (g.S.Sink.lines c.round.new.sink) c.args.budget.now
-      c.rounds.budget c.round.new.budget c.rounds.invariant.pays c.round.ensures.pays;
+      c.rounds.budget c.round.new.budget c.rounds.invariant.pays c.round.ensures.turns.pays;
   err = tt;
 }

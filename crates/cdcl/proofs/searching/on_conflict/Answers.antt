@@ -6,20 +6,20 @@ use Rattle.cdcl_search.proofs.Laws.{writes_none}
 use Rattle.cdcl.proofs.Rounds.{goes_learned, turn_ends, turn_fails}
 use Rattle.cdcl.proofs.searching.on_conflict.Goals as goal
 
-pub returns-in_err-refute : goal.returns-in_err-refute
-returns-in_err-refute g c =
+pub returns-in_err-refute-clause-turns : goal.returns-in_err-refute-clause-turns
+returns-in_err-refute-clause-turns g c =
     turn_fails c.from_residual.result c.args.search.now c.refute.new.search c.args.input.now
     (g.S.Sink.lines c.args.sink.now) (g.S.Sink.lines c.refute.new.sink) c.args.budget.now
     c.from_residual.ensures.0 c.in_err-refute.ensures.err c.refute.ensures.writes
 
-pub returns-then-depth-eq0 : goal.returns-then-depth-eq0
-returns-then-depth-eq0 g c =
+pub returns-then-depth-eq0-clause-turns : goal.returns-then-depth-eq0-clause-turns
+returns-then-depth-eq0-clause-turns g c =
     turn_ends c.args.search.now c.refute.new.search c.args.input.now
     (g.S.Sink.lines c.args.sink.now) (g.S.Sink.lines c.refute.new.sink) c.args.budget.now
     Refuted c.in_ok-refute.ensures.leaves c.refute.ensures.writes
 
-pub returns-then-left-eq0 : goal.returns-then-left-eq0
-returns-then-left-eq0 g c =
+pub returns-then-left-eq0-clause-turns : goal.returns-then-left-eq0-clause-turns
+returns-then-left-eq0-clause-turns g c =
     let s = c.args.search.now in
     let p = c.args.input.now in
     let ls = g.S.Sink.lines c.args.sink.now in
@@ -36,8 +36,8 @@ returns-then-left-eq0 g c =
     })
     (writes_none p.given ls)
 
-pub returns-in_err-learn : goal.returns-in_err-learn
-returns-in_err-learn g c =
+pub returns-in_err-learn-clause-turns : goal.returns-in_err-learn-clause-turns
+returns-in_err-learn-clause-turns g c =
     let p = c.args.input.now in
     let ls = g.S.Sink.lines c.args.sink.now in
     let log = c.requires.runs.running.recorded.log in
@@ -47,8 +47,8 @@ returns-in_err-learn g c =
     (record { stays = log.stays; unrefuted = log.unrefuted }))
     (subst (λ x. Writes p.given ls x 0) (sym c.in_err-learn.ensures.err) (writes_none p.given ls))
 
-pub returns : goal.returns
-returns g c = record {
+pub returns-clause-turns : goal.returns-clause-turns
+returns-clause-turns g c = record {
   ends = tt;
   goes =
       goes_learned c.args.search.now c.learn.new.search c.args.input.now

@@ -4,8 +4,8 @@ use Rattle.cdcl_search.proofs.Laws.{writes_none}
 use Rattle.cdcl.proofs.Rounds.{turn_fails, turn_from}
 use Rattle.cdcl.proofs.searching.round.Goals as goal
 
-pub returns-in_err-conflict : goal.returns-in_err-conflict
-returns-in_err-conflict g c =
+pub returns-in_err-conflict-clause-turns : goal.returns-in_err-conflict-clause-turns
+returns-in_err-conflict-clause-turns g c =
     let p = c.args.input.now in
     let ls = g.S.Sink.lines c.args.sink.now in
     let log = c.requires.runs.running.recorded.log in
@@ -18,21 +18,21 @@ on_conflict-requires-clause-runs g c =
     c.in_ok-conflict.ensures.runs c.args.input.now (g.S.Sink.lines c.args.sink.now)
     c.requires.runs
 
-pub returns-in-Some : goal.returns-in-Some
-returns-in-Some g c =
+pub returns-in-Some-clause-turns : goal.returns-in-Some-clause-turns
+returns-in-Some-clause-turns g c =
     let e = c.in_ok-conflict.ensures in
     turn_from c.on_conflict.result c.args.search.now c.propagate.new.self c.on_conflict.new.search
     c.args.input.now (g.S.Sink.lines c.args.sink.now) (g.S.Sink.lines c.on_conflict.new.sink)
     c.args.budget.now c.on_conflict.new.budget e.engine.variables
-    (ap (λ (x : Search). x.policy) e.engine.rest) e.grows c.on_conflict.ensures
+    (ap (λ (x : Search). x.policy) e.engine.rest) e.grows c.on_conflict.ensures.turns
 
 pub on_quiet-requires-clause-runs : goal.on_quiet-requires-clause-runs
 on_quiet-requires-clause-runs g c =
     c.in_ok-conflict.ensures.runs c.args.input.now (g.S.Sink.lines c.args.sink.now)
     c.requires.runs
 
-pub returns-in-None : goal.returns-in-None
-returns-in-None g c =
+pub returns-in-None-clause-turns : goal.returns-in-None-clause-turns
+returns-in-None-clause-turns g c =
     let e = c.in_ok-conflict.ensures in
     turn_from c.on_quiet.result c.args.search.now c.propagate.new.self c.on_quiet.new.search
     c.args.input.now (g.S.Sink.lines c.args.sink.now) (g.S.Sink.lines c.on_quiet.new.sink)

@@ -36,7 +36,7 @@ returns-clause-search g c =
     subst (λ x. Ends c.descend.result c.descend.new.search c.args.input.now x
     (g.S.Sink.lines c.descend.new.sink) c.args.budget.now c.descend.new.budget)
     (c.in_ok-refutes_at_once.ensures.opened c.if-branch.false).unwritten
-    c.descend.ensures
+    c.descend.ensures.search
 
 pub returns-clause-propagates : goal.returns-clause-propagates
 returns-clause-propagates g c =
@@ -45,4 +45,4 @@ returns-clause-propagates g c =
     let o = c.in_ok-refutes_at_once.ensures.opened c.if-branch.false in
     IfOk-weaker c.descend.result (IsEndOf c.descend.new.search p (g.S.Sink.lines c.descend.new.sink)
     c.descend.new.budget) (λ end. IsLiveRefuted p.given ls → end ≡ Refuted)
-    (λ end w h. absurd (o.live h)) c.descend.ensures.ends
+    (λ end w h. absurd (o.live h)) c.descend.ensures.search.ends

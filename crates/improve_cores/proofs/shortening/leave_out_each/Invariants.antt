@@ -1,4 +1,5 @@
--- The same clauses are given, and what was learned was counted.
+-- The same clauses are given, what was learned was counted, and the watch saw nothing.
+use Rattle.std.proofs.Common.{◌≡◌}
 use Rattle.improve_cores.specs.CoreWork.{KeepsClauses, CountsLearned}
 use Rattle.improve_cores.proofs.shortening.leave_out_each.Given as goal
 
@@ -6,4 +7,5 @@ abbrev pub invariant-loop : goal.invariant-loop
 invariant-loop g l = record {
   clauses : KeepsClauses l.fn.solver l.solver;
   learned : CountsLearned l.fn.solver.lines l.solver.lines l.fn.budget l.budget;
+  quiet : g.W.Watch.seen l.watch ≡ g.W.Watch.seen l.fn.watch;
 }

@@ -1,4 +1,5 @@
--- The cores that are left are right, and what was learned is in what was tried.
+-- The cores that are left are right, what was learned is in what was tried, and the watch saw
+-- nothing.
 use Rattle.std.proofs.Common.{◌≡◌, [], All}
 use Rattle.improve_cores.specs.Events.{AreRightCores}
 use Rattle.improve_trials.specs.Trials.{IsCoreRefutation, SpendsOn}
@@ -11,4 +12,5 @@ invariant-loop g l = record {
   spends : SpendsOn l.fn.tried.items l.tried.items [] l.fn.budget l.budget;
   answers : l.budget.answers ≡ l.fn.budget.answers;
   limit : l.budget.limit ≡ l.fn.budget.limit;
+  quiet : g.W.Watch.seen l.watch ≡ g.W.Watch.seen l.fn.watch;
 }

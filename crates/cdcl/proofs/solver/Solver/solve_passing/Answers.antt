@@ -5,13 +5,13 @@ use Rattle.cdcl.proofs.Assumed.{assuming_solver, assuming_answered, assuming_ref
 use Rattle.cdcl.proofs.Assumed.{assuming_failed, assuming_refuted}
 use Rattle.cdcl.proofs.solver.Solver.solve_passing.Goals as goal
 
-pub returns-then-self : goal.returns-then-self
-returns-then-self g c =
+pub returns-then-self-clause-solves : goal.returns-then-self-clause-solves
+returns-then-self-clause-solves g c =
     assuming_failed g.S.Sink.lines c.self.invariant.input c.self.view_is c.args.assumptions.now
     c.args.budget.now c.if-self.true c.self.invariant.lines
 
-pub returns-then-self-2 : goal.returns-then-self-2
-returns-then-self-2 g c =
+pub returns-then-self-2-clause-solves : goal.returns-then-self-2-clause-solves
+returns-then-self-2-clause-solves g c =
     assuming_refuted g.S.Sink.lines c.self.invariant.input c.self.view_is c.args.assumptions.now
     c.args.budget.now c.if-self.false
     (record {
@@ -19,16 +19,16 @@ returns-then-self-2 g c =
       refuted = sym c.self.invariant.refuted_is ∙ c.if-self-2.true;
     })
 
-pub returns-in-Ok : goal.returns-in-Ok
-returns-in-Ok g c =
+pub returns-in-Ok-clause-solves : goal.returns-in-Ok-clause-solves
+returns-in-Ok-clause-solves g c =
     assuming_answered g.S.Sink.lines c.self.invariant.input c.self.view_is c.args.assumptions.now
     c.answer_assuming-answer.new.search c.answer_assuming-answer.new.sink c.args.budget.now
     c.answer_assuming-answer.new.budget c.in-Ok.found c.if-self.false
     (sym c.self.invariant.refuted_is ∙ c.if-self-2.false) c.in-Ok.ensures.answers
     c.in-Ok.ensures.propagates c.in-Ok.ensures.plain c.in-Ok.ensures.pays
 
-pub returns-in-Err : goal.returns-in-Err
-returns-in-Err g c =
+pub returns-in-Err-clause-solves : goal.returns-in-Err-clause-solves
+returns-in-Err-clause-solves g c =
     assuming_refused g.S.Sink.lines c.self.invariant.input c.self.view_is c.args.assumptions.now
     c.answer_assuming-answer.new.sink c.args.budget.now c.answer_assuming-answer.new.budget
     c.if-self.false (sym c.self.invariant.refuted_is ∙ c.if-self-2.false) c.in-Err.ensures.err

@@ -4,13 +4,13 @@ use Rattle.cdcl.proofs.Answered.{solver_runs, solver_fails}
 use Rattle.cdcl.proofs.Solved.{has_answered, has_refused, has_failed, was_refuted}
 use Rattle.cdcl.proofs.solver.Solver.solve_watched.Goals as goal
 
-pub returns-then-self : goal.returns-then-self
-returns-then-self g c =
+pub returns-then-self-clause-solves : goal.returns-then-self-clause-solves
+returns-then-self-clause-solves g c =
     has_failed g.S.Sink.lines c.self.invariant.input c.self.view_is c.args.budget.now
     c.if-self.true c.self.invariant.lines
 
-pub returns-then-self-2 : goal.returns-then-self-2
-returns-then-self-2 g c =
+pub returns-then-self-2-clause-solves : goal.returns-then-self-2-clause-solves
+returns-then-self-2-clause-solves g c =
     was_refuted g.S.Sink.lines c.self.invariant.input c.self.view_is c.args.budget.now
     c.if-self.false
     (record {
@@ -18,29 +18,29 @@ returns-then-self-2 g c =
       refuted = sym c.self.invariant.refuted_is ∙ c.if-self-2.true;
     })
 
-pub returns-in-Ok-Sat : goal.returns-in-Ok-Sat
-returns-in-Ok-Sat g c =
+pub returns-in-Ok-Sat-clause-solves : goal.returns-in-Ok-Sat-clause-solves
+returns-in-Ok-Sat-clause-solves g c =
     has_answered g.S.Sink.lines c.self.invariant.input c.self.view_is c.answer.new.search
     c.answer.new.sink c.args.budget.now c.answer.new.budget _ _ c.in-Ok-Sat.field-0-is
     c.if-self.false (sym c.self.invariant.refuted_is ∙ c.if-self-2.false)
     c.in-Ok-Sat.ensures.answers c.in-Ok-Sat.ensures.propagates c.in-Ok-Sat.ensures.pays
 
-pub returns-in-Ok-Limit : goal.returns-in-Ok-Limit
-returns-in-Ok-Limit g c =
+pub returns-in-Ok-Limit-clause-solves : goal.returns-in-Ok-Limit-clause-solves
+returns-in-Ok-Limit-clause-solves g c =
     has_answered g.S.Sink.lines c.self.invariant.input c.self.view_is c.answer.new.search
     c.answer.new.sink c.args.budget.now c.answer.new.budget _ _ c.in-Ok-Limit.field-0-is
     c.if-self.false (sym c.self.invariant.refuted_is ∙ c.if-self-2.false)
     c.in-Ok-Limit.ensures.answers c.in-Ok-Limit.ensures.propagates c.in-Ok-Limit.ensures.pays
 
-pub returns-in-Ok-Unsat : goal.returns-in-Ok-Unsat
-returns-in-Ok-Unsat g c =
+pub returns-in-Ok-Unsat-clause-solves : goal.returns-in-Ok-Unsat-clause-solves
+returns-in-Ok-Unsat-clause-solves g c =
     has_answered g.S.Sink.lines c.self.invariant.input c.self.view_is c.answer.new.search
     c.answer.new.sink c.args.budget.now c.answer.new.budget _ _ c.in-Ok-Unsat.field-0-is
     c.if-self.false (sym c.self.invariant.refuted_is ∙ c.if-self-2.false)
     c.in-Ok-Unsat.ensures.answers c.in-Ok-Unsat.ensures.propagates c.in-Ok-Unsat.ensures.pays
 
-pub returns-in-Err : goal.returns-in-Err
-returns-in-Err g c =
+pub returns-in-Err-clause-solves : goal.returns-in-Err-clause-solves
+returns-in-Err-clause-solves g c =
     has_refused g.S.Sink.lines c.self.invariant.input c.self.view_is c.answer.new.sink
     c.args.budget.now c.answer.new.budget c.if-self.false
     (sym c.self.invariant.refuted_is ∙ c.if-self-2.false) c.in-Err.ensures.err

@@ -9,7 +9,7 @@ use Rattle.improve_cores.proofs.counting_solver.CountingSolver.assume_passing.Go
 
 pub invariant_of-self : goal.invariant_of-self
 invariant_of-self g c =
-    let e = c.solve_passing.ensures in
+    let e = c.solve_passing.ensures.solves in
     let s = c.self.inside in
     counts_on s.solver c.solve_passing.new.self s.free s.relaxed s.last c.self.invariant e.given
     e.lines e.grows e.new
@@ -21,6 +21,6 @@ returns-clause-answer g c =
     elim c.match-solve_passing.branch [
       | in-Ok w ↦ subst (λ r. IfOk r Q) (sym w.result-is)
           (answer_of s.solver c.solve_passing.new.self s.free s.relaxed s.last _ _ _
-          c.self.invariant w.in-Ok.found (rw w.in-Ok.is at c.solve_passing.ensures))
+          c.self.invariant w.in-Ok.found (rw w.in-Ok.is at c.solve_passing.ensures.solves))
       | in-Err w ↦ subst (λ r. IfOk r Q) (sym w.result-is) tt
     ]

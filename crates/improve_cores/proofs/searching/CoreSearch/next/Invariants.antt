@@ -1,4 +1,5 @@
--- The same formula is given, and what was learned was counted.
+-- The same formula is given, what was learned was counted, and the watch saw nothing.
+use Rattle.std.proofs.Common.{◌≡◌}
 use Rattle.improve_cores.specs.CoreWork.{KeepsFormula, CountsLearned}
 use Rattle.improve_cores.proofs.searching.CoreSearch.next.Given as goal
 
@@ -6,4 +7,5 @@ abbrev pub invariant-loop : goal.invariant-loop
 invariant-loop g l = record {
   formula : KeepsFormula l.fn.self l.self;
   learned : CountsLearned l.fn.self.lines l.self.lines l.fn.budget l.budget;
+  quiet : g.W.Watch-2.seen l.watch ≡ g.W.Watch-2.seen l.fn.watch;
 }
