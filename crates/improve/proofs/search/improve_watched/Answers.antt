@@ -24,18 +24,18 @@ lower-requires-clause-hard g c =
     let free = rw c.in-Ok-Sat.field-0-is at c.in-Ok-Sat.ensures.stays_open in
     subst (IsHardLog c.args.instance.now) (sym c.into_sink-hard.ensures)
     (hard_log c.args.instance.now c.in-Ok.solver c.in-Ok.ensures c.solve_watched.new.self
-    c.solve_watched.ensures.given c.solve_watched.ensures.lines (free (λ e. cc))
-    c.solve_watched.ensures.grows c.solve_watched.ensures.new)
+    c.solve_watched.ensures.solves.given c.solve_watched.ensures.solves.lines (free (λ e. cc))
+    c.solve_watched.ensures.solves.grows c.solve_watched.ensures.solves.new)
 
 pub returns-in-Ok-Sat-clause-improves : goal.returns-in-Ok-Sat-clause-improves
 returns-in-Ok-Sat-clause-improves g c =
     let answers = rw c.in-Ok-Sat.field-0-is at c.in-Ok-Sat.ensures.answers in
     let learned =
     hard_learned c.args.instance.now c.in-Ok.solver c.in-Ok.ensures c.solve_watched.new.self.sink
-    c.args.budget.now.learned c.solve_watched.new.budget.learned c.solve_watched.ensures.grows
-    c.solve_watched.ensures.learned in
+    c.args.budget.now.learned c.solve_watched.new.budget.learned c.solve_watched.ensures.solves.grows
+    c.solve_watched.ensures.solves.learned in
     c.lower.ensures.improves c.args.budget.now (record {
-      limit = sym c.solve_watched.ensures.same_limit;
+      limit = sym c.solve_watched.ensures.solves.same_limit;
       answers = sym answers;
       learned = omega (arith, learned, ap learned_count c.into_sink-hard.ensures);
     })
@@ -48,12 +48,12 @@ returns-in-Ok-Unsat-clause-improves g c =
     let accepted = rw c.in-Ok-Unsat.field-0-is at c.in-Ok-Unsat.ensures.unsat in
     let answers = rw c.in-Ok-Unsat.field-0-is at c.in-Ok-Unsat.ensures.answers in
     found_end c.args.profile p _ _ c.args.budget.now c.solve_watched.new.budget
-    c.solve_watched.ensures.same_limit [] (sym (append-nil _)) (Ok (Unsat log count)) tt
+    c.solve_watched.ensures.solves.same_limit [] (sym (append-nil _)) (Ok (Unsat log count)) tt
     (All-nil (IsCostOfSome p)) refl tt
     (right_unsat p c.in-Ok.solver c.in-Ok.ensures c.args.profile log count
     (subst (IsAcceptedLog (given_to c.in-Ok.solver)) (sym c.into_sink-log.ensures) accepted)
     (c.len-clauses.ensures.len ∙ ap length (c.given.ensures
-    ∙ sym (same_given c.in-Ok.solver c.solve_watched.new.self c.solve_watched.ensures.given))))
+    ∙ sym (same_given c.in-Ok.solver c.solve_watched.new.self c.solve_watched.ensures.solves.given))))
     (omega (arith, answers)) tt tt
 
 pub conclude_nothing-requires-clause-hard : goal.conclude_nothing-requires-clause-hard
@@ -61,8 +61,8 @@ conclude_nothing-requires-clause-hard g c =
     let free = rw c.in-Ok-Limit.field-0-is at c.in-Ok-Limit.ensures.stays_open in
     subst (IsHardLog c.args.instance.now) (sym c.into_sink.ensures)
     (hard_log c.args.instance.now c.in-Ok.solver c.in-Ok.ensures c.solve_watched.new.self
-    c.solve_watched.ensures.given c.solve_watched.ensures.lines (free (λ e. cc))
-    c.solve_watched.ensures.grows c.solve_watched.ensures.new)
+    c.solve_watched.ensures.solves.given c.solve_watched.ensures.solves.lines (free (λ e. cc))
+    c.solve_watched.ensures.solves.grows c.solve_watched.ensures.solves.new)
 
 pub conclude_nothing-requires-clause-open : goal.conclude_nothing-requires-clause-open
 conclude_nothing-requires-clause-open g c =
@@ -77,10 +77,10 @@ returns-in-Ok-Limit-clause-improves g c =
     let work = c.conclude_nothing.ensures.work in
     let learned =
     hard_learned p c.in-Ok.solver c.in-Ok.ensures c.solve_watched.new.self.sink
-    c.args.budget.now.learned c.solve_watched.new.budget.learned c.solve_watched.ensures.grows
-    c.solve_watched.ensures.learned in
+    c.args.budget.now.learned c.solve_watched.new.budget.learned c.solve_watched.ensures.solves.grows
+    c.solve_watched.ensures.solves.learned in
     found_end c.args.profile p _ _ c.args.budget.now c.solve_watched.new.budget
-    c.solve_watched.ensures.same_limit [] (sym (append-nil _))
+    c.solve_watched.ensures.solves.same_limit [] (sym (append-nil _))
     (Ok c.conclude_nothing.result) tt (All-nil (IsCostOfSome p)) refl tt
     (c.conclude_nothing.ensures.found c.args.profile) (omega (arith, answers))
     (on_work_weaker (Ok c.conclude_nothing.result) _ _
@@ -91,5 +91,5 @@ returns-in-Ok-Limit-clause-improves g c =
 pub returns-in-Err-clause-improves : goal.returns-in-Err-clause-improves
 returns-in-Err-clause-improves g c =
     memory_end c.args.profile c.args.instance.now _ _ c.args.budget.now c.solve_watched.new.budget
-    c.solve_watched.ensures.same_limit [] (sym (append-nil _)) tt
+    c.solve_watched.ensures.solves.same_limit [] (sym (append-nil _)) tt
     (All-nil (IsCostOfSome c.args.instance.now)) refl

@@ -38,7 +38,7 @@ returns-in-Unsat-clause-next g c =
     let accepted = rw c.in-Unsat.is at c.in-Ok.ensures.unsat in
     let answers = rw c.in-Unsat.is at c.in-Ok.ensures.answers in
     let same =
-    same_given c.args.self.now.solver c.solve_watched.new.self c.solve_watched.ensures.given in
+    same_given c.args.self.now.solver c.solve_watched.new.self c.solve_watched.ensures.solves.given in
     record {
       accepted = subst (λ g. IsAcceptedLog g c.solve_watched.new.self.sink) same accepted;
       answers = omega (arith, answers);
@@ -64,17 +64,17 @@ returns-in-Limit-clause-next g c =
 pub returns-in-Sat-clause-over : goal.returns-in-Sat-clause-over
 returns-in-Sat-clause-over g c =
     solved_over c.args.instance.now c.args.self.now c.solve_watched.new.self c.requires.over
-    c.solve_watched.ensures.given (λ f. false≢true (c.in-Ok.ensures.fails.1 f))
-    c.solve_watched.ensures.lines c.solve_watched.ensures.grows c.solve_watched.ensures.new
+    c.solve_watched.ensures.solves.given (λ f. false≢true (c.in-Ok.ensures.fails.1 f))
+    c.solve_watched.ensures.solves.lines c.solve_watched.ensures.solves.grows c.solve_watched.ensures.solves.new
 
 pub returns-in-Unsat-clause-over : goal.returns-in-Unsat-clause-over
 returns-in-Unsat-clause-over g c =
     solved_over c.args.instance.now c.args.self.now c.solve_watched.new.self c.requires.over
-    c.solve_watched.ensures.given (λ f. false≢true (c.in-Ok.ensures.fails.1 f))
-    c.solve_watched.ensures.lines c.solve_watched.ensures.grows c.solve_watched.ensures.new
+    c.solve_watched.ensures.solves.given (λ f. false≢true (c.in-Ok.ensures.fails.1 f))
+    c.solve_watched.ensures.solves.lines c.solve_watched.ensures.solves.grows c.solve_watched.ensures.solves.new
 
 pub returns-in-Limit-clause-over : goal.returns-in-Limit-clause-over
 returns-in-Limit-clause-over g c =
     solved_over c.args.instance.now c.args.self.now c.solve_watched.new.self c.requires.over
-    c.solve_watched.ensures.given (λ f. false≢true (c.in-Ok.ensures.fails.1 f))
-    c.solve_watched.ensures.lines c.solve_watched.ensures.grows c.solve_watched.ensures.new
+    c.solve_watched.ensures.solves.given (λ f. false≢true (c.in-Ok.ensures.fails.1 f))
+    c.solve_watched.ensures.solves.lines c.solve_watched.ensures.solves.grows c.solve_watched.ensures.solves.new
