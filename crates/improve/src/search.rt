@@ -6,6 +6,7 @@ ghost use Rattle.cnf.specs.Refute.{IsRefutedByHints};
 ghost use Rattle.lrat_log.specs.Steps.{IsAcceptedLog, AddsNoEmptyClause, learned_count};
 ghost use Rattle.bound.specs.Bound.{hard_cnf};
 ghost use Rattle.cdcl_order.specs.Budgets.{BudgetState};
+ghost use Rattle.cdcl_order.specs.Watch.{Better, with_seen};
 ghost use Rattle.cdcl.specs.Solving.{given_to};
 ghost use Rattle.improve.specs.Improving.{Improves, IsHardLog, IsRightFound, IsSolution, OnWork};
 ghost use Rattle.improve.specs.Improving.{PaysForHard, EndsWith, AreFalling, IsCostOfSome};
@@ -14,6 +15,7 @@ ghost use Rattle.improve.specs.Progress.{with_told, with_failed};
 ghost use Rattle.improve.specs.Bounds.{IsOver, IsOverHard};
 ghost use Rattle.improve.specs.Standing.{IsStanding, IsEarlyWork, HasNoCores, Ends};
 ghost use Rattle.improve.specs.Standing.{IsCoreProof, AreFeasible, IsOnlyHard};
+ghost use Rattle.improve.specs.Watch.{AreShown};
 
 use crate::bounds::{Bounds, Next};
 use crate::by_cores::refute_by_cores;
@@ -90,6 +92,8 @@ pub fn improve_watched<T: Progress, W: Watch>(
 ) -> Result<Found, ImproveFault>
     requires { (T.state progress.old).failures < 2 ^ 62 }
     ensures follows { (first : T) → T.follows first progress.old → T.follows first progress.new }
+    ensures shown { AreShown instance.now (T.state progress.old) (T.state progress.new)
+        (W.seen watch.old) (W.seen watch.new) }
     ensures improves { Improves profile instance.now result
         (T.state progress.old) (T.state progress.new)
         budget.old budget.new }
@@ -135,6 +139,8 @@ pub fn improve_from<T: Progress, W: Watch>(
     requires failures { (T.state progress.old).failures < 2 ^ 62 }
     requires solution { AreFeasible instance.now bits.items }
     ensures follows { (first : T) → T.follows first progress.old → T.follows first progress.new }
+    ensures shown { AreShown instance.now (T.state progress.old) (T.state progress.new)
+        (W.seen watch.old) (W.seen watch.new) }
     ensures improves { Improves profile instance.now result
         (T.state progress.old) (T.state progress.new)
         budget.old budget.new }
@@ -192,6 +198,8 @@ fn lower<T: Progress, W: Watch>(
     requires solution { IsSolution instance.now first.bits.items first.cost }
     requires hard { IsHardLog instance.now hard }
     ensures follows { (first : T) → T.follows first progress.old → T.follows first progress.new }
+    ensures shown { AreShown instance.now (T.state progress.old) (T.state progress.new)
+        (W.seen watch.old) (W.seen watch.new) }
 
     // From before the search over the hard clauses.
     ensures improves { (before : BudgetState) → PaysForHard before budget.old hard
@@ -232,6 +240,8 @@ fn go_on<T: Progress, W: Watch>(
     requires work { IsEarlyWork instance.now work }
     requires none { HasNoCores work }
     ensures follows { (first : T) → T.follows first progress.old → T.follows first progress.new }
+    ensures shown { AreShown instance.now (T.state progress.old) (T.state progress.new)
+        (W.seen watch.old) (W.seen watch.new) }
     ensures ends { Ends profile instance.now result
         (T.state progress.old) (T.state progress.new)
         budget.old budget.new standing (work_count work) }
@@ -264,6 +274,8 @@ fn lower_by_bounds<T: Progress, W: Watch>(
     requires standing { IsStanding instance.now standing }
     requires work { IsEarlyWork instance.now work }
     ensures follows { (first : T) → T.follows first progress.old → T.follows first progress.new }
+    ensures shown { AreShown instance.now (T.state progress.old) (T.state progress.new)
+        (W.seen watch.old) (W.seen watch.new) }
     ensures ends { Ends profile instance.now result
         (T.state progress.old) (T.state progress.new)
         budget.old budget.new standing (work_count work) }
@@ -324,6 +336,8 @@ fn tighten<T: Progress, W: Watch>(
     requires over { IsOver instance.now bounds.old }
     requires learned { learned_count bounds.old.solver.sink ≡ 0 }
     ensures follows { (first : T) → T.follows first progress.old → T.follows first progress.new }
+    ensures shown { AreShown instance.now (T.state progress.old) (T.state progress.new)
+        (W.seen watch.old) (W.seen watch.new) }
     ensures ends { Ends bounds.old.profile instance.now result
         (T.state progress.old) (T.state progress.new)
         budget.old budget.new
@@ -363,6 +377,9 @@ pub fn tell<T: Progress, W: Watch>(
     ensures err { OnErr result
         (T.state progress.new ≡ with_failed solution.now.cost (T.state progress.old)) }
     ensures follows { (first : T) → T.follows first progress.old → T.follows first progress.new }
+    ensures shown { W.seen watch.new
+        ≡ with_seen (Better instance.now solution.now.cost solution.now.bits.items ∷ [])
+        (W.seen watch.old) }
 {
     watch.better(instance, solution.cost, &solution.bits);
     progress.improved(solution.cost)

@@ -1,5 +1,8 @@
-// Who looks on while a search runs. Nothing is known of what a watch does: no contract of a search
-// speaks of it. One that wants lower bounds changes what is looked for, and nothing that is proved.
+// Who looks on while a search runs. What it is shown is proved where its `seen` is known; what it
+// does with that is not. One that wants lower bounds changes what is looked for, and nothing else
+// that is proved.
+ghost use Rattle.std.specs.Prelude.{◌≡◌, [], ◌∷◌, None};
+ghost use Rattle.cdcl_order.specs.Watch.{Better, with_seen};
 ghost use Rattle.improve.specs.Improving.{IsSolution};
 ghost use Rattle.improve.specs.Standing.{IsCoreProof};
 
@@ -12,7 +15,9 @@ use improve_trials::found::ByCores;
 pub trait Watch: improve_cores::watch::Watch {
     /// Is shown a solution that is cheaper than those before, and what it costs, below 2^62.
     fn better(&mut self, instance: &Instance, cost: u64, bits: &[bool])
-        requires { IsSolution instance.now bits.now cost };
+        requires { IsSolution instance.now bits.now cost }
+        ensures shown { Self.seen self.new
+            ≡ with_seen (Better instance.now cost bits.now ∷ []) (Self.seen self.old) };
 
     /// Whether it wants lower bounds that are proved: then cores are looked for in each profile,
     /// and for longer.
@@ -20,7 +25,8 @@ pub trait Watch: improve_cores::watch::Watch {
 
     /// Is shown a proof that no solution costs less than `proof.worth`.
     fn bounded(&mut self, instance: &Instance, proof: &ByCores)
-        requires { IsCoreProof instance.now proof.now.worth proof.now };
+        requires { IsCoreProof instance.now proof.now.worth proof.now }
+        ensures quiet { Self.seen self.new ≡ Self.seen self.old };
 }
 
 /// Looks at nothing.
@@ -28,6 +34,8 @@ pub trait Watch: improve_cores::watch::Watch {
 pub struct Silent;
 
 impl cdcl::watch::Watch for Silent {
+    ghost seen = { λ _. None };
+
     fn learned(&mut self, _report: &SearchReport) {}
 }
 

@@ -1,4 +1,6 @@
 //! Who looks on while a run goes, for `--best`, `--lower` and `--progress`.
+ghost use Rattle.std.specs.Prelude.{None};
+
 use crate::bounding::Bounder;
 use crate::keeper::Keeper;
 use crate::progress::Meter;
@@ -28,6 +30,9 @@ pub struct Onlooker<'a, 'b, R: Files + Clock, E: Write> {
 
 impl<'a, 'b, R: Files + Clock + AllocGlobal, E: Write> cdcl::watch::Watch
     for Onlooker<'a, 'b, R, E> {
+    // What it was shown is in files and on standard error, and is not known here.
+    ghost seen = { λ _. None };
+
     fn learned(&mut self, report: &SearchReport) {
         if let Some(meter) = &mut self.meter {
             meter.learned(report, self.messages);

@@ -10,7 +10,7 @@ pub loop-lit-preserved : goal.loop-lit-preserved
 loop-lit-preserved c =
     let l = c.lit-item.result in
     let once = c.loop-lit.once.items in
-    let b : c.contains.result ≡ contains_literal l once = cc in
+    let b : c.contains.result ≡ contains_literal l once = search rules in
     let step = distinct_same_step once c.args.lits.now c.loop-lit.lit-index l c.contains.result
     (search rules) c.lit-item.is c.loop-lit.invariant b in
     elim c.if-not-contains.branch [
