@@ -14,5 +14,6 @@ mod HardEnds
 mod Lowering
 mod StageEnds
 mod Standings
+mod Shown
 mod CoreEnds
 pub mod Laws

@@ -149,6 +149,7 @@ impl Bounds {
         ensures learned { budget.new.learned + learned_count self.old.solver.sink
             ≡ budget.old.learned + learned_count self.new.solver.sink }
         ensures limit { budget.new.limit ≡ budget.old.limit }
+        ensures quiet { W.seen watch.new ≡ W.seen watch.old }
     {
         let Ok(outcome) = self.solver.solve_watched(budget, watch) else {
             return Err(AllocError);

@@ -11,6 +11,7 @@ ghost use Rattle.improve_cores.specs.Events.{AreRightCores};
 ghost use Rattle.improve.specs.Improving.{work_count};
 ghost use Rattle.improve.specs.Standing.{IsStanding, IsEarlyWork, HasNoCores, GoesOn, Fails};
 ghost use Rattle.improve.specs.Standing.{IsCoreProof, AreFeasible, IsAttempt, by_cores_count};
+ghost use Rattle.improve.specs.Watch.{AreShown};
 ghost use Rattle.improve_trials.specs.Trials.{IsShown};
 
 use crate::found::{ImproveFault, Work};
@@ -55,6 +56,8 @@ pub fn refute_by_cores<T: Progress, W: Watch>(
     requires work { IsEarlyWork instance.now work.old }
     requires none { HasNoCores work.old }
     ensures follows { (first : T) → T.follows first progress.old → T.follows first progress.new }
+    ensures shown { AreShown instance.now (T.state progress.old) (T.state progress.new)
+        (W.seen watch.old) (W.seen watch.new) }
     ensures work { OnOk result (IsEarlyWork instance.now work.new) }
     ensures proof { IfOk result
         (λ f. IfSome f (IsCoreProof instance.now standing.new.best.cost)) }
@@ -155,6 +158,8 @@ pub(crate) fn close_gap<T: Progress, W: Watch>(
     requires standing { IsStanding instance.now standing.old }
     requires search { IsSearchFor instance.now search.old }
     ensures follows { (first : T) → T.follows first progress.old → T.follows first progress.new }
+    ensures shown { AreShown instance.now (T.state progress.old) (T.state progress.new)
+        (W.seen watch.old) (W.seen watch.new) }
     ensures search { IsSearchFor instance.now search.new }
     ensures goes_on { OnOk result (GoesOn instance.now
         (T.state progress.old) (T.state progress.new)
@@ -196,6 +201,8 @@ fn note_model<T: Progress, W: Watch>(
     requires standing { IsStanding instance.now standing.old }
     requires feasible { AreFeasible instance.now bits.items }
     ensures follows { (first : T) → T.follows first progress.old → T.follows first progress.new }
+    ensures shown { AreShown instance.now (T.state progress.old) (T.state progress.new)
+        (W.seen watch.old) (W.seen watch.new) }
     ensures goes_on { OnOk result (GoesOn instance.now
         (T.state progress.old) (T.state progress.new)
         budget.old budget.new standing.old standing.new 0 0) }
@@ -236,6 +243,8 @@ pub(crate) fn refute<T: Progress, W: Watch>(
     requires work { IsEarlyWork instance.now work.old }
     requires cores { AreRightCores instance.now counted }
     ensures follows { (first : T) → T.follows first progress.old → T.follows first progress.new }
+    ensures shown { AreShown instance.now (T.state progress.old) (T.state progress.new)
+        (W.seen watch.old) (W.seen watch.new) }
     ensures work { OnOk result (IsEarlyWork instance.now work.new) }
     ensures search { OnOk result (work.new.search ≡ work.old.search) }
     ensures proof { IfOk result
@@ -296,6 +305,7 @@ fn end_refutation<W: Watch>(
     ensures profile { IfOk result (λ f. IfSome f (λ _. profile ≡ Profile.Five)) }
     ensures count { IfOk result (λ f. work_count work.new + by_cores_count f
         ≡ work_count work.old + learned_count by_cores.log) }
+    ensures quiet { W.seen watch.new ≡ W.seen watch.old }
 {
     watch.bounded(instance, &by_cores);
     if profile == Profile::Five && by_cores.worth == best {

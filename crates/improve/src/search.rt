@@ -15,6 +15,7 @@ ghost use Rattle.improve.specs.Progress.{with_told, with_failed};
 ghost use Rattle.improve.specs.Bounds.{IsOver, IsOverHard};
 ghost use Rattle.improve.specs.Standing.{IsStanding, IsEarlyWork, HasNoCores, Ends};
 ghost use Rattle.improve.specs.Standing.{IsCoreProof, AreFeasible, IsOnlyHard};
+ghost use Rattle.improve.specs.Watch.{AreShown};
 
 use crate::bounds::{Bounds, Next};
 use crate::by_cores::refute_by_cores;
@@ -91,6 +92,8 @@ pub fn improve_watched<T: Progress, W: Watch>(
 ) -> Result<Found, ImproveFault>
     requires { (T.state progress.old).failures < 2 ^ 62 }
     ensures follows { (first : T) → T.follows first progress.old → T.follows first progress.new }
+    ensures shown { AreShown instance.now (T.state progress.old) (T.state progress.new)
+        (W.seen watch.old) (W.seen watch.new) }
     ensures improves { Improves profile instance.now result
         (T.state progress.old) (T.state progress.new)
         budget.old budget.new }
@@ -136,6 +139,8 @@ pub fn improve_from<T: Progress, W: Watch>(
     requires failures { (T.state progress.old).failures < 2 ^ 62 }
     requires solution { AreFeasible instance.now bits.items }
     ensures follows { (first : T) → T.follows first progress.old → T.follows first progress.new }
+    ensures shown { AreShown instance.now (T.state progress.old) (T.state progress.new)
+        (W.seen watch.old) (W.seen watch.new) }
     ensures improves { Improves profile instance.now result
         (T.state progress.old) (T.state progress.new)
         budget.old budget.new }
@@ -193,6 +198,8 @@ fn lower<T: Progress, W: Watch>(
     requires solution { IsSolution instance.now first.bits.items first.cost }
     requires hard { IsHardLog instance.now hard }
     ensures follows { (first : T) → T.follows first progress.old → T.follows first progress.new }
+    ensures shown { AreShown instance.now (T.state progress.old) (T.state progress.new)
+        (W.seen watch.old) (W.seen watch.new) }
 
     // From before the search over the hard clauses.
     ensures improves { (before : BudgetState) → PaysForHard before budget.old hard
@@ -233,6 +240,8 @@ fn go_on<T: Progress, W: Watch>(
     requires work { IsEarlyWork instance.now work }
     requires none { HasNoCores work }
     ensures follows { (first : T) → T.follows first progress.old → T.follows first progress.new }
+    ensures shown { AreShown instance.now (T.state progress.old) (T.state progress.new)
+        (W.seen watch.old) (W.seen watch.new) }
     ensures ends { Ends profile instance.now result
         (T.state progress.old) (T.state progress.new)
         budget.old budget.new standing (work_count work) }
@@ -265,6 +274,8 @@ fn lower_by_bounds<T: Progress, W: Watch>(
     requires standing { IsStanding instance.now standing }
     requires work { IsEarlyWork instance.now work }
     ensures follows { (first : T) → T.follows first progress.old → T.follows first progress.new }
+    ensures shown { AreShown instance.now (T.state progress.old) (T.state progress.new)
+        (W.seen watch.old) (W.seen watch.new) }
     ensures ends { Ends profile instance.now result
         (T.state progress.old) (T.state progress.new)
         budget.old budget.new standing (work_count work) }
@@ -325,6 +336,8 @@ fn tighten<T: Progress, W: Watch>(
     requires over { IsOver instance.now bounds.old }
     requires learned { learned_count bounds.old.solver.sink ≡ 0 }
     ensures follows { (first : T) → T.follows first progress.old → T.follows first progress.new }
+    ensures shown { AreShown instance.now (T.state progress.old) (T.state progress.new)
+        (W.seen watch.old) (W.seen watch.new) }
     ensures ends { Ends bounds.old.profile instance.now result
         (T.state progress.old) (T.state progress.new)
         budget.old budget.new

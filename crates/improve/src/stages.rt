@@ -12,6 +12,7 @@ ghost use Rattle.improve_cores.specs.Events.{AreRightCores};
 ghost use Rattle.improve.specs.Improving.{work_count};
 ghost use Rattle.improve.specs.Standing.{IsStanding, IsEarlyWork, HasNoCores, GoesOn, Fails};
 ghost use Rattle.improve.specs.Standing.{IsCoreProof, by_cores_count};
+ghost use Rattle.improve.specs.Watch.{AreShown};
 
 use crate::by_cores::{close_gap, refute, take_cores};
 use crate::found::{ImproveFault, Work};
@@ -87,6 +88,8 @@ pub(crate) fn run_stages<T: Progress, W: Watch>(
     requires work { IsEarlyWork instance.now work.old }
     requires search { IsSearchFor instance.now search.old }
     ensures follows { (first : T) → T.follows first progress.old → T.follows first progress.new }
+    ensures shown { AreShown instance.now (T.state progress.old) (T.state progress.new)
+        (W.seen watch.old) (W.seen watch.new) }
     ensures work { OnOk result (IsEarlyWork instance.now work.new) }
     ensures same { OnOk result (work.new.search ≡ work.old.search) }
     ensures search { IsSearchFor instance.now search.new }
@@ -137,6 +140,8 @@ fn run_stage<T: Progress, W: Watch>(
     requires work { IsEarlyWork instance.now work.old }
     requires search { IsSearchFor instance.now search.old }
     ensures follows { (first : T) → T.follows first progress.old → T.follows first progress.new }
+    ensures shown { AreShown instance.now (T.state progress.old) (T.state progress.new)
+        (W.seen watch.old) (W.seen watch.new) }
     ensures work { OnOk result (IsEarlyWork instance.now work.new) }
     ensures same { OnOk result (work.new.search ≡ work.old.search) }
     ensures search { IsSearchFor instance.now search.new }

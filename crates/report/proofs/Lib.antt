@@ -6,5 +6,6 @@ pub mod Searched
 pub mod ResultTexts
 pub mod Answered
 pub mod Ends
+pub mod SeenAs
 mod BestTexts
 mod LowerTexts

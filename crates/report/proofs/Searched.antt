@@ -1,7 +1,7 @@
 -- What a search leaves, from what its progress was told.
 use Rattle.std.proofs.Common.{◌≡◌, ℕ, ◌+◌, ◌<◌, ◌^◌, Bool, true, false, List, [], ◌∷◌, ◌++◌, Option}
 use Rattle.std.proofs.Common.{Result, Ok, Err, length, refl, sym, ◌∙◌, ap, subst, arith}
-use Rattle.std.specs.Prelude.{All}
+use Rattle.std.specs.Prelude.{All, IfOk}
 use Rattle.std.proofs.lemmas.List.Elements.{All-weaker}
 use Rattle.cnf.specs.Problem.{Problem}
 use Rattle.cnf.specs.Instance.{IsInstance}
@@ -10,17 +10,20 @@ use Rattle.std.specs.Io.KnownBytes.{Appends}
 use Rattle.std.proofs.KnownBytes.{Appends-nil}
 use Rattle.adder.specs.declared.cells.Profile.{Profile}
 use Rattle.cdcl_order.specs.Budgets.{BudgetState}
+use Rattle.cdcl_order.specs.Watch.{Sight}
 use Rattle.improve.specs.declared.found.Found.{Found}
 use Rattle.improve.specs.declared.found.ImproveFault.{ImproveFault}
 use Rattle.improve.specs.declared.found.ImproveFault.TheVariants.{Memory as SearchMemory, Progress}
 use Rattle.improve.specs.Progress.{Telling}
 use Rattle.improve.specs.Improving.{AreFalling, IsCostOfSome, IsRightFound, Improves}
+use Rattle.improve.specs.Watch.{AreShown, costs_shown}
 use Rattle.improve.proofs.Laws.{cost_small}
 use Rattle.improve.proofs.Laws.{told_fall, told_each}
 use Rattle.report.specs.declared.fault.RunFault.{RunFault}
 use Rattle.report.specs.declared.fault.RunFault.TheVariants.{Memory, Output}
 use Rattle.report.specs.Told.{Tells, cost_lines, fault_of_telling}
 use Rattle.report.specs.Running.{HasLines, Searches, outcome_of}
+use Rattle.report.specs.Seen.{IsShownFor}
 
 pub costs_small : (p : Problem) (costs : List ℕ) → IsInstance p → All (IsCostOfSome p) costs
     → All (λ c. c < 2 ^ 62) costs
@@ -52,6 +55,31 @@ module _ (profile : Profile) (p : Problem) (limits : IsInstance p) (old new : Te
         learned = i.learned;
         spent = i.spent;
       }
+
+  -- where something was found, what was shown is what was told
+  shown_found : (found : Found) (a b : Option (List Sight))
+      → Improves profile p (Ok found) old new budget left → AreShown p old new a b
+      → IsShownFor profile p found out out' a b
+  shown_found found a b i s =
+      let same : new.failures ≡ old.failures = i.no_failure (λ e. absurd (cc)) in
+      let costs = costs_shown s.solutions in
+      let told : new.told ≡ costs = s.told same ∙ ap (λ z. z ++ costs) none in
+      record {
+        solutions = s.solutions;
+        each = s.each;
+        seen = s.seen;
+        lines = subst (λ z. Appends out out' (cost_lines z)) told (tells.all_told (same ∙ fresh));
+        right = subst (λ z. IsRightFound profile p z found) (sym (told_is (Ok found) i) ∙ told)
+            i.found;
+      }
+
+  pub search_shown : (result : Result Found ImproveFault) (a b : Option (List Sight))
+      → Improves profile p result old new budget left → AreShown p old new a b
+      → IfOk (outcome_of result (fault_of_telling no_memory))
+      (λ found. IsShownFor profile p found out out' a b)
+  search_shown (Ok found) a b i s = shown_found found a b i s
+  search_shown (Err SearchMemory) a b i s = tt
+  search_shown (Err Progress) a b i s = tt
 
   search_fault : (fault : RunFault) (tried : List ℕ) → left.limit ≡ budget.limit → AreFalling tried
       → All (IsCostOfSome p) tried → HasLines (Err fault) tried out out'

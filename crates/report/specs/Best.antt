@@ -1,9 +1,10 @@
 -- The text of the best solution so far, and what it claims.
-use Rattle.std.specs.Prelude.{ℕ, List, [], ⊤}
+use Rattle.std.specs.Prelude.{ℕ, List, [], ⊤, true, false, Some, None}
 use Rattle.cnf.specs.Literal.{Assignment}
 use Rattle.cnf.specs.Bits.{Extends}
 use Rattle.cnf.specs.Problem.{Problem, IsOptimal, IsInconsistent}
 use Rattle.adder.specs.declared.cells.Profile.{Profile}
+use Rattle.cdcl_order.specs.Watch.{Sight, End}
 use Rattle.lrat_result.specs.Result.{Said, Says, OptimumFound, Unsatisfiable, Satisfiable, Unknown}
 use Rattle.improve.specs.declared.found.Found.{Found}
 use Rattle.improve.specs.declared.found.Found.TheVariants.{Optimum, Unsat, Best, Nothing}
@@ -20,6 +21,13 @@ said_of (Optimum c bits log clauses cores) = OptimumFound c bits.items
 said_of (Unsat log clauses) = Unsatisfiable
 said_of (Best c bits work) = Satisfiable c bits.items
 said_of (Nothing work) = Unknown
+
+-- the end of a search that found this, as it is shown
+abbrev pub end_of : Problem → Found → Sight
+end_of p (Optimum c bits log clauses cores) = End p true (Some (c, bits.items))
+end_of p (Unsat log clauses) = End p true None
+end_of p (Best c bits work) = End p false (Some (c, bits.items))
+end_of p (Nothing work) = End p false None
 
 -- a search found this, in some profile, and told some costs
 abbrev pub IsFound : Problem → Found → Type 0

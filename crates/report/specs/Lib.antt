@@ -7,4 +7,5 @@ pub mod Heading
 pub mod Answering
 pub mod Running
 pub mod Best
+pub mod Seen
 pub mod Lower

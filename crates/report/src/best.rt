@@ -1,11 +1,12 @@
 //! The best solution so far as a text of its own: a whole result, which tells its own cost alone.
-ghost use Rattle.std.specs.Prelude.{◌≡◌, ◌++◌, [], OnOk, OnErr};
+ghost use Rattle.std.specs.Prelude.{◌≡◌, ◌++◌, [], ◌∷◌, OnOk, OnErr};
 ghost use Rattle.std.specs.Io.KnownBytes.{Appends};
 ghost use Rattle.text.specs.Writing.{AppendsPart, spaced};
+ghost use Rattle.cdcl_order.specs.Watch.{with_seen};
 ghost use Rattle.lrat_result.specs.Result.{Satisfiable, Unknown, cost_tokens};
 ghost use Rattle.improve.specs.Improving.{IsSolution};
 ghost use Rattle.report.specs.Answering.{words_text};
-ghost use Rattle.report.specs.Best.{IsFound, IsTrueText, best_text, said_of};
+ghost use Rattle.report.specs.Best.{IsFound, IsTrueText, best_text, end_of, said_of};
 
 use crate::answering::{spell_optimum, spell_satisfiable, write_end};
 use crate::told::write_cost;
@@ -18,11 +19,14 @@ use text::output::WriteFault;
 /// Looks on while a run goes, and is shown how it ended.
 pub trait Keep: Watch {
     /// The search is over with this, and nothing of its end is written yet.
-    fn searched(&mut self, found: &Found);
+    fn searched(&mut self, found: &Found)
+        ensures quiet { Self.seen self.new ≡ Self.seen self.old };
 
     /// Is shown what was found, once the result and the certificate are written and flushed.
     fn ended(&mut self, instance: &Instance, found: &Found)
-        requires { IsFound instance.now found.now };
+        requires { IsFound instance.now found.now }
+        ensures shown { Self.seen self.new
+            ≡ with_seen (end_of instance.now found.now ∷ []) (Self.seen self.old) };
 }
 
 impl Keep for Silent {

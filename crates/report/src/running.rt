@@ -2,7 +2,9 @@
 ghost use Rattle.std.specs.Prelude.{◌≡◌, ◌<◌, ◌^◌, IfOk, IfErr, IsTrue};
 ghost use Rattle.improve.specs.Improving.{Improves};
 ghost use Rattle.improve.specs.Standing.{AreFeasible};
+ghost use Rattle.improve.specs.Watch.{AreShown};
 ghost use Rattle.report.specs.Running.{EndsAs, Leaves, Searches, outcome_of};
+ghost use Rattle.report.specs.Seen.{IsSeenAs, IsShownFor};
 
 use crate::answering::write_answer;
 use crate::best::Keep;
@@ -112,6 +114,9 @@ pub fn run_watched<R: Read, O: Write, P: Write, K: Keep>(
         (O.contents out.old) (O.contents out.new) (P.contents proof.old) (P.contents proof.new)
         budget.new) }
     ensures same_limit { budget.new.limit ≡ budget.old.limit }
+    ensures seen { IfOk result (λ status. IsSeenAs profile (R.remaining input.old)
+        (O.contents out.old) (O.contents out.new) status
+        (K.seen keeper.old) (K.seen keeper.new)) }
 {
     run_from(alloc, input, None, budget, out, proof, profile, keeper)
 }
@@ -139,6 +144,9 @@ pub fn run_from<R: Read, O: Write, P: Write, K: Keep>(
         (O.contents out.old) (O.contents out.new) (P.contents proof.old) (P.contents proof.new)
         budget.new) }
     ensures same_limit { budget.new.limit ≡ budget.old.limit }
+    ensures seen { IfOk result (λ status. IsSeenAs profile (R.remaining input.old)
+        (O.contents out.old) (O.contents out.new) status
+        (K.seen keeper.old) (K.seen keeper.new)) }
 {
     let instance = read_from(alloc, input)?;
     instance.limits();
@@ -159,8 +167,11 @@ fn find_best<O: Write, K: Keep>(
     profile: Profile,
     keeper: &mut K,
 ) -> Result<Found, RunFault>
-    ensures { Searches profile instance.now result (O.contents out.old)
+    ensures searches { Searches profile instance.now result (O.contents out.old)
         (O.contents out.new) budget.old budget.new }
+    ensures shown { IfOk result (λ found. IsShownFor profile instance.now found
+        (O.contents out.old) (O.contents out.new)
+        (K.seen keeper.old) (K.seen keeper.new)) }
 {
     instance.limits();
     let mut told = Told::new(alloc, out);
@@ -185,6 +196,8 @@ fn search<T: Progress, K: Keep>(
     ensures improves { Improves profile instance.now result
         (T.state progress.old) (T.state progress.new)
         budget.old budget.new }
+    ensures shown { AreShown instance.now (T.state progress.old) (T.state progress.new)
+        (K.seen keeper.old) (K.seen keeper.new) }
 {
     match start {
         Some(bits) => {

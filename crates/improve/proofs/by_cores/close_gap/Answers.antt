@@ -6,6 +6,7 @@ use Rattle.improve_cores.specs.CoreWork.{CoreWork, IsSearchFor}
 use Rattle.improve_cores.proofs.Laws.{searched_feasible}
 use Rattle.improve.proofs.Standings.{goes_nowhere, goes_further, goes_learned, goes_told}
 use Rattle.improve.proofs.Standings.{fails_after, goes_same, search_kept}
+use Rattle.improve.proofs.Shown.{shown_none, shown_then, shown_more}
 use Rattle.improve.proofs.by_cores.close_gap.Goals as goal
 
 pub events-init : goal.events-init
@@ -15,6 +16,9 @@ events-init g c = record {
       goes_nowhere c.args.instance.now (g.T.Progress.state c.args.progress.now) c.args.budget.now
       c.args.standing.now (learned_count c.args.search.now.lines) c.requires.standing;
   follows = λ first h. h;
+  shown =
+      shown_none c.args.instance.now (g.T.Progress.state c.args.progress.now)
+      (g.W.Watch-3.seen c.args.watch.now);
 }
 
 pub returns-in_default-clause-search : goal.returns-in_default-clause-search
@@ -111,4 +115,28 @@ events-preserved g c =
           c.next.new.self.lines i.goes_on.standing c.next.ensures.learned))
           c.in_ok-note_model-in-Model.ensures.goes_on;
       follows = λ first h. c.note_model.ensures.follows first (i.follows first h);
+      shown =
+          shown_more c.args.instance.now _ _ _ _ _ _
+          (shown_then c.args.instance.now _ _ _ _ _ i.shown c.next.ensures.quiet)
+          i.goes_on.failures c.note_model.ensures.shown;
     }
+
+pub returns-in_default-clause-shown : goal.returns-in_default-clause-shown
+returns-in_default-clause-shown g c =
+    shown_then c.args.instance.now _ _ _ _ _ c.events.invariant.shown c.next.ensures.quiet
+
+pub returns-in-Closed-clause-shown : goal.returns-in-Closed-clause-shown
+returns-in-Closed-clause-shown g c =
+    shown_then c.args.instance.now _ _ _ _ _ c.events.invariant.shown c.next.ensures.quiet
+
+pub returns-in-Over-clause-shown : goal.returns-in-Over-clause-shown
+returns-in-Over-clause-shown g c =
+    shown_then c.args.instance.now _ _ _ _ _ c.events.invariant.shown c.next.ensures.quiet
+
+pub returns-in_err-note_model-in-Model-clause-shown :
+    goal.returns-in_err-note_model-in-Model-clause-shown
+returns-in_err-note_model-in-Model-clause-shown g c =
+    let i = c.events.invariant in
+    shown_more c.args.instance.now _ _ _ _ _ _
+    (shown_then c.args.instance.now _ _ _ _ _ i.shown c.next.ensures.quiet) i.goes_on.failures
+    c.note_model.ensures.shown

@@ -2,6 +2,7 @@
 use Rattle.lrat_log.specs.Steps.{learned_count}
 use Rattle.improve_cores.specs.CoreWork.{IsSearchFor}
 use Rattle.improve.specs.Standing.{GoesOn}
+use Rattle.improve.specs.Watch.{AreShown}
 use Rattle.improve.proofs.by_cores.close_gap.Given as goal
 
 abbrev pub invariant-events : goal.invariant-events
@@ -12,4 +13,6 @@ invariant-events g l = record {
       (learned_count (l.fn.search).lines) (learned_count (l.search).lines);
   follows : (first : g.row.T.Denot) → g.T.Progress.follows first l.fn.progress
       → g.T.Progress.follows first l.progress;
+  shown : AreShown l.instance (g.T.Progress.state l.fn.progress) (g.T.Progress.state l.progress)
+      (g.W.Watch-3.seen l.fn.watch) (g.W.Watch-3.seen l.watch);
 }

@@ -3,6 +3,7 @@ use Rattle.std.proofs.Common.{◌+◌, refl, ap, arith}
 use Rattle.cnf.proofs.Laws.{on_ok_at, on_err_at}
 use Rattle.improve.proofs.Standings.{if_ok_at}
 use Rattle.improve.proofs.Standings.{goes_nowhere, goes_cheaper, fails_memory, fails_progress}
+use Rattle.improve.proofs.Shown.{shown_none, shown_told, shown_failed}
 use Rattle.improve.proofs.by_cores.note_model.Goals as goal
 
 pub returns-then-solution-standing-clause-goes_on :
@@ -35,3 +36,27 @@ returns-clause-goes_on g c =
     pushed (omega arith) c.price-solution.ensures.solution ok
     (ap (λ b. b.answers) c.count_answer.ensures) (ap (λ b. b.limit) c.count_answer.ensures) 0 0
     (ap (λ b. b.learned + 0) c.count_answer.ensures)
+
+pub returns-then-solution-standing-clause-shown : goal.returns-then-solution-standing-clause-shown
+returns-then-solution-standing-clause-shown g c =
+    shown_none c.args.instance.now (g.T.Progress.state c.args.progress.now)
+    (g.W.Watch-3.seen c.args.watch.now)
+
+pub returns-then-is_err-clause-shown : goal.returns-then-is_err-clause-shown
+returns-then-is_err-clause-shown g c =
+    shown_none c.args.instance.now (g.T.Progress.state c.args.progress.now)
+    (g.W.Watch-3.seen c.args.watch.now)
+
+pub returns-then-is_err-2-clause-shown : goal.returns-then-is_err-2-clause-shown
+returns-then-is_err-2-clause-shown g c =
+    let err = on_err_at c.tell.result c.if-is_err-2.ensures.value c.tell.ensures.err in
+    shown_failed c.args.instance.now (g.T.Progress.state c.args.progress.now) _
+    (g.W.Watch-3.seen c.args.watch.now) _ c.price-solution.result.cost
+    c.price-solution.result.bits.items c.price-solution.ensures.solution c.tell.ensures.shown err
+
+pub returns-clause-shown : goal.returns-clause-shown
+returns-clause-shown g c =
+    let ok = on_ok_at c.tell.result c.if-is_err-2.ensures.value c.tell.ensures.ok in
+    shown_told c.args.instance.now (g.T.Progress.state c.args.progress.now) _
+    (g.W.Watch-3.seen c.args.watch.now) _ c.price-solution.result.cost
+    c.price-solution.result.bits.items c.price-solution.ensures.solution c.tell.ensures.shown ok

@@ -1,10 +1,11 @@
 -- What was tried ends in a refutation, or is part of the work.
-use Rattle.std.proofs.Common.{◌+◌, ap, arith, refl}
+use Rattle.std.proofs.Common.{◌+◌, ◌∙◌, ap, arith, refl}
 use Rattle.std.proofs.lemmas.Result.{err_from_is_err_and}
 use Rattle.lrat_log.specs.Steps.{learned_count}
 use Rattle.improve.specs.Improving.{tried_count}
 use Rattle.improve_trials.specs.Trials.{attempt_lines}
 use Rattle.improve.proofs.Standings.{goes_spent, goes_told, fails_after, fails_memory}
+use Rattle.improve.proofs.Shown.{shown_quiet, shown_after}
 use Rattle.improve.proofs.by_cores.refute.Goals as goal
 
 pub returns-in_default-clause-fault : goal.returns-in_default-clause-fault
@@ -66,3 +67,29 @@ pub returns-in_default-end_refutation-clause-fault :
 returns-in_default-end_refutation-clause-fault g c =
     fails_memory c.args.instance.now (g.T.Progress.state c.args.progress.now) _
     c.args.budget.now _ c.args.standing.now c.requires.standing c.refute.ensures.limit refl
+
+pub returns-in_default-clause-shown : goal.returns-in_default-clause-shown
+returns-in_default-clause-shown g c =
+    shown_quiet c.args.instance.now (g.T.Progress.state c.args.progress.now) _ _
+    c.refute.ensures.quiet
+
+pub returns-in-Open-clause-shown : goal.returns-in-Open-clause-shown
+returns-in-Open-clause-shown g c =
+    shown_quiet c.args.instance.now (g.T.Progress.state c.args.progress.now) _ _
+    c.refute.ensures.quiet
+
+pub returns-in_err-note_model-in-Model-clause-shown :
+    goal.returns-in_err-note_model-in-Model-clause-shown
+returns-in_err-note_model-in-Model-clause-shown g c =
+    shown_after c.args.instance.now _ _ _ _ _ c.refute.ensures.quiet c.note_model.ensures.shown
+
+pub returns-in_ok-note_model-in-Model-clause-shown :
+    goal.returns-in_ok-note_model-in-Model-clause-shown
+returns-in_ok-note_model-in-Model-clause-shown g c =
+    shown_after c.args.instance.now _ _ _ _ _ c.refute.ensures.quiet c.note_model.ensures.shown
+
+pub returns-in_default-end_refutation-clause-shown :
+    goal.returns-in_default-end_refutation-clause-shown
+returns-in_default-end_refutation-clause-shown g c =
+    shown_quiet c.args.instance.now (g.T.Progress.state c.args.progress.now) _ _
+    (c.end_refutation.ensures.quiet ∙ c.refute.ensures.quiet)

@@ -5,6 +5,7 @@ use Rattle.cnf.specs.Bits.{assignment_of}
 use Rattle.cnf.proofs.Laws.{extends_own}
 use Rattle.improve.specs.Improving.{work_count}
 use Rattle.improve.proofs.Standings.{goes_nowhere, goes_same}
+use Rattle.improve.proofs.Shown.{shown_none}
 use Rattle.improve.proofs.by_cores.refute_by_cores.Goals as goal
 
 pub returns-in_err-proof-clause-fault : goal.returns-in_err-proof-clause-fault
@@ -33,3 +34,8 @@ returns-clause-goes_on g c =
     let a = c.in_ok-proof.ensures.goes_on in
     goes_same c.args.instance.now _ _ _ _ _ _ _ _ _ _ a
     (omega (arith, a.learned, c.keep_search.ensures.count, c.in-Ok.ensures.none_learned))
+
+pub returns-in_default-clause-shown : goal.returns-in_default-clause-shown
+returns-in_default-clause-shown g c =
+    shown_none c.args.instance.now (g.T.Progress.state c.args.progress.now)
+    (g.W.Watch-3.seen c.args.watch.now)

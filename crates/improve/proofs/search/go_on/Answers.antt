@@ -8,6 +8,7 @@ use Rattle.improve.specs.Improving.{work_count}
 use Rattle.improve.specs.Standing.{costs_of}
 use Rattle.improve.proofs.Lowering.{on_work_weaker}
 use Rattle.improve.proofs.Standings.{ends_after, ends_failing, ends_found}
+use Rattle.improve.proofs.Shown.{shown_more}
 use Rattle.improve.proofs.search.go_on.Goals as goal
 
 pub returns-in_err-by_cores-clause-ends : goal.returns-in_err-by_cores-clause-ends
@@ -59,3 +60,9 @@ returns-in-None-clause-ends g c =
     ends_after p _ _ _ _ _ _ _ _ _ _ a c.args.profile c.lower_by_bounds.result
     (work_count c.args.work) (work_count c.refute_by_cores.new.work) (omega arith)
     c.lower_by_bounds.ensures.ends
+
+pub returns-in-None-clause-shown : goal.returns-in-None-clause-shown
+returns-in-None-clause-shown g c =
+    let a = rw c.in-None.is at c.in_ok-by_cores.ensures.goes_on in
+    shown_more c.args.instance.now _ _ _ _ _ _ c.refute_by_cores.ensures.shown a.failures
+    c.lower_by_bounds.ensures.shown

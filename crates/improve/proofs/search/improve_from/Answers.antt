@@ -7,6 +7,7 @@ use Rattle.improve.specs.Improving.{IsCostOfSome, work_count}
 use Rattle.improve.proofs.SearchEnds.{found_end}
 use Rattle.improve.proofs.Lowering.{on_work_weaker}
 use Rattle.improve.proofs.HardEnds.{hard_none, solved_open}
+use Rattle.improve.proofs.Shown.{shown_none}
 use Rattle.improve.proofs.search.improve_from.Goals as goal
 
 pub conclude_nothing-requires-clause-hard : goal.conclude_nothing-requires-clause-hard
@@ -42,3 +43,8 @@ returns-clause-improves g c =
       answers = sym (ap (λ b. b.answers) paid);
       learned = omega (arith, ap (λ b. b.learned) paid, ap learned_count c.new-hard.ensures);
     })
+
+pub returns-then-left-eq0-clause-shown : goal.returns-then-left-eq0-clause-shown
+returns-then-left-eq0-clause-shown g c =
+    shown_none c.args.instance.now (g.T.Progress.state c.args.progress.now)
+    (g.W.Watch-3.seen c.args.watch.now)

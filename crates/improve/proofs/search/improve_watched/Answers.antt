@@ -11,17 +11,18 @@ use Rattle.improve.proofs.SearchEnds.{memory_end, found_end}
 use Rattle.improve.proofs.Lowering.{on_work_weaker}
 use Rattle.improve.proofs.HardEnds.{hard_feasible, hard_log, hard_learned, right_unsat}
 use Rattle.improve.proofs.HardEnds.{plainly_open}
+use Rattle.improve.proofs.Shown.{shown_none, shown_after, shown_quiet}
 use Rattle.improve.proofs.search.improve_watched.Goals as goal
 
 pub price_polished-first-requires-clause-feasible :
     goal.price_polished-first-requires-clause-feasible
 price_polished-first-requires-clause-feasible g c =
-    let sat = rw c.in-Ok-Sat.field-0-is at c.in-Ok-Sat.ensures.sat in
+    let sat = rw c.in-Ok-Sat.field-0-is at c.in-Ok-Sat.ensures.solves.sat in
     hard_feasible c.args.instance.now c.in-Ok.solver c.in-Ok.ensures c.in-Ok-Sat.bits.items sat.1
 
 pub lower-requires-clause-hard : goal.lower-requires-clause-hard
 lower-requires-clause-hard g c =
-    let free = rw c.in-Ok-Sat.field-0-is at c.in-Ok-Sat.ensures.stays_open in
+    let free = rw c.in-Ok-Sat.field-0-is at c.in-Ok-Sat.ensures.solves.stays_open in
     subst (IsHardLog c.args.instance.now) (sym c.into_sink-hard.ensures)
     (hard_log c.args.instance.now c.in-Ok.solver c.in-Ok.ensures c.solve_watched.new.self
     c.solve_watched.ensures.solves.given c.solve_watched.ensures.solves.lines (free (λ e. cc))
@@ -29,11 +30,11 @@ lower-requires-clause-hard g c =
 
 pub returns-in-Ok-Sat-clause-improves : goal.returns-in-Ok-Sat-clause-improves
 returns-in-Ok-Sat-clause-improves g c =
-    let answers = rw c.in-Ok-Sat.field-0-is at c.in-Ok-Sat.ensures.answers in
+    let answers = rw c.in-Ok-Sat.field-0-is at c.in-Ok-Sat.ensures.solves.answers in
     let learned =
     hard_learned c.args.instance.now c.in-Ok.solver c.in-Ok.ensures c.solve_watched.new.self.sink
-    c.args.budget.now.learned c.solve_watched.new.budget.learned c.solve_watched.ensures.solves.grows
-    c.solve_watched.ensures.solves.learned in
+    c.args.budget.now.learned c.solve_watched.new.budget.learned
+    c.solve_watched.ensures.solves.grows c.solve_watched.ensures.solves.learned in
     c.lower.ensures.improves c.args.budget.now (record {
       limit = sym c.solve_watched.ensures.solves.same_limit;
       answers = sym answers;
@@ -45,20 +46,21 @@ returns-in-Ok-Unsat-clause-improves g c =
     let p = c.args.instance.now in
     let log = c.into_sink-log.result in
     let count : ℕ = c.len-clauses.result in
-    let accepted = rw c.in-Ok-Unsat.field-0-is at c.in-Ok-Unsat.ensures.unsat in
-    let answers = rw c.in-Ok-Unsat.field-0-is at c.in-Ok-Unsat.ensures.answers in
+    let accepted = rw c.in-Ok-Unsat.field-0-is at c.in-Ok-Unsat.ensures.solves.unsat in
+    let answers = rw c.in-Ok-Unsat.field-0-is at c.in-Ok-Unsat.ensures.solves.answers in
     found_end c.args.profile p _ _ c.args.budget.now c.solve_watched.new.budget
     c.solve_watched.ensures.solves.same_limit [] (sym (append-nil _)) (Ok (Unsat log count)) tt
     (All-nil (IsCostOfSome p)) refl tt
     (right_unsat p c.in-Ok.solver c.in-Ok.ensures c.args.profile log count
     (subst (IsAcceptedLog (given_to c.in-Ok.solver)) (sym c.into_sink-log.ensures) accepted)
     (c.len-clauses.ensures.len ∙ ap length (c.given.ensures
-    ∙ sym (same_given c.in-Ok.solver c.solve_watched.new.self c.solve_watched.ensures.solves.given))))
+    ∙ sym (same_given c.in-Ok.solver c.solve_watched.new.self
+    c.solve_watched.ensures.solves.given))))
     (omega (arith, answers)) tt tt
 
 pub conclude_nothing-requires-clause-hard : goal.conclude_nothing-requires-clause-hard
 conclude_nothing-requires-clause-hard g c =
-    let free = rw c.in-Ok-Limit.field-0-is at c.in-Ok-Limit.ensures.stays_open in
+    let free = rw c.in-Ok-Limit.field-0-is at c.in-Ok-Limit.ensures.solves.stays_open in
     subst (IsHardLog c.args.instance.now) (sym c.into_sink.ensures)
     (hard_log c.args.instance.now c.in-Ok.solver c.in-Ok.ensures c.solve_watched.new.self
     c.solve_watched.ensures.solves.given c.solve_watched.ensures.solves.lines (free (λ e. cc))
@@ -66,19 +68,19 @@ conclude_nothing-requires-clause-hard g c =
 
 pub conclude_nothing-requires-clause-open : goal.conclude_nothing-requires-clause-open
 conclude_nothing-requires-clause-open g c =
-    let refuted = rw c.in-Ok-Limit.field-0-is at c.in-Ok-Limit.ensures.refuted in
+    let refuted = rw c.in-Ok-Limit.field-0-is at c.in-Ok-Limit.ensures.solves.refuted in
     plainly_open c.args.instance.now c.in-Ok.solver c.in-Ok.ensures (λ r. let x = refuted r in cc)
 
 pub returns-in-Ok-Limit-clause-improves : goal.returns-in-Ok-Limit-clause-improves
 returns-in-Ok-Limit-clause-improves g c =
     let p = c.args.instance.now in
-    let left = rw c.in-Ok-Limit.field-0-is at c.in-Ok-Limit.ensures.limit in
-    let answers = rw c.in-Ok-Limit.field-0-is at c.in-Ok-Limit.ensures.answers in
+    let left = rw c.in-Ok-Limit.field-0-is at c.in-Ok-Limit.ensures.solves.limit in
+    let answers = rw c.in-Ok-Limit.field-0-is at c.in-Ok-Limit.ensures.solves.answers in
     let work = c.conclude_nothing.ensures.work in
     let learned =
     hard_learned p c.in-Ok.solver c.in-Ok.ensures c.solve_watched.new.self.sink
-    c.args.budget.now.learned c.solve_watched.new.budget.learned c.solve_watched.ensures.solves.grows
-    c.solve_watched.ensures.solves.learned in
+    c.args.budget.now.learned c.solve_watched.new.budget.learned
+    c.solve_watched.ensures.solves.grows c.solve_watched.ensures.solves.learned in
     found_end c.args.profile p _ _ c.args.budget.now c.solve_watched.new.budget
     c.solve_watched.ensures.solves.same_limit [] (sym (append-nil _))
     (Ok c.conclude_nothing.result) tt (All-nil (IsCostOfSome p)) refl tt
@@ -93,3 +95,27 @@ returns-in-Err-clause-improves g c =
     memory_end c.args.profile c.args.instance.now _ _ c.args.budget.now c.solve_watched.new.budget
     c.solve_watched.ensures.solves.same_limit [] (sym (append-nil _)) tt
     (All-nil (IsCostOfSome c.args.instance.now)) refl
+
+pub returns-in_default-clause-shown : goal.returns-in_default-clause-shown
+returns-in_default-clause-shown g c =
+    shown_none c.args.instance.now (g.T.Progress.state c.args.progress.now)
+    (g.W.Watch-3.seen c.args.watch.now)
+
+pub returns-in-Ok-Sat-clause-shown : goal.returns-in-Ok-Sat-clause-shown
+returns-in-Ok-Sat-clause-shown g c =
+    shown_after c.args.instance.now _ _ _ _ _ c.solve_watched.ensures.quiet c.lower.ensures.shown
+
+pub returns-in-Ok-Unsat-clause-shown : goal.returns-in-Ok-Unsat-clause-shown
+returns-in-Ok-Unsat-clause-shown g c =
+    shown_quiet c.args.instance.now (g.T.Progress.state c.args.progress.now) _ _
+    c.solve_watched.ensures.quiet
+
+pub returns-in-Ok-Limit-clause-shown : goal.returns-in-Ok-Limit-clause-shown
+returns-in-Ok-Limit-clause-shown g c =
+    shown_quiet c.args.instance.now (g.T.Progress.state c.args.progress.now) _ _
+    c.solve_watched.ensures.quiet
+
+pub returns-in-Err-clause-shown : goal.returns-in-Err-clause-shown
+returns-in-Err-clause-shown g c =
+    shown_quiet c.args.instance.now (g.T.Progress.state c.args.progress.now) _ _
+    c.solve_watched.ensures.quiet

@@ -3,6 +3,7 @@ use Rattle.std.proofs.Common.{◌++◌, [], ◌∷◌, refl, ◌∙◌, ap}
 use Rattle.improve.specs.Improving.{work_count}
 use Rattle.improve.specs.declared.found.ImproveFault.TheVariants.{Memory}
 use Rattle.improve.proofs.Standings.{ends_failing, ends_same, fails_memory, same_standing}
+use Rattle.improve.proofs.Shown.{shown_none}
 use Rattle.improve.proofs.search.lower_by_bounds.Goals as goal
 
 pub make_bounds-requires : goal.make_bounds-requires
@@ -33,3 +34,8 @@ returns-clause-ends g c =
     c.in-Ok.ensures.profile
     (ap (λ cs. cs ++ first.cost ∷ []) (c.in-Ok.ensures.costs ∙ c.deref.ensures.value))
     (rw c.suggest_given.ensures at c.tighten.ensures.ends)
+
+pub returns-in_default-clause-shown : goal.returns-in_default-clause-shown
+returns-in_default-clause-shown g c =
+    shown_none c.args.instance.now (g.T.Progress.state c.args.progress.now)
+    (g.W.Watch-3.seen c.args.watch.now)

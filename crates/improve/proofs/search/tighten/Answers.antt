@@ -12,6 +12,8 @@ use Rattle.improve.proofs.Lowering.{cost_small, on_work_weaker}
 use Rattle.improve.proofs.Standings.{goes_cheaper, goes_further, goes_nowhere, goes_same}
 use Rattle.improve.proofs.Standings.{fails_memory, fails_progress}
 use Rattle.improve.proofs.Standings.{fails_after, ends_failing, ends_further}
+use Rattle.improve.proofs.Shown.{shown_none, shown_then, shown_more}
+use Rattle.improve.proofs.Shown.{shown_told, shown_failed}
 use Rattle.improve.proofs.search.tighten.Goals as goal
 
 pub loop-best-init : goal.loop-best-init
@@ -24,6 +26,9 @@ loop-best-init g c = record {
       (record { best = c.args.first; earlier = c.args.bounds.now.costs }) 0 c.requires.standing)
       (omega (arith, c.requires.learned));
   follows = λ first h. h;
+  shown =
+      shown_none c.args.instance.now (g.T.Progress.state c.args.progress.now)
+      (g.W.Watch-3.seen c.args.watch.now);
 }
 
 pub add-requires-clause-small : goal.add-requires-clause-small
@@ -138,6 +143,12 @@ loop-best-preserved g c =
           (learned_count c.solve.new.self.solver.sink)
           (omega (arith, c.solve.ensures.learned, unlearned)));
       follows = λ first h. c.tell.ensures.follows first (i.follows first h);
+      shown =
+          shown_more p _ _ _ _ _ _ (shown_then p _ _ _ _ _ i.shown c.solve.ensures.quiet)
+          i.goes_on.failures
+          (shown_told p (g.T.Progress.state c.loop-best.progress) _ _ _
+          c.in-Ok-Cheaper.solution.cost c.in-Ok-Cheaper.solution.bits.items next.solution
+          c.tell.ensures.shown ok);
     }
 
 pub returns-in-Ok-Refuted-clause-ends : goal.returns-in-Ok-Refuted-clause-ends
@@ -199,3 +210,26 @@ returns-in-Ok-Spent-clause-ends g c =
 pub returns-then-is_err-2-clause-follows : goal.returns-then-is_err-2-clause-follows
 returns-then-is_err-2-clause-follows g c =
     λ first h. c.tell.ensures.follows first (c.loop-best.invariant.follows first h)
+
+pub returns-in-Err-clause-shown : goal.returns-in-Err-clause-shown
+returns-in-Err-clause-shown g c =
+    shown_then c.args.instance.now _ _ _ _ _ c.loop-best.invariant.shown c.solve.ensures.quiet
+
+pub returns-in-Ok-Refuted-clause-shown : goal.returns-in-Ok-Refuted-clause-shown
+returns-in-Ok-Refuted-clause-shown g c =
+    shown_then c.args.instance.now _ _ _ _ _ c.loop-best.invariant.shown c.solve.ensures.quiet
+
+pub returns-in-Ok-Spent-clause-shown : goal.returns-in-Ok-Spent-clause-shown
+returns-in-Ok-Spent-clause-shown g c =
+    shown_then c.args.instance.now _ _ _ _ _ c.loop-best.invariant.shown c.solve.ensures.quiet
+
+pub returns-then-is_err-2-clause-shown : goal.returns-then-is_err-2-clause-shown
+returns-then-is_err-2-clause-shown g c =
+    let p = c.args.instance.now in
+    let i = c.loop-best.invariant in
+    let next = rw c.in-Ok-Cheaper.field-0-is at c.in-Ok-Cheaper.ensures.next in
+    let err = on_err_at c.tell.result c.if-is_err-2.ensures.value c.tell.ensures.err in
+    shown_more p _ _ _ _ _ _ (shown_then p _ _ _ _ _ i.shown c.solve.ensures.quiet)
+    i.goes_on.failures
+    (shown_failed p (g.T.Progress.state c.loop-best.progress) _ _ _ c.in-Ok-Cheaper.solution.cost
+    c.in-Ok-Cheaper.solution.bits.items next.solution c.tell.ensures.shown err)

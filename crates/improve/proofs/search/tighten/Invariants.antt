@@ -3,6 +3,7 @@ use Rattle.std.proofs.Common.{◌≡◌}
 use Rattle.lrat_log.specs.Steps.{learned_count}
 use Rattle.improve.specs.Bounds.{IsOver}
 use Rattle.improve.specs.Standing.{GoesOn}
+use Rattle.improve.specs.Watch.{AreShown}
 use Rattle.improve.proofs.search.tighten.Given as goal
 
 abbrev pub invariant-loop-best : goal.invariant-loop-best
@@ -15,6 +16,8 @@ invariant-loop-best g l = record {
       0 (learned_count ((l.bounds).solver).sink);
   follows : (first : g.row.T.Denot) → g.T.Progress.follows first l.fn.progress
       → g.T.Progress.follows first l.progress;
+  shown : AreShown l.instance (g.T.Progress.state l.fn.progress) (g.T.Progress.state l.progress)
+      (g.W.Watch-3.seen l.fn.watch) (g.W.Watch-3.seen l.watch);
 }
 
 abbrev pub decreases-loop-best : goal.decreases-loop-best

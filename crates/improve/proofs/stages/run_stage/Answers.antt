@@ -5,6 +5,7 @@ use Rattle.lrat_log.specs.Steps.{learned_count}
 use Rattle.improve_cores.specs.CoreWork.{CoreWork, IsSearchFor}
 use Rattle.improve.proofs.Standings.{goes_same, fails_after}
 use Rattle.improve.proofs.StageEnds.{goes_beside}
+use Rattle.improve.proofs.Shown.{shown_more}
 use Rattle.improve.proofs.stages.run_stage.Goals as goal
 
 pub close_gap-requires-clause-search : goal.close_gap-requires-clause-search
@@ -48,3 +49,8 @@ returns-clause-fault g c =
     IfErr-weaker c.refute.result _ _
     (λ e h. fails_after c.args.instance.now _ _ _ _ _ _ _ _ _ _
     c.in_ok-is_closed.ensures.goes_on e h) c.refute.ensures.fault
+
+pub returns-clause-shown : goal.returns-clause-shown
+returns-clause-shown g c =
+    shown_more c.args.instance.now _ _ _ _ _ _ c.close_gap.ensures.shown
+    c.in_ok-is_closed.ensures.goes_on.failures c.refute.ensures.shown

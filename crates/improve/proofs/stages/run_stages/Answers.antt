@@ -4,6 +4,7 @@ use Rattle.std.proofs.lemmas.Result.{err_from_is_err_and}
 use Rattle.lrat_log.specs.Steps.{learned_count}
 use Rattle.improve.specs.Improving.{work_count}
 use Rattle.improve.proofs.Standings.{goes_nowhere, goes_further, goes_same, fails_after}
+use Rattle.improve.proofs.Shown.{shown_none, shown_more}
 use Rattle.improve.proofs.stages.run_stages.Goals as goal
 
 pub stages-init : goal.stages-init
@@ -16,6 +17,9 @@ stages-init g c = record {
       c.args.standing.now
       (work_count c.args.work.now + learned_count c.args.search.now.lines) c.requires.standing;
   follows = λ first h. h;
+  shown =
+      shown_none c.args.instance.now (g.T.Progress.state c.args.progress.now)
+      (g.W.Watch-3.seen c.args.watch.now);
 }
 
 pub run_stage-requires-clause-failures : goal.run_stage-requires-clause-failures
@@ -59,9 +63,22 @@ stages-preserved g c =
       search = c.run_stage.ensures.search;
       goes_on = goes_same c.args.instance.now _ _ _ _ _ _ _ _ _ _ a (omega (arith, a.learned));
       follows = λ first h. c.run_stage.ensures.follows first (i.follows first h);
+      shown =
+          shown_more c.args.instance.now _ _ _ _ _ _ i.shown i.goes_on.failures
+          c.run_stage.ensures.shown;
     }
 
 pub returns-clause-goes_on : goal.returns-clause-goes_on
 returns-clause-goes_on g c =
     let a = c.stages.invariant.goes_on in
     goes_same c.args.instance.now _ _ _ _ _ _ _ _ _ _ a (omega (arith, a.learned))
+
+pub returns-in_err-proof-clause-shown : goal.returns-in_err-proof-clause-shown
+returns-in_err-proof-clause-shown g c =
+    let i = c.stages.invariant in
+    shown_more c.args.instance.now _ _ _ _ _ _ i.shown i.goes_on.failures c.run_stage.ensures.shown
+
+pub returns-in-Some-clause-shown : goal.returns-in-Some-clause-shown
+returns-in-Some-clause-shown g c =
+    let i = c.stages.invariant in
+    shown_more c.args.instance.now _ _ _ _ _ _ i.shown i.goes_on.failures c.run_stage.ensures.shown

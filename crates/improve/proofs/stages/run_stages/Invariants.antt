@@ -4,6 +4,7 @@ use Rattle.lrat_log.specs.Steps.{learned_count}
 use Rattle.improve_cores.specs.CoreWork.{IsSearchFor}
 use Rattle.improve.specs.Improving.{work_count}
 use Rattle.improve.specs.Standing.{IsEarlyWork, GoesOn}
+use Rattle.improve.specs.Watch.{AreShown}
 use Rattle.improve.proofs.stages.run_stages.Given as goal
 
 abbrev pub invariant-stages : goal.invariant-stages
@@ -17,4 +18,6 @@ invariant-stages g l = record {
       (work_count l.work + learned_count (l.search).lines);
   follows : (first : g.row.T.Denot) → g.T.Progress.follows first l.fn.progress
       → g.T.Progress.follows first l.progress;
+  shown : AreShown l.instance (g.T.Progress.state l.fn.progress) (g.T.Progress.state l.progress)
+      (g.W.Watch-3.seen l.fn.watch) (g.W.Watch-3.seen l.watch);
 }

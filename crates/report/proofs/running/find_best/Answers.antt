@@ -1,11 +1,15 @@
 -- The writer has what its progress told.
 use Rattle.std.proofs.Common.{◌≡◌, ◌∙◌, refl, sym, ap, subst, rules}
+use Rattle.std.specs.Prelude.{Result, IfOk}
+use Rattle.improve.specs.declared.found.Found.{Found}
+use Rattle.report.specs.declared.fault.RunFault.{RunFault}
 use Rattle.report.specs.Running.{Searches, outcome_of}
-use Rattle.report.proofs.Searched.{search_ended, tells_none}
+use Rattle.report.specs.Seen.{IsShownFor}
+use Rattle.report.proofs.Searched.{search_ended, search_shown, tells_none}
 use Rattle.report.proofs.running.find_best.Goals as goal
 
-pub returns : goal.returns
-returns g c =
+pub returns-clause-searches : goal.returns-clause-searches
+returns-clause-searches g c =
     let held = g.O.Write.contents in
     let p = c.args.instance.now in
     let n = c.new-told.ensures in
@@ -33,4 +37,34 @@ returns g c =
     λ w e. subst (λ x. Searches c.args.profile p c.conclude.result (held c.args.out.now)
     (held x) c.args.budget.now c.search-searched.new.budget)
     (sym (e ∙ ap (λ x. x.now) f.writer)) first in
+    last _ (search rules)
+
+pub returns-clause-shown : goal.returns-clause-shown
+returns-clause-shown g c =
+    let held = g.O.Write.contents in
+    let p = c.args.instance.now in
+    let a = g.K.Watch-3.seen c.args.keeper.now in
+    let b = g.K.Watch-3.seen c.search-searched.new.keeper in
+    let n = c.new-told.ensures in
+    let t =
+    c.search-searched.ensures.follows c.new-told.result
+    (refl, tells_none _ _ _ _ _ n.none) in
+    let f = c.finish-writer.ensures in
+    let result = c.conclude.ensures ∙ ap (outcome_of c.search-searched.result) f.fault in
+    let s =
+    search_shown c.args.profile p c.limits.ensures _ _ c.args.budget.now
+    c.search-searched.new.budget _ _ _ n.none.0 n.none.1 t.1
+    c.search-searched.result a b c.search-searched.ensures.improves
+    c.search-searched.ensures.shown in
+    let first =
+    subst (λ x. IfOk c.conclude.result (λ found. IsShownFor c.args.profile p found (held x)
+    (held c.search-searched.new.progress.writer.now) a b)) n.holds
+    (subst (λ (x : Result Found RunFault). IfOk x (λ found. IsShownFor c.args.profile p found
+    (held c.new-told.result.writer.now) (held c.search-searched.new.progress.writer.now) a b))
+    (sym result) s) in
+    let last : (w : g.row.O.Denot) → w ≡ c.finish-writer.result.writer.now
+    → IfOk c.conclude.result (λ found. IsShownFor c.args.profile p found (held c.args.out.now)
+    (held w) a b) =
+    λ w e. subst (λ x. IfOk c.conclude.result (λ found. IsShownFor c.args.profile p found
+    (held c.args.out.now) (held x) a b)) (sym (e ∙ ap (λ x. x.now) f.writer)) first in
     last _ (search rules)

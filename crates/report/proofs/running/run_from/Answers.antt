@@ -1,6 +1,10 @@
 -- The ends of a run, by what was read, searched and written.
+use Rattle.std.proofs.Common.{[], ◌∷◌, ◌∙◌, ap}
 use Rattle.std.proofs.lemmas.Result.{err_from_is_err_and}
+use Rattle.cdcl_order.specs.Watch.{with_seen}
+use Rattle.report.specs.Best.{end_of}
 use Rattle.report.proofs.Ends.{proof_room, ends, answer_leaves, search_leaves}
+use Rattle.report.proofs.SeenAs.{seen_as}
 use Rattle.report.proofs.running.run_from.Goals as goal
 
 pub returns-in_err-found-clause-fault : goal.returns-in_err-found-clause-fault
@@ -13,7 +17,7 @@ returns-in_err-found-clause-fault g c =
     rw (p.1, p.2) (search_leaves c.args.profile (g.R.Read.remaining c.args.input.now) i.instance
     i.ensures.instance i.ensures.only_one c.args.budget.now c.find_best.new.budget
     (held c.args.out.now) (held c.find_best.new.out) (g.P.Write.contents c.args.proof.now)
-    c.in_err-found.field-0.0 c.in_err-found.ensures)
+    c.in_err-found.field-0.0 c.in_err-found.ensures.searches)
 
 pub write_answer-requires : goal.write_answer-requires
 write_answer-requires g c =
@@ -21,7 +25,7 @@ write_answer-requires g c =
     let f = c.in_ok-found in
     proof_room c.args.profile c.in_ok-instance.instance (held c.args.out.now)
     (held c.find_best.new.out) c.args.budget.now c.find_best.new.budget f.found c.limits.ensures
-    f.ensures
+    f.ensures.searches
 
 pub returns-in_err-write_answer-clause-fault : goal.returns-in_err-write_answer-clause-fault
 returns-in_err-write_answer-clause-fault g c =
@@ -36,7 +40,7 @@ returns-in_err-write_answer-clause-fault g c =
     rw (p.1, p.2) (answer_leaves c.args.profile (g.R.Read.remaining c.args.input.now)
     i.instance i.ensures.instance i.ensures.only_one c.args.budget.now c.find_best.new.budget
     (held c.args.out.now) (held c.find_best.new.out) (held w.new.out) (certified c.args.proof.now)
-    (certified w.new.proof) f.found f.ensures c.in_err-write_answer.field-0.0
+    (certified w.new.proof) f.found f.ensures.searches c.in_err-write_answer.field-0.0
     c.in_err-write_answer.ensures.fault)
 
 pub returns-clause-ok : goal.returns-clause-ok
@@ -49,10 +53,26 @@ returns-clause-ok g c =
     ends c.args.profile (g.R.Read.remaining c.args.input.now) i.instance
     i.ensures.instance i.ensures.only_one c.args.budget.now c.find_best.new.budget
     (held c.args.out.now) (held c.find_best.new.out) (held w.new.out) (certified c.args.proof.now)
-    (certified w.new.proof) f.found f.ensures c.of.result c.of.ensures
+    (certified w.new.proof) f.found f.ensures.searches c.of.result c.of.ensures
     c.in_ok-write_answer.ensures.ok
 
 pub ended-requires : goal.ended-requires
 ended-requires g c =
-    let s = c.in_ok-found.ensures in
+    let s = c.in_ok-found.ensures.searches in
     (c.args.profile, s.tried, s.found)
+
+pub returns-clause-seen : goal.returns-clause-seen
+returns-clause-seen g c =
+    let held = g.O.Write.contents in
+    let certified = g.P.Write.contents in
+    let seen = g.K.Watch-3.seen in
+    let i = c.in_ok-instance in
+    let f = c.in_ok-found in
+    let w = c.write_answer in
+    seen_as c.args.profile (g.R.Read.remaining c.args.input.now) i.instance i.ensures.instance
+    (held c.args.out.now) (held c.find_best.new.out) (held w.new.out) (certified c.args.proof.now)
+    (certified w.new.proof) (seen c.args.keeper.now) (seen c.find_best.new.keeper) _ f.found
+    f.ensures.shown c.in_ok-write_answer.ensures.ok
+    (c.ended.ensures.shown
+    ∙ ap (with_seen (end_of i.instance f.found ∷ [])) c.searched.ensures.quiet) c.of.result
+    c.of.ensures

@@ -8,12 +8,12 @@ use Rattle.improve.proofs.bounds.Bounds.solve.Goals as goal
 
 pub price-requires-clause-long : goal.price-requires-clause-long
 price-requires-clause-long g c =
-    let sat = rw c.in-Sat.is at c.in-Ok.ensures.sat in
+    let sat = rw c.in-Sat.is at c.in-Ok.ensures.solves.sat in
     bits_long c.args.instance.now c.args.self.now c.in-Sat.bits.items c.requires.over sat.0
 
 pub price-requires-clause-feasible : goal.price-requires-clause-feasible
 price-requires-clause-feasible g c = λ t x.
-    let sat = rw c.in-Sat.is at c.in-Ok.ensures.sat in
+    let sat = rw c.in-Sat.is at c.in-Ok.ensures.solves.sat in
     let b = c.requires.bounded in
     (bits_cheaper c.args.instance.now c.args.self.now b.1.0 b.0 c.in-Sat.bits.items c.requires.over
     b.1.1 sat.1 t x).0
@@ -23,8 +23,8 @@ returns-in-Sat-clause-next g c =
     let p = c.args.instance.now in
     let b = c.args.self.now in
     let bits = c.in-Sat.bits.items in
-    let sat = rw c.in-Sat.is at c.in-Ok.ensures.sat in
-    let answers = rw c.in-Sat.is at c.in-Ok.ensures.answers in
+    let sat = rw c.in-Sat.is at c.in-Ok.ensures.solves.sat in
+    let answers = rw c.in-Sat.is at c.in-Ok.ensures.solves.answers in
     record {
       solution = c.price.ensures.solution;
       below =
@@ -35,10 +35,11 @@ returns-in-Sat-clause-next g c =
 
 pub returns-in-Unsat-clause-next : goal.returns-in-Unsat-clause-next
 returns-in-Unsat-clause-next g c =
-    let accepted = rw c.in-Unsat.is at c.in-Ok.ensures.unsat in
-    let answers = rw c.in-Unsat.is at c.in-Ok.ensures.answers in
+    let accepted = rw c.in-Unsat.is at c.in-Ok.ensures.solves.unsat in
+    let answers = rw c.in-Unsat.is at c.in-Ok.ensures.solves.answers in
     let same =
-    same_given c.args.self.now.solver c.solve_watched.new.self c.solve_watched.ensures.solves.given in
+    same_given c.args.self.now.solver c.solve_watched.new.self
+    c.solve_watched.ensures.solves.given in
     record {
       accepted = subst (λ g. IsAcceptedLog g c.solve_watched.new.self.sink) same accepted;
       answers = omega (arith, answers);
@@ -48,10 +49,10 @@ pub returns-in-Limit-clause-next : goal.returns-in-Limit-clause-next
 returns-in-Limit-clause-next g c =
     let p = c.args.instance.now in
     let b = c.args.self.now in
-    let free = rw c.in-Limit.is at c.in-Ok.ensures.stays_open in
-    let refuted = rw c.in-Limit.is at c.in-Ok.ensures.refuted in
-    let left = rw c.in-Limit.is at c.in-Ok.ensures.limit in
-    let answers = rw c.in-Limit.is at c.in-Ok.ensures.answers in
+    let free = rw c.in-Limit.is at c.in-Ok.ensures.solves.stays_open in
+    let refuted = rw c.in-Limit.is at c.in-Ok.ensures.solves.refuted in
+    let left = rw c.in-Limit.is at c.in-Ok.ensures.solves.limit in
+    let answers = rw c.in-Limit.is at c.in-Ok.ensures.solves.answers in
     record {
       open_end = free (λ e. cc);
       above_zero =
@@ -63,18 +64,18 @@ returns-in-Limit-clause-next g c =
 
 pub returns-in-Sat-clause-over : goal.returns-in-Sat-clause-over
 returns-in-Sat-clause-over g c =
+    let s = c.solve_watched.ensures.solves in
     solved_over c.args.instance.now c.args.self.now c.solve_watched.new.self c.requires.over
-    c.solve_watched.ensures.solves.given (λ f. false≢true (c.in-Ok.ensures.fails.1 f))
-    c.solve_watched.ensures.solves.lines c.solve_watched.ensures.solves.grows c.solve_watched.ensures.solves.new
+    s.given (λ f. false≢true (c.in-Ok.ensures.solves.fails.1 f)) s.lines s.grows s.new
 
 pub returns-in-Unsat-clause-over : goal.returns-in-Unsat-clause-over
 returns-in-Unsat-clause-over g c =
+    let s = c.solve_watched.ensures.solves in
     solved_over c.args.instance.now c.args.self.now c.solve_watched.new.self c.requires.over
-    c.solve_watched.ensures.solves.given (λ f. false≢true (c.in-Ok.ensures.fails.1 f))
-    c.solve_watched.ensures.solves.lines c.solve_watched.ensures.solves.grows c.solve_watched.ensures.solves.new
+    s.given (λ f. false≢true (c.in-Ok.ensures.solves.fails.1 f)) s.lines s.grows s.new
 
 pub returns-in-Limit-clause-over : goal.returns-in-Limit-clause-over
 returns-in-Limit-clause-over g c =
+    let s = c.solve_watched.ensures.solves in
     solved_over c.args.instance.now c.args.self.now c.solve_watched.new.self c.requires.over
-    c.solve_watched.ensures.solves.given (λ f. false≢true (c.in-Ok.ensures.fails.1 f))
-    c.solve_watched.ensures.solves.lines c.solve_watched.ensures.solves.grows c.solve_watched.ensures.solves.new
+    s.given (λ f. false≢true (c.in-Ok.ensures.solves.fails.1 f)) s.lines s.grows s.new
