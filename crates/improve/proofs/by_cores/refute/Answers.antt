@@ -93,3 +93,8 @@ pub returns-in_default-end_refutation-clause-shown :
 returns-in_default-end_refutation-clause-shown g c =
     shown_quiet c.args.instance.now (g.T.Progress.state c.args.progress.now) _ _
     (c.end_refutation.ensures.quiet ∙ c.refute.ensures.quiet)
+
+pub returns-in-Ok-end_refutation-clause-shown : goal.returns-in-Ok-end_refutation-clause-shown
+returns-in-Ok-end_refutation-clause-shown g c =
+    shown_quiet c.args.instance.now (g.T.Progress.state c.args.progress.now) _ _
+    (c.end_refutation.ensures.quiet ∙ c.refute.ensures.quiet)
