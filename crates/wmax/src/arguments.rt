@@ -1,7 +1,4 @@
 //! What a command line asks for, read once: which command, of which files, and how.
-ghost use Rattle.std.specs.Prelude.{◌<◌, ◌≤◌, ◌^◌};
-ghost use Rattle.cnf.specs.declared.limits.TheConstants.{NUMBER_LIMIT};
-
 use clap::ArgMatches;
 use report::options::{
     BEST_OPTION, CHECK, CONFLICTS_OPTION, COST, ENCODE, EXPLAIN, FILE, FROM_OPTION, LOWER,
@@ -31,7 +28,6 @@ pub struct SolveRequest<'a> {
     pub text: &'a str,
     /// The greatest effort, at most 2^62.
     pub limit: u64,
-    ghost effort: { limit ≤ 2 ^ 62 },
     /// The name of the profile, where one is named.
     pub profile: Option<&'a str>,
     /// Where the certificate is written.
@@ -86,7 +82,6 @@ pub struct EncodeRequest<'a> {
     pub text: &'a str,
     /// The bound, below 2^62.
     pub cost: u64,
-    ghost small: { cost < NUMBER_LIMIT },
     /// The certificate whose core lines are counted.
     pub proof: Option<&'a str>,
     /// The name of the profile, where one is named.
@@ -113,10 +108,7 @@ impl<'a> SolveRequest<'a> {
     fn of(matches: &'a ArgMatches<'_>) -> Option<Self> {
         Some(SolveRequest {
             text: matches.get_str(FILE)?,
-            // Said again, since nothing is known here of the greatest that `clap` lets pass.
-            limit: matches
-                .get_one::<u64>(CONFLICTS_OPTION)?
-                .min(MOST_CONFLICTS),
+            limit: matches.get_one::<u64>(CONFLICTS_OPTION)?,
             profile: matches.get_str(PROFILE_OPTION),
             proof: matches.get_str(PROOF_OPTION),
             best: matches.get_str(BEST_OPTION),
@@ -161,8 +153,7 @@ impl<'a> EncodeRequest<'a> {
     fn of(matches: &'a ArgMatches<'_>) -> Option<Self> {
         Some(EncodeRequest {
             text: matches.get_str(FILE)?,
-            // As above.
-            cost: matches.get_one::<u64>(COST)?.min(MOST_COST),
+            cost: matches.get_one::<u64>(COST)?,
             proof: matches.get_str(PROOF_OPTION),
             profile: matches.get_str(PROFILE_OPTION),
         })

@@ -9,6 +9,7 @@ use bound::encoding::{WatchedWriter, write_formula};
 use bound::formulas::write_dimacs;
 use lrat_check::core_formula::{RefutedFormula, core_formula};
 use report::fault::RunFault;
+use report::options::MOST_COST;
 use report::printing::deliver;
 use std::fs::File;
 use std::io::{self, Read, Write};
@@ -32,9 +33,11 @@ pub fn encode<R: Files + AllocGlobal + Print + Env, E: Write>(
         Ok(profile) => profile,
         Err(why) => return refuse_profile(messages, why),
     };
+    // `clap` lets no greater cost pass; said again, since nothing is known of that here.
+    let cost = request.cost.min(MOST_COST);
     let Some(proof) = request.proof else {
         let mut text = File::open(rt, request.text).map_err(|_| UNREADABLE)?;
-        return encode_bound(rt, &mut text, request.cost, profile);
+        return encode_bound(rt, &mut text, cost, profile);
     };
     if !matches!(profile, Profile::Five) {
         let _ = writeln!(messages.below(), "{NO_CORES}");
@@ -42,7 +45,7 @@ pub fn encode<R: Files + AllocGlobal + Print + Env, E: Write>(
     }
     let mut text = File::open(rt, request.text).map_err(|_| UNREADABLE)?;
     let mut proof = File::open(rt, proof).map_err(|_| UNREADABLE)?;
-    encode_refuted(rt, messages, &mut text, &mut proof, request.cost)
+    encode_refuted(rt, messages, &mut text, &mut proof, cost)
 }
 
 /// Prints the formula for 'cost below COST'. The process ends after it, so the clauses of the text

@@ -9,6 +9,7 @@ use lrat_check::checking::check_as;
 use lrat_check::lower::{LowerVerdict, check_lower};
 use lrat_check::verdicts::Cause;
 use report::fault::RunFault;
+use report::options::MOST_CONFLICTS;
 use report::running::run_from;
 use std::alloc::Global;
 use std::fs::File;
@@ -69,7 +70,8 @@ pub fn solve<R: Files + AllocGlobal + Print + Env + Clock, E: Write>(
     };
     let search = Search {
         profile,
-        budget: Budget::new(request.limit),
+        // `clap` lets no greater one pass; said again, since nothing is known of that here.
+        budget: Budget::new(request.limit.min(MOST_CONFLICTS)),
         start: None,
         best: request.best,
         lower: request.lower,
