@@ -51,7 +51,7 @@ optimum 0 1
 solved 'the greatest weight' 30
 lines text 'h 1 -1 0' '2 1 1 0' '3 -1 0'
 optimum 2 0
-solved 'a clause with opposites, and a repeat' 30
+solved 'a clause with complementary literals, and a repeat' 30
 lines text 'h 1 2 0'
 result='s UNKNOWN'
 solved 'no effort' 0 --conflicts 0

@@ -50,7 +50,7 @@ ok 'no cost: no core' [ "$status" = 30 -a "$(grep -c core "$work/proof")" = 0 ]
 lines text '5 0'
 solve 'the empty clause'
 lines text '5 1 -1 0' '2 1 0' '3 -1 0'
-solve 'a tautology and opposites'
+solve 'a tautology and tautologies'
 lines text '4611686018427387903 0'
 solve 'the greatest weight'
 

@@ -1,4 +1,4 @@
--- Dropped repeats, clauses with an opposite pair and the order change no value.
+-- Dropped repeats, clauses with complementary literals and the order change no value.
 use Rattle.std.proofs.Common.{◌≡◌, Bool, true, false, not, ◌&&◌, ◌||◌, List, [], ◌∷◌, reverse}
 use Rattle.std.proofs.Common.{if◌then◌else◌, All, ◌↔◌, refl, sym, ◌∙◌, ap, subst}
 use Rattle.std.specs.List.{list_all, list_any}
@@ -7,9 +7,9 @@ use Rattle.std.proofs.lemmas.List.Folds.{list_all-append}
 use Rattle.std.proofs.lemmas.List.Sums.{AllPass-from_list_all, list_all-from_AllPass}
 use Rattle.cnf.specs.Literal.{Assignment, Literal, negation, literal_value, literal_eq}
 use Rattle.cnf.specs.Clause.{Satisfies, clause_value, without_literal, distinct}
-use Rattle.cnf.specs.Clause.{has_opposites}
+use Rattle.cnf.specs.Clause.{is_tautology}
 use Rattle.cnf.specs.Problem.{Problem, IsFeasible}
-use Rattle.cnf.proofs.Laws.{literal_eq-true, opposites_true}
+use Rattle.cnf.proofs.Laws.{literal_eq-true, tautologies_true}
 use Rattle.bound.specs.Bound.{kept, hard_cnf}
 
 -- the clauses are all true
@@ -63,11 +63,11 @@ pub all_true-kept : (t : Assignment) (cs : List (List Literal))
     → all_true t (kept cs) ≡ all_true t cs
 all_true-kept t [] = refl
 all_true-kept t (c ∷ cs) =
-    elim (has_opposites (distinct c)) as (λ b. has_opposites (distinct c) ≡ b
+    elim (is_tautology (distinct c)) as (λ b. is_tautology (distinct c) ≡ b
     → all_true t (if not b then distinct c ∷ kept cs else kept cs) ≡ all_true t (c ∷ cs)) [
       | true ↦ λ h. all_true-kept t cs
           ∙ ap (λ b. b && all_true t cs)
-          (sym (sym (any-distinct (literal_value t) c) ∙ opposites_true t (distinct c) h))
+          (sym (sym (any-distinct (literal_value t) c) ∙ tautologies_true t (distinct c) h))
       | false ↦ λ h. λ i. any-distinct (literal_value t) c i && all_true-kept t cs i
     ] refl
 

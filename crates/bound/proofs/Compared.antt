@@ -1,5 +1,5 @@
--- The clauses of a comparator: no opposite pair, none empty but for the bound 0, and no variables
--- but those of the outputs, or of the sums.
+-- The clauses of a comparator: no complementary literals, none empty but for the bound 0, and no
+-- variables but those of the outputs, or of the sums.
 use Rattle.std.proofs.Common.{◌≡◌, ℕ, zero, suc, ◌+◌, ◌/◌, ◌%◌, ◌^◌, ◌<◌, true, false, not, List}
 use Rattle.std.proofs.Common.{[]}
 use Rattle.std.proofs.Common.{◌∷◌, ◌++◌, length, map, filter, reverse, Option, Some, None, ◌==◌}
@@ -7,7 +7,7 @@ use Rattle.std.proofs.Common.{nat_lt}
 use Rattle.std.proofs.Common.{nat_le, if◌then◌else◌, refl, subst, arith}
 use Rattle.std.specs.List.{AllByRecursion}
 use Rattle.cnf.specs.Literal.{Literal, literal_eq}
-use Rattle.cnf.specs.Clause.{without_literal, distinct, has_opposites}
+use Rattle.cnf.specs.Clause.{without_literal, distinct, is_tautology}
 use Rattle.cnf.specs.Problem.{Problem}
 use Rattle.cnf.proofs.Laws.{all_append}
 use Rattle.adder.specs.declared.cells.Profile.{Profile}
@@ -35,17 +35,17 @@ pub kept_each : (P : List Literal → Type 0) → ((c : List Literal) → P c �
     → (cs : List (List Literal)) → AllByRecursion P cs → AllByRecursion P (kept cs)
 kept_each P f [] h = tt
 kept_each P f (c ∷ cs) h =
-    elim (has_opposites (distinct c)) as (λ b. AllByRecursion P (if not b then distinct c ∷ kept cs
+    elim (is_tautology (distinct c)) as (λ b. AllByRecursion P (if not b then distinct c ∷ kept cs
     else kept cs)) [
       | true ↦ kept_each P f cs h.1
       | false ↦ (f c h.0, kept_each P f cs h.1)
     ]
 
-kept_open : (cs : List (List Literal)) → AllByRecursion (λ c. has_opposites c ≡ false) (kept cs)
+kept_open : (cs : List (List Literal)) → AllByRecursion (λ c. is_tautology c ≡ false) (kept cs)
 kept_open [] = tt
 kept_open (c ∷ cs) =
-    elim (has_opposites (distinct c)) as (λ b. has_opposites (distinct c) ≡ b
-    → AllByRecursion (λ c. has_opposites c ≡ false) (if not b then distinct c ∷ kept cs
+    elim (is_tautology (distinct c)) as (λ b. is_tautology (distinct c) ≡ b
+    → AllByRecursion (λ c. is_tautology c ≡ false) (if not b then distinct c ∷ kept cs
     else kept cs)) [
       | true ↦ λ e. kept_open cs
       | false ↦ λ e. (e, kept_open cs)
@@ -60,13 +60,13 @@ over_sums P n k h =
       | false ↦ h
     ]
 
--- no clause has an opposite pair
+-- no clause has complementary literals
 pub comparator_open : (a : Addition) (k : ℕ)
-    → AllByRecursion (λ c. has_opposites c ≡ false) (comparator_over a k)
+    → AllByRecursion (λ c. is_tautology c ≡ false) (comparator_over a k)
 comparator_open (Network n) zero = (refl, tt)
 comparator_open (Network n) (suc limit) = kept_open (reverse (rising_clauses n.outputs limit 0))
 comparator_open (Sums n) k =
-    over_sums (λ c. has_opposites c ≡ false) n k (kept_open (comparator n k))
+    over_sums (λ c. is_tautology c ≡ false) n k (kept_open (comparator n k))
 
 -- no clause is empty
 abbrev IsSome : List Literal → Type 0

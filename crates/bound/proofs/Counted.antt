@@ -10,7 +10,7 @@ use Rattle.std.proofs.lemmas.List.Folds.{list_all-append}
 use Rattle.std.proofs.lemmas.List.Elements.{recursion_from_All, All-from_recursion, All-weaker}
 use Rattle.cnf.specs.Literal.{Assignment, Literal, literal_eq, negative, positive}
 use Rattle.cnf.specs.Clause.{Satisfies, clause_value, contains_literal, greatest_variable}
-use Rattle.cnf.specs.Clause.{has_opposites, has_repeat}
+use Rattle.cnf.specs.Clause.{is_tautology, has_repeat}
 use Rattle.cnf.specs.Formula.{IsFormula, IsFormulaClause}
 use Rattle.cnf.specs.Instance.{IsInstance, IsClauseWithin}
 use Rattle.cnf.specs.Numbers.{RisesFrom}
@@ -169,10 +169,10 @@ no_positive v (w ∷ vs) =
     (literal_eq_ne (positive v) (negative w)
     (λ e. false≢true (ap (λ (l : Literal). l.negated) e))) (no_positive v vs)
 
-pub negatives_apart : (vs : List ℕ) → has_opposites (map negative vs) ≡ false
+pub negatives_apart : (vs : List ℕ) → is_tautology (map negative vs) ≡ false
 negatives_apart [] = refl
 negatives_apart (v ∷ vs) =
-    or_from (contains_literal (positive v) (map negative vs)) (has_opposites (map negative vs))
+    or_from (contains_literal (positive v) (map negative vs)) (is_tautology (map negative vs))
     (no_positive v vs) (negatives_apart vs)
 
 -- the clause of the first outputs stays as it is

@@ -8,7 +8,7 @@ use Rattle.std.proofs.lemmas.Bool.{eq-eqb}
 use Rattle.std.proofs.lemmas.List.{length-append, length-map, length-reverse}
 use Rattle.std.proofs.lemmas.Nat.Bits.{bit_at_ones}
 use Rattle.cnf.specs.Literal.{Literal}
-use Rattle.cnf.specs.Clause.{distinct, has_opposites}
+use Rattle.cnf.specs.Clause.{distinct, is_tautology}
 use Rattle.cnf.specs.Problem.{Problem}
 use Rattle.cnf.specs.Instance.{IsInstance}
 use Rattle.adder.specs.declared.cells.Cell.{Cell}
@@ -26,7 +26,7 @@ use Rattle.bound.proofs.Addition.{clauses_with, addition_cases, sums_few}
 pub kept_le : (cs : List (List Literal)) → length (kept cs) ≤ length cs
 kept_le cs =
     subst (λ n. length (kept cs) ≤ n) (length-map cs distinct)
-    (filter_le (λ c. not (has_opposites c)) (map distinct cs))
+    (filter_le (λ c. not (is_tautology c)) (map distinct cs))
 
 pub cells_le : (cells : List Cell) → length (flat_map cell_clauses cells) ≤ 14 * length cells
 cells_le [] = omega arith

@@ -1,4 +1,5 @@
--- The formulas have clauses with no repeat, no opposite pair and variables within their number.
+-- The formulas have clauses with no repeat, no complementary literals and variables within their
+-- number.
 use Rattle.std.proofs.Common.{◌≡◌, ℕ, zero, suc, ◌+◌, ◌*◌, ◌^◌, ◌<◌, ◌≤◌, true, false, not}
 use Rattle.std.proofs.Common.{◌-◌, sym, List, [], ◌∷◌, ◌++◌, length, map, filter, reverse, Option}
 use Rattle.std.proofs.Common.{Some, None}
@@ -6,7 +7,7 @@ use Rattle.std.proofs.Common.{if◌then◌else◌, refl, All, subst, arith}
 use Rattle.std.specs.List.{AllByRecursion, flat_map}
 use Rattle.std.proofs.lemmas.List.Elements.{recursion_from_All, All-from_recursion, All-append}
 use Rattle.cnf.specs.Literal.{Literal}
-use Rattle.cnf.specs.Clause.{distinct, has_repeat, has_opposites, greatest_variable}
+use Rattle.cnf.specs.Clause.{distinct, has_repeat, is_tautology, greatest_variable}
 use Rattle.cnf.specs.Formula.{IsFormula, IsFormulaClause}
 use Rattle.cnf.specs.Problem.{Problem, SoftClause}
 use Rattle.cnf.specs.Instance.{IsInstance, IsClauseWithin}
@@ -51,14 +52,14 @@ pub kept_formula : (v : ℕ) (cs : List (List Literal)) → AllByRecursion (IsPl
     → AllByRecursion (IsFormulaClause v) (kept cs)
 kept_formula v [] h = tt
 kept_formula v (c ∷ cs) h =
-    elim (has_opposites (distinct c)) as (λ b. has_opposites (distinct c) ≡ b
+    elim (is_tautology (distinct c)) as (λ b. is_tautology (distinct c) ≡ b
     → AllByRecursion (IsFormulaClause v) (if not b then distinct c ∷ kept cs else kept cs)) [
       | true ↦ λ e. kept_formula v cs h.1
       | false ↦ λ e.
           let plain = distinct_of (IsVariable v) c h.0 in (
             record {
               no_repeat = repeat_distinct c;
-              no_opposites = e;
+              no_tautology = e;
               from_one =
                   All-from_recursion (λ l. 0 < l.variable) (distinct c)
                   (plain_positive v (distinct c) plain);
@@ -159,7 +160,7 @@ pub comparator_formula : (v : ℕ) (outputs : List (Option Literal)) (k : ℕ)
 comparator_formula v outputs zero h = (
   record {
     no_repeat = refl;
-    no_opposites = refl;
+    no_tautology = refl;
     from_one = λ i d l. absurd (omega arith);
     small = omega arith;
   },
@@ -176,7 +177,7 @@ IsOnce c = has_repeat c ≡ false
 once_kept : (cs : List (List Literal)) → AllByRecursion IsOnce (kept cs)
 once_kept [] = tt
 once_kept (c ∷ cs) =
-    elim (has_opposites (distinct c))
+    elim (is_tautology (distinct c))
     as (λ b. AllByRecursion IsOnce (if not b then distinct c ∷ kept cs else kept cs)) [
       | true ↦ once_kept cs
       | false ↦ (repeat_distinct c, once_kept cs)

@@ -5,7 +5,7 @@ use Rattle.std.proofs.Common.{◌∙◌, ap, append_assoc, append-nil}
 use Rattle.std.proofs.lemmas.Bool.{or_parts}
 use Rattle.std.proofs.lemmas.List.{take_more}
 use Rattle.cnf.specs.Literal.{Literal, literal_eq, same_bool}
-use Rattle.cnf.specs.Clause.{contains_literal, without_literal, distinct, has_repeat, has_opposites}
+use Rattle.cnf.specs.Clause.{contains_literal, without_literal, distinct, has_repeat, is_tautology}
 use Rattle.bound.specs.Bound.{kept}
 use Rattle.bound.specs.Adding.{Adds}
 use Rattle.cnf.proofs.Laws.{same_number, repeat_distinct}
@@ -30,10 +30,10 @@ distinct_same (l ∷ c) h =
 abbrev kept_of : Bool → List Literal → List (List Literal)
 kept_of b c = if not b then c ∷ [] else []
 
-pub kept_one : (c : List Literal) (b : Bool) → has_repeat c ≡ false → b ≡ has_opposites c
+pub kept_one : (c : List Literal) (b : Bool) → has_repeat c ≡ false → b ≡ is_tautology c
     → kept (c ∷ []) ≡ (if b then [] else c ∷ [])
 kept_one c b h e =
-    ap (λ x. if not (has_opposites x) then x ∷ [] else []) (distinct_same c h)
+    ap (λ x. if not (is_tautology x) then x ∷ [] else []) (distinct_same c h)
     ∙ ap (λ x. if not x then c ∷ [] else []) (sym e) ∙ by b
   where
     by : (x : Bool) → (if not x then c ∷ [] else []) ≡ (if x then [] else c ∷ [])
@@ -43,7 +43,7 @@ kept_one c b h e =
 pub kept-append : (cs ds : List (List Literal)) → kept (cs ++ ds) ≡ kept cs ++ kept ds
 kept-append [] ds = refl
 kept-append (c ∷ cs) ds =
-    elim (has_opposites (distinct c)) as (λ b. (if not b then distinct c ∷ kept (cs ++ ds)
+    elim (is_tautology (distinct c)) as (λ b. (if not b then distinct c ∷ kept (cs ++ ds)
     else kept (cs ++ ds)) ≡ (if not b then distinct c ∷ kept cs else kept cs) ++ kept ds) [
       | true ↦ kept-append cs ds
       | false ↦ ap (λ x. distinct c ∷ x) (kept-append cs ds)
@@ -63,16 +63,16 @@ kept_more old cs i c now new h is inv e =
 -- repeats may be dropped before
 pub kept-distinct : (c once : List Literal) → once ≡ distinct c → kept (once ∷ []) ≡ kept (c ∷ [])
 kept-distinct c once e =
-    ap (λ x. if not (has_opposites x) then x ∷ [] else [])
+    ap (λ x. if not (is_tautology x) then x ∷ [] else [])
     (distinct_same once (rw e (repeat_distinct c)) ∙ e)
 
--- a clause that has an opposite pair adds nothing, and another one itself
+-- a clause that has complementary literals adds nothing, and another one itself
 pub kept_none : (old : List (List Literal)) (c : List Literal) → has_repeat c ≡ false
-    → has_opposites c ≡ true → old ≡ old ++ kept (c ∷ [])
+    → is_tautology c ≡ true → old ≡ old ++ kept (c ∷ [])
 kept_none old c h e = sym (append-nil old) ∙ ap (λ x. old ++ x) (sym (kept_one c true h (sym e)))
 
 pub kept_itself : (old : List (List Literal)) (c : List Literal) → has_repeat c ≡ false
-    → has_opposites c ≡ false → old ++ c ∷ [] ≡ old ++ kept (c ∷ [])
+    → is_tautology c ≡ false → old ++ c ∷ [] ≡ old ++ kept (c ∷ [])
 kept_itself old c h e = ap (λ x. old ++ x) (sym (kept_one c false h (sym e)))
 
 without-more : (k : Literal) (c : List Literal) (l : Literal) (b : Bool) → literal_eq k l ≡ b

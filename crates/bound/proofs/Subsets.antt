@@ -7,7 +7,7 @@ use Rattle.std.proofs.lemmas.Grind.{reverse_onto}
 use Rattle.std.proofs.lemmas.List.Folds.{list_any-append}
 use Rattle.std.proofs.Math.Bool.{or_comm}
 use Rattle.cnf.specs.Literal.{Literal, negation, literal_eq}
-use Rattle.cnf.specs.Clause.{contains_literal, distinct, has_opposites, is_subset}
+use Rattle.cnf.specs.Clause.{contains_literal, distinct, is_tautology, is_subset}
 use Rattle.cnf.proofs.Laws.{literal_eq-refl, literal_eq-true, negation_twice, all_append, subset_at}
 use Rattle.cnf.proofs.Laws.{subset_from}
 use Rattle.bound.specs.Bound.{kept}
@@ -35,54 +35,54 @@ subset-distinct d c h =
     subset_from (distinct d) (distinct c) (λ l m. any-distinct (literal_eq l) c
     ∙ subset_at d c l h (sym (any-distinct (literal_eq l) d) ∙ m))
 
-opposites_from : (c : List Literal) → has_opposites c ≡ true
+tautologies_from : (c : List Literal) → is_tautology c ≡ true
     → (l : Literal) × (contains_literal l c ≡ true) × (contains_literal (negation l) c ≡ true)
-opposites_from [] h = absurd (false≢true h)
-opposites_from (k ∷ c) h =
-    elim (or_cases (contains_literal (negation k) c) (has_opposites c) h) [
+tautologies_from [] h = absurd (false≢true h)
+tautologies_from (k ∷ c) h =
+    elim (or_cases (contains_literal (negation k) c) (is_tautology c) h) [
       | inl here ↦ (
         k,
         or_left (literal_eq k k) (contains_literal k c) (literal_eq-refl k),
         or_right (literal_eq (negation k) k) (contains_literal (negation k) c) here,
       )
       | inr more ↦
-          let r = opposites_from c more in (
+          let r = tautologies_from c more in (
             r.0,
             or_right (literal_eq r.0 k) (contains_literal r.0 c) r.1,
             or_right (literal_eq (negation r.0) k) (contains_literal (negation r.0) c) r.2,
           )
     ]
 
-opposites_to : (l : Literal) (c : List Literal) → contains_literal l c ≡ true
-    → contains_literal (negation l) c ≡ true → has_opposites c ≡ true
-opposites_to l [] h g = absurd (false≢true h)
-opposites_to l (k ∷ c) h g =
+tautologies_to : (l : Literal) (c : List Literal) → contains_literal l c ≡ true
+    → contains_literal (negation l) c ≡ true → is_tautology c ≡ true
+tautologies_to l [] h g = absurd (false≢true h)
+tautologies_to l (k ∷ c) h g =
     elim (or_cases (literal_eq l k) (contains_literal l c) h) [
       | inl here ↦ elim (or_cases (literal_eq (negation l) k) (contains_literal (negation l) c) g) [
         | inl too ↦ absurd (not_own_negation l (literal_eq-true l k here
             ∙ sym (literal_eq-true (negation l) k too)))
-        | inr rest ↦ or_left (contains_literal (negation k) c) (has_opposites c)
+        | inr rest ↦ or_left (contains_literal (negation k) c) (is_tautology c)
             (subst (λ x. contains_literal (negation x) c ≡ true) (literal_eq-true l k here) rest)
       ]
       | inr more ↦ elim (or_cases (literal_eq (negation l) k) (contains_literal (negation l) c) g) [
-        | inl too ↦ or_left (contains_literal (negation k) c) (has_opposites c)
+        | inl too ↦ or_left (contains_literal (negation k) c) (is_tautology c)
             (subst (λ x. contains_literal (negation x) c ≡ true)
             (literal_eq-true (negation l) k too)
             (subst (λ x. contains_literal x c ≡ true) (sym (negation_twice l)) more))
-        | inr rest ↦ or_right (contains_literal (negation k) c) (has_opposites c)
-            (opposites_to l c more rest)
+        | inr rest ↦ or_right (contains_literal (negation k) c) (is_tautology c)
+            (tautologies_to l c more rest)
       ]
     ]
 
--- a subset of a clause with no opposite pair has none
-subset_no_opposites : (d c : List Literal) → is_subset d c ≡ true → has_opposites c ≡ false
-    → has_opposites d ≡ false
-subset_no_opposites d c h e =
-    elim (has_opposites d) as (λ b. has_opposites d ≡ b → b ≡ false) [
+-- a subset of a clause with no complementary literals has none
+subset_no_tautology : (d c : List Literal) → is_subset d c ≡ true → is_tautology c ≡ false
+    → is_tautology d ≡ false
+subset_no_tautology d c h e =
+    elim (is_tautology d) as (λ b. is_tautology d ≡ b → b ≡ false) [
       | false ↦ λ g. refl
       | true ↦ λ g.
-          let r = opposites_from d g in
-          absurd (both_ways _ e (opposites_to r.0 c (subset_at d c r.0 h r.1)
+          let r = tautologies_from d g in
+          absurd (both_ways _ e (tautologies_to r.0 c (subset_at d c r.0 h r.1)
           (subset_at d c (negation r.0) h r.2)))
     ] refl
 
@@ -108,16 +108,16 @@ covers-reverse (d ∷ cs) c =
     ∙ or_comm (covers cs c) (is_subset d c)
 
 covers-kept : (cs : List (List Literal)) (c : List Literal) → covers cs c ≡ true
-    → has_opposites (distinct c) ≡ false → covers (kept cs) (distinct c) ≡ true
+    → is_tautology (distinct c) ≡ false → covers (kept cs) (distinct c) ≡ true
 covers-kept [] c h e = absurd (false≢true h)
 covers-kept (d ∷ cs) c h e =
     elim (or_cases (is_subset d c) (covers cs c) h) [
       | inl here ↦
           let sub = subset-distinct d c here in
           ap (λ b. covers (if not b then distinct d ∷ kept cs else kept cs) (distinct c))
-          (subset_no_opposites (distinct d) (distinct c) sub e)
+          (subset_no_tautology (distinct d) (distinct c) sub e)
           ∙ or_left (is_subset (distinct d) (distinct c)) (covers (kept cs) (distinct c)) sub
-      | inr more ↦ elim (has_opposites (distinct d))
+      | inr more ↦ elim (is_tautology (distinct d))
           as (λ b. covers (if not b then distinct d ∷ kept cs else kept cs) (distinct c) ≡ true) [
             | true ↦ covers-kept cs c more e
             | false ↦ or_right (is_subset (distinct d) (distinct c)) (covers (kept cs) (distinct c))
@@ -132,7 +132,7 @@ AreCovered cs ds = AllByRecursion (λ c. covers cs c ≡ true) ds
 pub kept_each : (cs ds : List (List Literal)) → AreCovered cs ds → AreCovered (kept cs) (kept ds)
 kept_each cs [] h = tt
 kept_each cs (d ∷ ds) h =
-    elim (has_opposites (distinct d)) as (λ b. has_opposites (distinct d) ≡ b
+    elim (is_tautology (distinct d)) as (λ b. is_tautology (distinct d) ≡ b
     → AreCovered (kept cs) (if not b then distinct d ∷ kept ds else kept ds)) [
       | true ↦ λ e. kept_each cs ds h.1
       | false ↦ λ e. (covers-kept cs d h.0 e, kept_each cs ds h.1)

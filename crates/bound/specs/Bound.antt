@@ -6,7 +6,7 @@ use Rattle.std.specs.List.{flat_map}
 use Rattle.std.specs.Fmt.{decimal}
 use lib.Chars.{codes}
 use Rattle.cnf.specs.Literal.{Assignment, Literal, negation, positive}
-use Rattle.cnf.specs.Clause.{Satisfies, IsCovered, distinct, has_opposites}
+use Rattle.cnf.specs.Clause.{Satisfies, IsCovered, distinct, is_tautology}
 use Rattle.cnf.specs.Formula.{Cnf, IsUnsatisfiable}
 use Rattle.cnf.specs.Problem.{Problem, IsFeasible, cost_under}
 use Rattle.cnf.specs.declared.limits.TheConstants.{NUMBER_LIMIT}
@@ -26,9 +26,9 @@ use Rattle.cores.specs.Cores.{Counted, counted_clauses}
 use Rattle.bound.specs.declared.additions.Addition.{Addition}
 use Rattle.bound.specs.declared.additions.Addition.TheVariants.{Network, Sums}
 
--- repeats dropped, and clauses with an opposite pair left out
+-- repeats dropped, and clauses with complementary literals left out
 abbrev pub kept : List (List Literal) → List (List Literal)
-kept cs = filter (λ c. not (has_opposites c)) (map distinct cs)
+kept cs = filter (λ c. not (is_tautology c)) (map distinct cs)
 
 abbrev pub hard_cnf : Problem → Cnf
 hard_cnf p = record { variables = p.variables; clauses = kept p.hard }

@@ -21,8 +21,8 @@ use std::alloc::AllocError;
 /// outputs are true (Morgado, Dodaro and Marques-Silva, "Core-Guided MaxSAT with Soft Cardinality
 /// Constraints", 2014; Bailleux and Boufkhad, "Efficient CNF Encoding of Boolean Cardinality
 /// Constraints", 2003). Where it is unsatisfiable, no solution costs less than the cores are worth
-/// together, whatever they are. No clause has a repeated literal, and those with an opposite pair
-/// are left out.
+/// together, whatever they are. No clause has a repeated literal, and those with complementary
+/// literals are left out.
 ///
 /// # Errors
 ///

@@ -21,7 +21,7 @@ use adder::cells::{Cell, Profile};
 use adder::networks::Network;
 use cnf::clause_list::ClauseList;
 use cnf::marks::Marks;
-use cnf::opposites::are_opposed;
+use cnf::tautologies::is_tautology_by;
 use cnf::types::Instance;
 use std::alloc::AllocError;
 use std::io::Write;
@@ -204,7 +204,7 @@ fn count_hard(instance: &Instance, marks: &mut Marks) -> usize
     instance.limits();
     let mut count = 0;
     for clause in instance.hard().iter() {
-        if !are_opposed(marks, clause) {
+        if !is_tautology_by(marks, clause) {
             count += 1;
         }
     }
@@ -269,7 +269,7 @@ fn put_hard<W: Write>(
 {
     instance.limits();
     for clause in instance.hard().iter() {
-        if !are_opposed(marks, clause) {
+        if !is_tautology_by(marks, clause) {
             put_clause(block, writer, clause)?;
         }
     }

@@ -24,7 +24,7 @@ use std::alloc::AllocError;
 /// comparator of its outputs with `k` (Eén and Sörensson, "Translating Pseudo-Boolean Constraints
 /// into SAT", 2006). An assignment that satisfies it is a solution that costs less than `k`, and
 /// each such solution extends to one that does. No clause has a repeated literal, and those with an
-/// opposite pair are left out.
+/// complementary literals are left out.
 ///
 /// # Errors
 ///

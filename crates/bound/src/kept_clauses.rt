@@ -1,7 +1,7 @@
-// Clauses as formulas have them: each literal once, and none with an opposite pair, which every
-// assignment satisfies.
+// Clauses as formulas have them: each literal once, and none with complementary literals, which
+// every assignment satisfies.
 ghost use Rattle.std.specs.Prelude.{◌≡◌, false, [], ◌∷◌, ◌++◌, length, All, IfOk, OnOk};
-ghost use Rattle.cnf.specs.Clause.{contains_literal, distinct, has_repeat, has_opposites};
+ghost use Rattle.cnf.specs.Clause.{contains_literal, distinct, has_repeat, is_tautology};
 ghost use Rattle.bound.specs.Bound.{kept};
 ghost use Rattle.bound.specs.Adding.{Adds};
 ghost use Rattle.cnf.specs.Marks.{HasPlace};
@@ -9,7 +9,7 @@ ghost use Rattle.cnf.specs.Marks.{HasPlace};
 use crate::repeats::has_repeat;
 use cnf::clause_list::ClauseList;
 use cnf::marks::Marks;
-use cnf::opposites::{are_opposed, has_opposites};
+use cnf::tautologies::{is_tautology, is_tautology_by};
 use cnf::types::Lit;
 use std::alloc::{AllocError, Global};
 
@@ -25,7 +25,7 @@ pub(crate) fn keep(
     ensures clauses { OnOk result (clauses.new ≡ clauses.old ++ kept (lits.now ∷ [])) }
     ensures marks { length marks.new ≡ length marks.old }
 {
-    if are_opposed(marks, lits) {
+    if is_tautology_by(marks, lits) {
         return Ok(());
     }
     clauses.push(lits)
@@ -59,7 +59,7 @@ fn keep_once(clauses: &mut ClauseList, lits: &[Lit]) -> Result<(), AllocError>
     requires { has_repeat lits.now ≡ false }
     ensures { OnOk result (clauses.new ≡ clauses.old ++ kept (lits.now ∷ [])) }
 {
-    if has_opposites(lits) {
+    if is_tautology(lits) {
         return Ok(());
     }
     clauses.push(lits)

@@ -8,7 +8,7 @@ use Rattle.std.proofs.lemmas.Option.{same_Some, slice_get-get_or, slice_get_with
 use Rattle.cnf.specs.Literal.{Literal, positive, negative}
 use Rattle.cnf.specs.Clause.{contains_literal}
 use Rattle.propagate.specs.Trail.{Assigned, literals_of, value_in}
-use Rattle.propagate.proofs.Laws.{NoOpposites}
+use Rattle.propagate.proofs.Laws.{NoTautology}
 use Rattle.eliminate.specs.Elimination.{Removed, extended, IsFree}
 use Rattle.eliminate.proofs.Laws.{length-extended}
 use Rattle.cdcl_search.specs.Giving.{IsFrozen}
@@ -18,7 +18,7 @@ use Rattle.cdcl_search.proofs.Laws.{extended_frozen}
 use Rattle.cdcl.proofs.Satisfied.{value_by}
 
 -- a true literal tells the value of its variable
-value_bit : (T : List Assigned) (v : ℕ) (s b : Bool) → NoOpposites (literals_of T)
+value_bit : (T : List Assigned) (v : ℕ) (s b : Bool) → NoTautology (literals_of T)
     → value_in T (record { variable = v; negated = s }) ≡ Some true
     → value_in T (positive v) ≡ Some b → b ≡ not s
 value_bit T v false b apart e f = same_Some b true (sym f ∙ e)
@@ -34,7 +34,7 @@ value_bit T v true b apart e f =
     ]
 
 pub frozen_true : (T : List Assigned) (read frozen : List Bool) (removed : List Removed)
-    (l : Literal) → NoOpposites (literals_of T) → AreValues T read
+    (l : Literal) → NoTautology (literals_of T) → AreValues T read
     → All (λ r. IsFree frozen r.variable) removed → length frozen ≤ length read
     → 0 < l.variable → IsFrozen frozen l → value_in T l ≡ Some true
     → IsTrueUnder (take (length frozen) (extended removed read)) l

@@ -6,7 +6,7 @@ use Rattle.std.proofs.lemmas.List.{take-append-le, length-append}
 use Rattle.std.proofs.lemmas.List.Elements.{All-push, All-head, All-tail}
 use Rattle.std.proofs.lemmas.Option.{slice_get_within}
 use Rattle.cnf.specs.Literal.{Literal}
-use Rattle.cnf.specs.Clause.{has_repeat, has_opposites, greatest_variable}
+use Rattle.cnf.specs.Clause.{has_repeat, is_tautology, greatest_variable}
 use Rattle.cnf.specs.Lrat.{IsId}
 use Rattle.cnf.specs.Formula.{IsFormulaClause}
 use Rattle.std.proofs.lemmas.Bool.{true≢false}
@@ -35,7 +35,7 @@ frozen_small frozen (l ∷ c) fixed ones =
     omega arith
 
 pub input_gives : (p q : Input) (n : Name) (c : List Literal) → IsInput p → GivesOne p q n c
-    → IsFreshName p.given n → has_repeat c ≡ false → has_opposites c ≡ false
+    → IsFreshName p.given n → has_repeat c ≡ false → is_tautology c ≡ false
     → All (λ l. 0 < l.variable) c
     → greatest_variable c ≤ length (p.frozen).items → IsInput q
 input_gives p q n c i gives fresh once apart ones small =
@@ -67,7 +67,7 @@ input_gives p q n c i gives fresh once apart ones small =
           (All-push (λ (g : Name × List Literal). IsFormulaClause (length (p.frozen).items) g.1)
           p.given (n, c) i.given_small (record {
             no_repeat = once;
-            no_opposites = apart;
+            no_tautology = apart;
             from_one = ones;
             small = small;
           })));
@@ -87,7 +87,7 @@ lines_given p q n c ls gives small stays =
 pub gives_solver : (s t : Search) (p q : Input) (n : Name) (c : List Literal) (ls : List LogLine)
     (refuted failed : Bool) → IsSolver s p ls refuted failed → failed ≡ false → GivesOne p q n c
     → IsFreshName p.given n → IsId (number_in n)
-    → All (IsFrozen (p.frozen).items) c → has_repeat c ≡ false → has_opposites c ≡ false
+    → All (IsFrozen (p.frozen).items) c → has_repeat c ≡ false → is_tautology c ≡ false
     → All (λ l. 0 < l.variable) c → (refuted ≡ false → Takes s t p q n c)
     → IsSolver t q ls refuted failed
 gives_solver s t p q n c ls refuted failed i works gives fresh id fixed once apart ones takes =

@@ -1,7 +1,7 @@
 // The solver.
 ghost use Rattle.std.specs.Prelude.{◌≡◌, true, false, [], ◌++◌, length, Ok, Err, All, IfOk, OnOk};
 ghost use Rattle.std.specs.Prelude.{OnErr, IsErr, ◌↔◌, ◌⊎◌, ◌<◌};
-ghost use Rattle.cnf.specs.Clause.{has_repeat, has_opposites};
+ghost use Rattle.cnf.specs.Clause.{has_repeat, is_tautology};
 ghost use Rattle.lrat_log.specs.Steps.{IsLogOver, learned_count, IsShortLine};
 ghost use Rattle.cdcl.specs.declared.outcome.Outcome.TheVariants.{Unsat};
 ghost use Rattle.cdcl_search.specs.Running.{Runs, IsInput, StaysOpen};
@@ -194,7 +194,7 @@ impl<S: Sink> Solver<S> {
         requires fresh { IsFreshName (given_to self.old) name }
         requires frozen { All (IsFrozen self.old.frozen) lits.now }
         requires no_repeat { has_repeat lits.now ≡ false }
-        requires no_opposites { has_opposites lits.now ≡ false }
+        requires no_tautology { is_tautology lits.now ≡ false }
         ensures ok { OnOk result (GivesMore self.old self.new name lits.now) }
         ensures memory { result ≡ Err SolveFault.Memory
             → SameGiven self.old self.new ⊎ GivesMore self.old self.new name lits.now }

@@ -22,7 +22,7 @@ use Rattle.propagate.specs.Trail.{HasReasons, level_of, reason_in}
 use Rattle.propagate.specs.Watches.{EngineState}
 use Rattle.propagate.specs.Fits.{Fits, HasTrue, IsWithin}
 use Rattle.propagate.proofs.Laws.{negation_twice, false_value, kept_prefix, literals-append}
-use Rattle.propagate.proofs.Laws.{no_opposites}
+use Rattle.propagate.proofs.Laws.{no_tautology}
 use Rattle.analyze.specs.Analyzer.{IsFalsified, IsFinal, IsAsserting, IsRefutedBy, decided}
 use Rattle.analyze.specs.declared.analyzer.FinalClause.{FinalClause}
 use Rattle.analyze.proofs.Laws.{level_is, tail_is}
@@ -261,7 +261,7 @@ core_untrue slots T l r clause reasons falsified final h =
     subst (λ X. contains_literal h.0 X ≡ true)
     (sym (ap literals_of p.1 ∙ literals-append (kept_to 0 D) p.0))
     (contains_front h.0 (zero_of D) (literals_of p.0) zero) in
-    no_opposites (clause_at slots) D (decided_reasons (clause_at slots) [] l T reasons) h.0 there
+    no_tautology (clause_at slots) D (decided_reasons (clause_at slots) [] l T reasons) h.0 there
     (all_at (λ k. contains_literal (negation k) (literals_of D) ≡ true) clause.lits.items h.0
     final.asserting.falsified h.1)
 

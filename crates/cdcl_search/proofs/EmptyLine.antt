@@ -9,7 +9,7 @@ use Rattle.cnf.proofs.Laws.{all_at}
 use Rattle.clauses.specs.Slots.{clause_at}
 use Rattle.propagate.specs.Trail.{literals_of, depth_of}
 use Rattle.propagate.specs.Fits.{IsFalseClause}
-use Rattle.propagate.proofs.Laws.{no_opposites}
+use Rattle.propagate.proofs.Laws.{no_tautology}
 use Rattle.lrat_log.specs.declared.lines.Hint.{Hint}
 use Rattle.lrat_log.specs.declared.lines.Kind.TheVariants.{Empty}
 use Rattle.lrat_log.specs.Log.{LogLine}
@@ -42,14 +42,14 @@ adds_empty s p ls hints r run flat wrong h =
     let T = (s.engine).trail in
     let slots = (s.store).slots in
     let z = flat_zero T flat in
-    let apart = no_opposites (clause_at slots) T run.running.searches.fits.reasons in
+    let apart = no_tautology (clause_at slots) T run.running.searches.fits.reasons in
     let in_trail : (y : Literal) → contains_literal y h.zeros ≡ true
     → contains_literal y (literals_of T) ≡ true = λ y m. ap (contains_literal y) (sym z)
     ∙ h.within y m in
     adds_learned slots (s.names).items p.given ls
     (record { kind = Empty; clause = []; hints = hints }) (h.units ++ r ∷ [])
     run.running.recorded.names refl h.spelled
-    (record { no_repeat = refl; no_opposites = refl; small = omega arith })
+    (record { no_repeat = refl; no_tautology = refl; small = omega arith })
     (refutes_empty (clause_at slots) h.units h.zeros r wrong.0 h.are_units h.once
     (λ y m o. apart y (in_trail y m) (in_trail (negation y) o)) wrong.1
     (λ k m. h.serves.0 wrong.0 wrong.1 k m (ap (contains_literal (negation k)) z

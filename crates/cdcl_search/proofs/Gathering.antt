@@ -19,7 +19,7 @@ use Rattle.propagate.proofs.Laws.{negation_twice, contains-push}
 use Rattle.cnf.proofs.Laws.{literal_eq-refl, all_weaker, all_append}
 use Rattle.propagate.proofs.Laws.{contains_at}
 use Rattle.propagate.proofs.Laws.{attached_within, within_variable, false_value, not_false_value}
-use Rattle.propagate.proofs.Laws.{no_opposites}
+use Rattle.propagate.proofs.Laws.{no_tautology}
 use Rattle.analyze.proofs.Laws.{low_kept}
 use Rattle.lrat_log.specs.declared.lines.Name.{Name}
 use Rattle.lrat_log.specs.declared.lines.Hint.{Hint}
@@ -270,9 +270,9 @@ module _ (slots : Slots) (names : List Name) (units : List (Option ℕ)) (T : Li
       elim (same_variable w.0 (negation l) (same_place w.0 l (g.from_one w.0 w.1) one w.2))
       as (λ _. contains_literal (negation l) g.zeros ≡ true) [
         | inl same ↦ ap (λ x. contains_literal x g.zeros) (sym same) ∙ w.1
-        | inr opposite ↦ absurd (no_opposites (clause_at slots) T reasons (negation l)
+        | inr complement ↦ absurd (no_tautology (clause_at slots) T reasons (negation l)
             (kept_in T (negation l) z)
-            (ap (λ x. contains_literal x (literals_of T)) (sym opposite)
+            (ap (λ x. contains_literal x (literals_of T)) (sym complement)
             ∙ kept_in T w.0 (g.within w.0 w.1)))
       ]
 

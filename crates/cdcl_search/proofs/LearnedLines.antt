@@ -5,7 +5,7 @@ use Rattle.std.proofs.lemmas.Bool.{cases_Bool, both_ways, or_left, or_right, or_
 use Rattle.std.proofs.lemmas.Bool.{or_parts}
 use Rattle.std.proofs.lemmas.List.Elements.{recursion_from_All}
 use Rattle.cnf.specs.Literal.{Literal, negation, literal_eq}
-use Rattle.cnf.specs.Clause.{contains_literal, has_repeat, has_opposites, is_subset}
+use Rattle.cnf.specs.Clause.{contains_literal, has_repeat, is_tautology, is_subset}
 use Rattle.cnf.specs.Refute.{Clauses, Refutes, IsFalseUnder}
 use Rattle.cnf.proofs.Laws.{literal_eq-true, contains-append, contains_front, contains_back}
 use Rattle.clauses.specs.Slots.{Slots, clause_at}
@@ -13,7 +13,7 @@ use Rattle.propagate.specs.Trail.{Assigned, literals_of, depth_of, kept_to, HasR
 use Rattle.propagate.proofs.Laws.{negation_twice}
 use Rattle.cnf.proofs.Laws.{literal_eq-refl, all_at, contains_negation}
 use Rattle.propagate.proofs.Laws.{kept_prefix, literals-append}
-use Rattle.propagate.proofs.Laws.{NoOpposites, no_opposites}
+use Rattle.propagate.proofs.Laws.{NoTautology, no_tautology}
 use Rattle.lrat_log.specs.declared.lines.Name.{Name}
 use Rattle.lrat_log.specs.Log.{LogLine, Given, is_delete, id_of, leading_ids, group_ids}
 use Rattle.lrat_log.specs.Steps.{log_live, IsNewTo, IsByRup, nothing_exempt}
@@ -40,19 +40,19 @@ by_rup base at l ns e r = (
       (sym (ap (leading_ids base) e ∙ leading-plain base ns)) r,
 )
 
--- the clause has no opposites, since all of it is false
-pub no_opposites_false : (c A : List Literal) → NoOpposites A → IsFalseUnder c A
-    → has_opposites c ≡ false
-no_opposites_false [] A n f = refl
-no_opposites_false (l ∷ c) A n f =
-    or_from (contains_literal (negation l) c) (has_opposites c)
+-- the clause has no complementary literals, since all of it is false
+pub no_tautology_false : (c A : List Literal) → NoTautology A → IsFalseUnder c A
+    → is_tautology c ≡ false
+no_tautology_false [] A n f = refl
+no_tautology_false (l ∷ c) A n f =
+    or_from (contains_literal (negation l) c) (is_tautology c)
     (elim (cases_Bool (contains_literal (negation l) c))
     as (λ _. contains_literal (negation l) c ≡ false) [
       | inl t ↦ absurd (n (negation l) f.0 (all_at (λ k. contains_literal (negation k) A ≡ true) c
           (negation l) f.1 t))
       | inr e ↦ e
     ])
-    (no_opposites_false c A n f.1)
+    (no_tautology_false c A n f.1)
 
 -- all of what is learned is above level 0
 above_zero : (T : List Assigned) (c : List Literal) (back : ℕ) (k : Literal) → IsAsserting T c back
@@ -76,7 +76,7 @@ kept_in T z m =
 
 -- what is true at level 0 is open under the negation of what is learned
 pub zero_open : (T : List Assigned) (c : List Literal) (back : ℕ) (z : Literal)
-    → NoOpposites (literals_of T) → IsAsserting T c back → 0 < depth_of T
+    → NoTautology (literals_of T) → IsAsserting T c back → 0 < depth_of T
     → contains_literal z (zero_of T) ≡ true
     → (contains_literal z (map negation c) ≡ false)
     × (contains_literal (negation z) (map negation c) ≡ false)
@@ -106,11 +106,12 @@ zero_open T c back z apart w deep at_zero =
           ],
     )
 
--- literals that are open one by one, apart and without opposites, are open one after another
+-- literals that are open one by one, apart and without complementary literals, are open one after
+-- another
 pub open_all : (A zs : List Literal)
     → ((z : Literal) → contains_literal z zs ≡ true → (contains_literal z A ≡ false)
     × (contains_literal (negation z) A ≡ false))
-    → has_repeat zs ≡ false → NoOpposites zs → AreOpen A zs
+    → has_repeat zs ≡ false → NoTautology zs → AreOpen A zs
 open_all A [] each once apart = tt
 open_all A (z ∷ zs) each once apart =
     let parts = or_parts (contains_literal z zs) (has_repeat zs) once in
@@ -156,7 +157,7 @@ pub refutes_alone : (slots : Slots) (T : List Assigned) (c : List Literal) (back
     → Serves (clause_at slots) (map negation c ++ zero_of T) (map negation c ++ zs) hints
     → Refutes (clause_at slots) (map negation c) (us ++ hints)
 refutes_alone slots T c back hints us zs reasons w deep refutes within once units serves =
-    let apart = no_opposites (clause_at slots) T reasons in
+    let apart = no_tautology (clause_at slots) T reasons in
     let A : List Literal = map negation c in
     refutes_after_units (clause_at slots) A us zs hints units
     (open_all A zs (λ z m. zero_open T c back z apart w deep (within z m)) once

@@ -14,7 +14,7 @@ use Rattle.clauses.specs.Slots.{Slots, clause_at, IsLive}
 use Rattle.propagate.specs.Trail.{Assigned, literals_of, depth_of, kept_to, HasReasons, level_of}
 use Rattle.propagate.specs.Watches.{EngineState, is_attached}
 use Rattle.propagate.specs.Fits.{Fits, IsWithin, IsFalseClause}
-use Rattle.propagate.proofs.Laws.{kept_low, no_opposites}
+use Rattle.propagate.proofs.Laws.{kept_low, no_tautology}
 use Rattle.analyze.specs.Analyzer.{IsAsserting, IsConflict, IsRefutedBy, greatest_level}
 use Rattle.lrat_log.specs.declared.lines.Hint.{Hint}
 use Rattle.lrat_log.specs.declared.lines.Name.{Name}
@@ -28,7 +28,7 @@ use Rattle.cdcl_search.specs.Invariant.{zero_of}
 use Rattle.cdcl_search.specs.Hinting.{AreHintsOf, AreNoted}
 use Rattle.cdcl_search.specs.Running.{HasRoom, Stores, Runs, tables_of}
 use Rattle.cdcl_search.proofs.LogLines.{AddsByHints}
-use Rattle.cdcl_search.proofs.LearnedLines.{adds_learned, refutes_alone, no_opposites_false}
+use Rattle.cdcl_search.proofs.LearnedLines.{adds_learned, refutes_alone, no_tautology_false}
 use Rattle.cdcl_search.proofs.Conflicts.{is_conflict, serves_zero}
 use Rattle.cdcl_search.proofs.Moves.{with_addition}
 use Rattle.cdcl_search.proofs.MoreMoves.{run_learn}
@@ -127,8 +127,8 @@ adds_lesson slots T names given ls c back variables rs hints reasons w deep refu
     (h.units ++ rs) store refl h.spelled
     (record {
       no_repeat = w.no_repeat;
-      no_opposites = no_opposites_false c (literals_of T)
-          (no_opposites (clause_at slots) T reasons) w.falsified;
+      no_tautology = no_tautology_false c (literals_of T)
+          (no_tautology (clause_at slots) T reasons) w.falsified;
       small = omega arith;
     })
     (refutes_alone slots T c back rs h.units h.zeros reasons w deep refutes h.within h.once

@@ -5,7 +5,7 @@ use Rattle.std.specs.Prelude.{nat_eq, if◌then◌else◌, All}
 use Rattle.std.specs.List.{AllByRecursion, IsDistinct}
 use Rattle.std.proofs.lemmas.List.Elements.{All-push, All-from_recursion}
 use Rattle.cnf.specs.Literal.{Literal, negation}
-use Rattle.cnf.specs.Clause.{has_repeat, has_opposites, greatest_variable}
+use Rattle.cnf.specs.Clause.{has_repeat, is_tautology, greatest_variable}
 use Rattle.cnf.specs.Refute.{Refutes}
 use Rattle.cnf.specs.Lrat.{Addition, Deletion, Live, with_clause, without_ids, Chain, Step}
 use Rattle.cnf.specs.Lrat.{IsAddable}
@@ -43,7 +43,7 @@ own-plain (n ∷ ns) = (tt, own-plain ns)
 -- a clause that may be added
 pub record IsNewClause (c : List Literal) : Type 0 where
   pub no_repeat : has_repeat c ≡ false
-  pub no_opposites : has_opposites c ≡ false
+  pub no_tautology : is_tautology c ≡ false
   pub small : greatest_variable c < 2 ^ 27
 
 -- the line at the end
@@ -138,7 +138,7 @@ log_add variables given ls l stays unrefuted a =
     record {
       rising = omega (arith, last-live_of (given ++ more) base ls);
       no_repeat = a.clause.no_repeat;
-      no_opposites = a.clause.no_opposites;
+      no_tautology = a.clause.no_tautology;
       small = a.clause.small;
     } in
     let r =

@@ -21,7 +21,7 @@ use Rattle.clauses.specs.Slots.{Slots, clause_at, Renaming, IsRenaming}
 use Rattle.propagate.specs.Trail.{Assigned, literals_of, depth_of, kept_to}
 use Rattle.propagate.specs.Watches.{EngineState, SetsAttached}
 use Rattle.propagate.specs.Fits.{Fits, MovesAttached, renamed_trail, renamed_reason}
-use Rattle.propagate.proofs.Laws.{NoOpposites, kept_kept}
+use Rattle.propagate.proofs.Laws.{NoTautology, kept_kept}
 use Rattle.lrat_log.specs.declared.lines.Name.{Name}
 use Rattle.lrat_log.specs.declared.lines.Name.TheVariants.{Formula}
 use Rattle.lrat_log.specs.Log.{LogLine, Given, given_at, number_in}
@@ -248,7 +248,7 @@ pub run_note : (e f : EngineState) (slots : Slots) (stack : StackState) (t : Tab
     → IsRunning e slots stack t frozen first given ls → depth_of e.trail ≡ 0
     → t.noted < length (zero_of e.trail) → k ≡ get_or (zero_of e.trail) t.noted k
     → l.clause ≡ k ∷ []
-    → NoOpposites (zero_of e.trail) → AllByRecursion (λ j. 0 < j.variable) (zero_of e.trail)
+    → NoTautology (zero_of e.trail) → AllByRecursion (λ j. 0 < j.variable) (zero_of e.trail)
     → k.variable ≤ length t.units
     → AddsByHints given ls l → t.additions + 1 < 2 ^ 62
     → SetsAttached e f (length slots) true → (f.trail ≡ e.trail) × (f.variables ≡ e.variables)

@@ -10,7 +10,7 @@ use Rattle.cnf.specs.Refute.{IsUnit, IsFalseUnder}
 use Rattle.cnf.proofs.Laws.{literal_eq-true}
 use Rattle.clauses.specs.Slots.{Slots, clause_at}
 use Rattle.propagate.specs.Trail.{Assigned, literals_of, depth_of}
-use Rattle.propagate.proofs.Laws.{NoOpposites, no_opposites}
+use Rattle.propagate.proofs.Laws.{NoTautology, no_tautology}
 use Rattle.propagate.proofs.Laws.{contains_at}
 use Rattle.analyze.specs.Analyzer.{IsQuiet}
 use Rattle.lrat_log.specs.Log.{LogLine}
@@ -44,7 +44,7 @@ noting_start s p ls r flat =
     record { keeps = keeps_trail s p ls r; flat = flat; writes = writes_none p.given ls }
 
 -- a clause of one true literal is neither false nor unit
-quiet_true : (slots : Slots) (A : List Literal) (k : Literal) → NoOpposites A
+quiet_true : (slots : Slots) (A : List Literal) (k : Literal) → NoTautology A
     → contains_literal k A ≡ true → IsQuiet slots A → IsQuiet (slots ++ Some (k ∷ []) ∷ []) A
 quiet_true slots A k apart m quiet r c at =
     elim (clause_cases slots (k ∷ []) r c at) as (λ _. (IsFalseUnder c A → ⊥)
@@ -70,8 +70,8 @@ noting_more old now new p before ls more d lt next =
     let k : Literal = slice_index_or A now.noted (positive 0) in
     let kept = d.keeps in
     let reasons = kept.runs.running.searches.fits.reasons in
-    let apart : NoOpposites A =
-    no_opposites (clause_at (now.store).slots) (now.engine).trail reasons in
+    let apart : NoTautology A =
+    no_tautology (clause_at (now.store).slots) (now.engine).trail reasons in
     let long : length A ≡ length (now.engine).trail =
     length-map (now.engine).trail (λ (x : Assigned). x.literal) in
     let m : contains_literal k A ≡ true = contains_at A now.noted (positive 0) (omega arith) in

@@ -17,7 +17,7 @@ use Rattle.clauses.specs.Slots.{Slots, clause_at}
 use Rattle.propagate.specs.Trail.{Assigned, literals_of, depth_of, is_decision, reason_in}
 use Rattle.propagate.specs.Trail.{HasReasons, IsJustified}
 use Rattle.propagate.proofs.Laws.{negation_twice, kept_all, depth-cons, contains_at, contains_take}
-use Rattle.propagate.proofs.Laws.{NoOpposites, no_opposites}
+use Rattle.propagate.proofs.Laws.{NoTautology, no_tautology}
 use Rattle.analyze.proofs.Laws.{reason_at}
 use Rattle.lrat_log.specs.declared.lines.Hint.{Hint}
 use Rattle.lrat_log.specs.declared.lines.Name.{Name}
@@ -95,7 +95,7 @@ is_next slots T i k r reasons lt at reason =
 
 -- a literal of the reason that is false is so by a literal before
 false_before : (slots : Slots) (T : List Assigned) (i : ℕ) (k : Literal) (r : ℕ)
-    (n : IsNext slots T i k r) (x : Literal) → NoOpposites (literals_of T)
+    (n : IsNext slots T i k r) (x : Literal) → NoTautology (literals_of T)
     → contains_literal x n.clause ≡ true → contains_literal (negation x) (literals_of T) ≡ true
     → contains_literal (negation x) (take i (literals_of T)) ≡ true
 false_before slots T i k r n x apart m f =
@@ -118,7 +118,7 @@ pub next_noted : (slots : Slots) (T : List Assigned) (k : Literal) (r : ℕ) (un
 next_noted slots T k r units noted reasons flat n notes q m c at x x_in f =
     let same : c ≡ n.clause = same_reference slots r q n.clause c (contains_one r q m) n.here at in
     let z = flat_zero T flat in
-    let before = false_before slots T noted k r n x (no_opposites (clause_at slots) T reasons)
+    let before = false_before slots T noted k r n x (no_tautology (clause_at slots) T reasons)
     (ap (contains_literal x) (sym same) ∙ x_in) (ap (contains_literal (negation x)) (sym z)
     ∙ f) in
     all_at (HasUnit slots units) (take noted (zero_of T)) (negation x) notes.have
@@ -132,7 +132,7 @@ pub adds_unit : (slots : Slots) (T : List Assigned) (names : List Name) (given :
     → k.variable < 2 ^ 27
     → AddsByHints given ls (record { kind = UnitKind; clause = k ∷ []; hints = hints })
 adds_unit slots T names given ls hints k i r reasons flat n store h few =
-    let apart = no_opposites (clause_at slots) T reasons in
+    let apart = no_tautology (clause_at slots) T reasons in
     let z = flat_zero T flat in
     let A : List Literal = take i (literals_of T) in
     let in_trail : (y : Literal) → contains_literal y h.zeros ≡ true
@@ -151,7 +151,7 @@ adds_unit slots T names given ls hints k i r reasons flat n store h few =
     ap (λ x. contains_literal x A) (sym (negation_twice y)) ∙ b) in
     adds_learned slots names given ls (record { kind = UnitKind; clause = k ∷ []; hints = hints })
     (h.units ++ r ∷ []) store refl h.spelled
-    (record { no_repeat = refl; no_opposites = refl; small = omega arith })
+    (record { no_repeat = refl; no_tautology = refl; small = omega arith })
     (refutes_unit (clause_at slots) A k h.units h.zeros r n.clause h.are_units h.once
     (λ y m o. apart y (in_trail y m) (in_trail (negation y) o)) within n.here n.unit
     (λ x m other. elim (all_at (λ y. (y ≡ k) ⊎ (contains_literal (negation y) A ≡ true)) n.clause x
@@ -200,8 +200,8 @@ runs_noted m n u p ls hints k v r run room past flat left at adds w more few vis
     let l : LogLine = record { kind = UnitKind; clause = k ∷ []; hints = hints } in
     let z = flat_zero T flat in
     let reasons = run.searches.fits.reasons in
-    let apart : NoOpposites (zero_of T) =
-    subst NoOpposites (sym z) (no_opposites (clause_at slots) T reasons) in
+    let apart : NoTautology (zero_of T) =
+    subst NoTautology (sym z) (no_tautology (clause_at slots) T reasons) in
     let small = literal_small e slots m.noted k run.searches.fits left at in
     let long : length (literals_of T) ≡ length T = length-map T (λ (x : Assigned). x.literal) in
     let all_ones : AllByRecursion (λ (j : Literal). 0 < j.variable) (literals_of T) =

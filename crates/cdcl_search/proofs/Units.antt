@@ -17,7 +17,7 @@ use Rattle.propagate.specs.Fits.{FollowByUnits, renamed_reason}
 use Rattle.propagate.specs.Watches.{EngineState}
 use Rattle.propagate.proofs.Laws.{kept_push, kept_all, depth_push}
 use Rattle.propagate.proofs.Laws.{kept_kept, kept_prefix, contains_at, contains_take}
-use Rattle.propagate.proofs.Laws.{literals-append, NoOpposites}
+use Rattle.propagate.proofs.Laws.{literals-append, NoTautology}
 use Rattle.cdcl_search.specs.Invariant.{HasUnit, NotesUnits, zero_of}
 use Rattle.cdcl_search.proofs.Places.{clause_kept, clause_other, went, same_clause}
 use Rattle.clauses.proofs.Laws.{clause_new}
@@ -120,7 +120,7 @@ units_delete slots q c Z d units noted e long n = record {
 
 -- one more literal of level 0 has its clause, the last of the store
 pub units_note : (slots : Slots) (Z : List Literal) (l : Literal) (units : List (Option ℕ))
-    (noted : ℕ) → NoOpposites Z → AllByRecursion (λ k. 0 < k.variable) Z
+    (noted : ℕ) → NoTautology Z → AllByRecursion (λ k. 0 < k.variable) Z
     → noted < length Z → l ≡ get_or Z noted l → l.variable ≤ length units
     → NotesUnits slots Z 0 units noted
     → NotesUnits (slots ++ Some (l ∷ []) ∷ []) Z 0

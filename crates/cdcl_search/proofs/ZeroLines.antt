@@ -10,7 +10,7 @@ use Rattle.cnf.proofs.Laws.{literal_eq-true}
 use Rattle.propagate.specs.Trail.{Assigned, literals_of, HasReasons, IsJustified}
 use Rattle.propagate.proofs.Laws.{negation_twice}
 use Rattle.cnf.proofs.Laws.{literal_eq-refl, all_from}
-use Rattle.propagate.proofs.Laws.{NoOpposites, justified_same, same_swap}
+use Rattle.propagate.proofs.Laws.{NoTautology, justified_same, same_swap}
 use Rattle.cdcl_search.specs.Hinting.{AreUnits}
 use Rattle.clauses.specs.Within.{Within}
 use Rattle.cdcl_search.proofs.Zero.{AreOpen, refutes_after_units}
@@ -34,7 +34,7 @@ refutes_one at A us zs r c units opens here wrong =
 
 -- the empty clause, by a clause that is false at level 0
 pub refutes_empty : (at : Clauses) (us : List ℕ) (zs : List Literal) (r : ℕ) (c : List Literal)
-    → AreUnits at us zs → has_repeat zs ≡ false → NoOpposites zs → at r ≡ Some c
+    → AreUnits at us zs → has_repeat zs ≡ false → NoTautology zs → at r ≡ Some c
     → ((k : Literal) → contains_literal k c ≡ true → contains_literal (negation k) zs ≡ true)
     → Refutes at (map negation []) (us ++ r ∷ [])
 refutes_empty at us zs r c units once apart here wrong =
@@ -43,7 +43,7 @@ refutes_empty at us zs r c units once apart here wrong =
 
 -- a literal, by its reason
 pub refutes_unit : (at : Clauses) (A : List Literal) (l : Literal) (us : List ℕ) (zs : List Literal)
-    (r : ℕ) (c : List Literal) → AreUnits at us zs → has_repeat zs ≡ false → NoOpposites zs
+    (r : ℕ) (c : List Literal) → AreUnits at us zs → has_repeat zs ≡ false → NoTautology zs
     → Within zs A
     → at r ≡ Some c → IsUnit c A l → ((k : Literal) → contains_literal k c ≡ true → k ≢ l
     → contains_literal (negation k) zs ≡ true)

@@ -11,14 +11,14 @@ pub use Rattle.cnf.proofs.Lists.{all_append, all_both, all_left, all_mapped, all
 pub use Rattle.cnf.proofs.Lists.{all_right, all_weaker, contains_one}
 pub use Rattle.cnf.proofs.Literals.{all_at, all_from}
 pub use Rattle.cnf.proofs.Literals.{at_contains, contains-push, index_below, index_same}
-pub use Rattle.cnf.proofs.Literals.{literal_eq-opposite, literal_eq-refl, literal_eq-swapped}
+pub use Rattle.cnf.proofs.Literals.{literal_eq-complement, literal_eq-refl, literal_eq-swapped}
 pub use Rattle.cnf.proofs.Literals.{literal_eq_ne, literal_ne, negation_twice, same_variable}
 pub use Rattle.cnf.proofs.Marking.{marked_one, marked_subset, none_marked, place_within}
 pub use Rattle.cnf.proofs.Marking.{places_each, places_within}
 pub use Rattle.cnf.proofs.Members.{absent_above, contains-append, contains_back, contains_front}
 pub use Rattle.cnf.proofs.Members.{contains_negation, member_pushed, subset_at, subset_from}
 pub use Rattle.cnf.proofs.Numbers.{numbered_past, one_if_le, same_number, tests_agree}
-pub use Rattle.cnf.proofs.Opposed.{contained_true, opposites_true}
+pub use Rattle.cnf.proofs.Complements.{contained_true, tautologies_true}
 pub use Rattle.cnf.proofs.Repeats.{absent_own, repeat_distinct, repeat_push}
 pub use Rattle.cnf.proofs.Results.{on_err_at, on_ok_at}
 pub use Rattle.cnf.proofs.Rising.{rises_least, rises_weaker, rising_from}

@@ -13,7 +13,7 @@ mod Literals
 mod Members
 mod Repeats
 mod Marking
-mod Opposed
+mod Complements
 mod Unstamped
 mod Judgement
 pub mod Laws

@@ -1,4 +1,4 @@
--- Literals that are one, opposite, or negated twice, and their places in a table of rows.
+-- Literals that are one, complementary, or negated twice, and their places in a table of rows.
 use Rattle.std.proofs.Common.{◌≡◌, ℕ, zero, suc, ◌+◌, ◌-◌, ◌*◌, ◌<◌, ◌≤◌, Bool, true, false, ◌||◌}
 use Rattle.std.proofs.Common.{not, ◌&&◌, List, [], ◌∷◌, ◌++◌, length, get_or, ◌⊎◌, inl, inr, refl}
 use Rattle.std.proofs.Common.{sym, ap, subst, arith}
@@ -28,8 +28,8 @@ same_bool-not : (b : Bool) → same_bool (not b) b ≡ false
 same_bool-not true = refl
 same_bool-not false = refl
 
-pub literal_eq-opposite : (l : Literal) → literal_eq (negation l) l ≡ false
-literal_eq-opposite l =
+pub literal_eq-complement : (l : Literal) → literal_eq (negation l) l ≡ false
+literal_eq-complement l =
     and_right (l.variable == l.variable) (same_bool (not l.negated) l.negated)
     (same_bool-not l.negated)
 

@@ -7,7 +7,7 @@ use Rattle.std.proofs.lemmas.Bool.{false≢true, cases_eq, ne_eqb}
 use Rattle.std.proofs.lemmas.Option.{none-some, same_Some}
 use Rattle.std.specs.List.{IsDistinct}
 use Rattle.cnf.specs.Literal.{Literal, negation}
-use Rattle.cnf.specs.Clause.{contains_literal, has_repeat, has_opposites, greatest_variable}
+use Rattle.cnf.specs.Clause.{contains_literal, has_repeat, is_tautology, greatest_variable}
 use Rattle.cnf.specs.Formula.{numbered}
 use Rattle.cnf.specs.Refute.{Refutes}
 use Rattle.cnf.specs.Lrat.{CandidateHints, ProofLine, Addition, Deletion, Live, start_of}
@@ -128,8 +128,8 @@ rup = record {
 }
 
 addable : (live : Live) (id : ℕ) (c : List Literal) → live.last < id → has_repeat c ≡ false
-    → has_opposites c ≡ false → greatest_variable c < 2 ^ 27 → IsAddable live id c
-addable live id c r n o g = record { rising = r; no_repeat = n; no_opposites = o; small = g }
+    → is_tautology c ≡ false → greatest_variable c < 2 ^ 27 → IsAddable live id c
+addable live id c r n o g = record { rising = r; no_repeat = n; no_tautology = o; small = g }
 
 step3 : Step (start_of formula) fresh live3
 step3 = (

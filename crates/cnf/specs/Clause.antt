@@ -33,9 +33,9 @@ has_repeat [] = false
 has_repeat (l ∷ c) = contains_literal l c || has_repeat c
 
 -- some literal stands with its negation
-abbrev pub has_opposites : List Literal → Bool
-has_opposites [] = false
-has_opposites (l ∷ c) = contains_literal (negation l) c || has_opposites c
+abbrev pub is_tautology : List Literal → Bool
+is_tautology [] = false
+is_tautology (l ∷ c) = contains_literal (negation l) c || is_tautology c
 
 abbrev pub greatest_variable : List Literal → ℕ
 greatest_variable [] = 0

@@ -2,7 +2,7 @@
 use Rattle.std.specs.Prelude.{◌≡◌, ℕ, zero, suc, ◌<◌, ◌≤◌, false, List, Option, None}
 use Rattle.std.specs.Prelude.{slice_get, All}
 use Rattle.cnf.specs.Literal.{Literal, Assignment}
-use Rattle.cnf.specs.Clause.{Satisfies, has_repeat, has_opposites, greatest_variable}
+use Rattle.cnf.specs.Clause.{Satisfies, has_repeat, is_tautology, greatest_variable}
 use Rattle.cnf.specs.declared.limits.TheConstants.{FORMULA_VARIABLE_LIMIT}
 
 pub record Cnf : Type 0 where
@@ -12,7 +12,7 @@ pub record Cnf : Type 0 where
 -- what is known of each clause of a formula with so many variables
 pub record IsFormulaClause (variables : ℕ) (c : List Literal) : Type 0 where
   pub no_repeat : has_repeat c ≡ false
-  pub no_opposites : has_opposites c ≡ false
+  pub no_tautology : is_tautology c ≡ false
   pub from_one : All (λ l. 0 < l.variable) c
   pub small : greatest_variable c ≤ variables
 

@@ -6,7 +6,7 @@ use Rattle.std.specs.Prelude.{◌↔◌}
 use Rattle.std.specs.List.{IsDistinct, AllByRecursion, list_any}
 use Rattle.std.specs.List.Sorted.{IsStrictlyIncreasing}
 use Rattle.cnf.specs.Literal.{Literal, negation}
-use Rattle.cnf.specs.Clause.{contains_literal, without_literal, has_repeat, has_opposites}
+use Rattle.cnf.specs.Clause.{contains_literal, without_literal, has_repeat, is_tautology}
 use Rattle.cnf.specs.Clause.{greatest_variable}
 use Rattle.cnf.specs.Formula.{numbered}
 use Rattle.cnf.specs.Refute.{Clauses, Leads, Refutes}
@@ -49,7 +49,7 @@ without_ids live ids =
 pub record IsAddable (live : Live) (id : ℕ) (c : List Literal) : Type 0 where
   pub rising : live.last < id
   pub no_repeat : has_repeat c ≡ false
-  pub no_opposites : has_opposites c ≡ false
+  pub no_tautology : is_tautology c ≡ false
   pub small : greatest_variable c < VARIABLE_LIMIT
 
 -- The candidate d resolves with the pivot to a clause that is already true under B, or that is

@@ -6,5 +6,5 @@ pub mod clause_list;
 pub mod judging;
 pub mod limits;
 pub mod marks;
-pub mod opposites;
+pub mod tautologies;
 pub mod types;

@@ -13,10 +13,11 @@ use Rattle.std.proofs.lemmas.List.Elements.{All-from_recursion, recursion_from_A
 use Rattle.std.proofs.lemmas.List.Sums.{sum_by-cons}
 use Rattle.cnf.specs.Numbers.{one_if}
 use Rattle.cnf.specs.Literal.{Literal, Assignment, SameBelow, negative, put}
-use Rattle.cnf.specs.Clause.{Satisfies, clause_value, greatest_variable, has_opposites}
+use Rattle.cnf.specs.Clause.{Satisfies, clause_value, greatest_variable, is_tautology}
 use Rattle.cnf.specs.Problem.{Problem, SoftClause, AreWithin, cost_of, cost_under}
 use Rattle.cnf.specs.Instance.{IsInstance, IsClauseWithin}
-use Rattle.cnf.proofs.Laws.{all_append, all_parts, all_weaker, opposites_true, put_here, put_other}
+use Rattle.cnf.proofs.Laws.{all_append, all_parts, all_weaker, tautologies_true}
+use Rattle.cnf.proofs.Laws.{put_here, put_other}
 use Rattle.cores.specs.Totalizer.{variables_from}
 use Rattle.cores.specs.Cores.{Core, Counted, first_relaxation, rest_of_soft, no_cores, charged}
 use Rattle.cores.specs.Cores.{counters, with_core, AreCounted, last_clause, counted_clauses}
@@ -125,7 +126,7 @@ relaxes_from n u t v (x ∷ ss) w s h = (
 rest_cost : (u : Assignment) (b : Bool) (s : SoftClause) → b ≡ not (clause_value u s.clause)
     → (if b then rest_of_soft s else 0) ≡ cost_of u s
 rest_cost u b s e =
-    by b (clause_value u s.clause) (has_opposites s.clause) e (opposites_true u s.clause)
+    by b (clause_value u s.clause) (is_tautology s.clause) e (tautologies_true u s.clause)
   where
     by : (b c d : Bool) → b ≡ not c → (d ≡ true → c ≡ true)
         → (if b then (if d then 0 else s.weight) else 0) ≡ (if c then 0 else s.weight)

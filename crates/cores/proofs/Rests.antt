@@ -12,7 +12,7 @@ use Rattle.std.proofs.lemmas.List.Sums.{sum_by-cons, sum_by-append}
 use Rattle.std.proofs.lemmas.List.Folds.{sum_by-replicate}
 use Rattle.cnf.specs.Numbers.{one_if}
 use Rattle.cnf.specs.Literal.{Assignment, positive, literal_eq}
-use Rattle.cnf.specs.Clause.{contains_literal, has_opposites, has_repeat}
+use Rattle.cnf.specs.Clause.{contains_literal, is_tautology, has_repeat}
 use Rattle.cnf.specs.Problem.{Problem, SoftClause}
 use Rattle.cnf.proofs.Laws.{literal_ne}
 use Rattle.cores.specs.Cores.{Core, Counted, first_relaxation, rest_of_soft, rest_at, charged}
@@ -152,7 +152,7 @@ soft_rests (s ∷ ss) =
       soft_rests ss,
       sum_by-cons (λ (x : ℕ). x) (rest_of_soft s) (map rest_of_soft ss),
       sum_by-cons (λ (x : SoftClause). x.weight) s ss,
-      by (has_opposites s.clause),
+      by (is_tautology s.clause),
     )
   where
     by : (b : Bool) → (if b then 0 else s.weight) ≤ s.weight

@@ -6,7 +6,7 @@ use Rattle.std.specs.Prelude.{List, [], ◌∷◌, ◌++◌, length, map, take, 
 use Rattle.std.specs.Prelude.{All, nat_le, slice_index_or, slice_set, if◌then◌else◌}
 use Rattle.std.specs.List.{list_all}
 use Rattle.cnf.specs.Literal.{Literal, Assignment, positive, negative}
-use Rattle.cnf.specs.Clause.{Satisfies, clause_value, has_opposites, has_repeat}
+use Rattle.cnf.specs.Clause.{Satisfies, clause_value, is_tautology, has_repeat}
 use Rattle.cnf.specs.Problem.{Problem, SoftClause, cost_under}
 use Rattle.cores.specs.Totalizer.{Totals, any_of, totalizer}
 use Rattle.cores.specs.declared.counting.TheConstants.{MOST_CORE_CLAUSES}
@@ -38,7 +38,7 @@ first_relaxation p = p.variables + 1
 
 -- a tautology is never false
 abbrev pub rest_of_soft : SoftClause → ℕ
-rest_of_soft s = if has_opposites s.clause then 0 else s.weight
+rest_of_soft s = if is_tautology s.clause then 0 else s.weight
 
 -- before the first core
 abbrev pub no_cores : Problem → Counted

@@ -13,7 +13,7 @@ use crate::state::State;
 use crate::types::Core;
 use cnf::clause_list::ClauseList;
 use cnf::marks::Marks;
-use cnf::opposites::are_opposed;
+use cnf::tautologies::is_tautology_by;
 use cnf::types::Instance;
 use std::alloc::AllocError;
 use std::marker::Model;
@@ -180,7 +180,7 @@ pub fn rests_of(instance: &Instance) -> Result<Vec<u64>, AllocError>
     let mut marks = Marks::new(alloc, instance.vars())?;
     let mut rests = Vec::with_capacity(alloc, instance.soft().len())?;
     for soft in instance.soft() {
-        let rest = if are_opposed(&mut marks, soft.clause().lits()) {
+        let rest = if is_tautology_by(&mut marks, soft.clause().lits()) {
             0
         } else {
             soft.weight()

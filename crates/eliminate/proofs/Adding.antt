@@ -4,7 +4,7 @@ use Rattle.std.proofs.Common.{inr, refl, sym, ap, subst, arith, ◌<◌, ◌≤�
 use Rattle.std.proofs.lemmas.Bool.{not-true, or_parts, or_left, or_from, both_ways}
 use Rattle.std.proofs.lemmas.Bool.{false_from_ne_true}
 use Rattle.cnf.specs.Literal.{Literal, negation, literal_eq}
-use Rattle.cnf.specs.Clause.{contains_literal, without_literal, has_repeat, has_opposites}
+use Rattle.cnf.specs.Clause.{contains_literal, without_literal, has_repeat, is_tautology}
 use Rattle.cnf.specs.Clause.{greatest_variable}
 use Rattle.cnf.specs.Formula.{IsFormulaClause}
 use Rattle.cnf.specs.Refute.{Refutes}
@@ -71,7 +71,7 @@ pub resolvent_line : (given : Given) (ls : List LogLine) (kind : Kind) (n : ℕ)
     (c d : List Literal) (first second : Name) → is_delete kind ≡ false → n < 2 ^ 27
     → IsFormulaClause n c → IsFormulaClause n d
     → contains_literal p c ≡ true → contains_literal (negation p) d ≡ true
-    → has_opposites (resolvent p c d) ≡ false
+    → is_tautology (resolvent p c d) ≡ false
     → ((base : ℕ) → IsBaseOf given base → (log_live given base ls (id_of base first) ≡ Some c)
     × (log_live given base ls (id_of base second) ≡ Some d))
     → IsRupLine given ls (record {
@@ -82,7 +82,7 @@ pub resolvent_line : (given : Given) (ls : List LogLine) (kind : Kind) (n : ℕ)
 resolvent_line given ls kind n p c d first second adds few fc fd has has_not plain live = record {
   adds = adds;
   no_repeat = resolvent-no_repeat p c d fc.no_repeat fd.no_repeat;
-  no_opposites = plain;
+  no_tautology = plain;
   small = omega (arith, resolvent-small p c d n fc.small fd.small);
   plain = λ base. refl;
   refutes = λ base above. let l = live base above in
@@ -92,8 +92,8 @@ resolvent_line given ls kind n p c d first second adds few fc fd has has_not pla
         second = l.1;
         has = has;
         has_not = has_not;
-        plain = fc.no_opposites;
-        plain_too = fd.no_opposites;
+        plain = fc.no_tautology;
+        plain_too = fd.no_tautology;
       });
 }
 
@@ -126,14 +126,14 @@ pub unit_line : (given : Given) (ls : List LogLine) (kind : Kind) (n : ℕ) (l :
 unit_line given ls kind n l c unit_name name adds few f has live = record {
   adds = adds;
   no_repeat = refl;
-  no_opposites = refl;
+  no_tautology = refl;
   small = omega (arith, f.small, member-small l c has);
   plain = λ base. no_groups base unit_name (without_literal l c) name;
   refutes = λ base above. let w = live base above in
       subst (λ x. Refutes (log_live given base ls) (map negation (l ∷ [])) x)
       (sym (plain_ids base unit_name (without_literal l c) name))
       (unit_refutes (log_live given base ls) (λ k. id_of base (unit_name k)) l c (id_of base name)
-      w.0 has f.no_repeat f.no_opposites w.1);
+      w.0 has f.no_repeat f.no_tautology w.1);
 }
 
 -- the line of the empty clause, where unit clauses make all literals false
@@ -150,12 +150,12 @@ pub empty_line : (given : Given) (ls : List LogLine) (kind : Kind) (n : ℕ) (c 
 empty_line given ls kind n c unit_name name adds f live = record {
   adds = adds;
   no_repeat = refl;
-  no_opposites = refl;
+  no_tautology = refl;
   small = omega arith;
   plain = λ base. no_groups base unit_name c name;
   refutes = λ base above. let w = live base above in
       subst (λ x. Refutes (log_live given base ls) (map negation []) x)
       (sym (plain_ids base unit_name c name))
       (empty_refutes (log_live given base ls) (λ k. id_of base (unit_name k)) c (id_of base name)
-      w.0 f.no_repeat f.no_opposites w.1);
+      w.0 f.no_repeat f.no_tautology w.1);
 }

@@ -62,8 +62,8 @@ module _ (u v : Units) (slots : Slots) (l : Literal) (r : ℕ) (a : AreUnits u s
       let other : k.variable ≢ l.variable = (λ e. elim (same_variable k l e) [
         | inl same ↦ both_ways (contains_literal l u.trail.items) not_true
             (subst (λ x. contains_literal x u.trail.items ≡ true) same on)
-        | inr opposite ↦ both_ways (contains_literal (negation l) u.trail.items) not_false
-            (subst (λ x. contains_literal x u.trail.items ≡ true) opposite on)
+        | inr complement ↦ both_ways (contains_literal (negation l) u.trail.items) not_false
+            (subst (λ x. contains_literal x u.trail.items ≡ true) complement on)
       ]) in
       let from : 0 < k.variable = w.from_one in
       let some : 0 < l.variable = place.0 in

@@ -13,9 +13,9 @@ use Rattle.std.proofs.lemmas.Option.{unwrap_or-slice_get}
 use Rattle.cnf.specs.Literal.{Literal, Assignment, negation, literal_value}
 pub use Rattle.cnf.specs.Literal.{negative}
 use Rattle.cnf.specs.Clause.{Satisfies, clause_value, contains_literal, without_literal}
-use Rattle.cnf.specs.Clause.{has_opposites, is_subset}
+use Rattle.cnf.specs.Clause.{is_tautology, is_subset}
 use Rattle.cnf.specs.Bits.{assignment_of}
-use Rattle.cnf.proofs.Laws.{all_from, contained_true, opposites_true}
+use Rattle.cnf.proofs.Laws.{all_from, contained_true, tautologies_true}
 use Rattle.cnf.proofs.Laws.{made_true, made, clause_kept, rest_kept}
 use Rattle.eliminate.specs.Elimination.{Removed, positive, becomes_true, is_eliminated, extended}
 use Rattle.eliminate.specs.Elimination.{SatisfiesAll}
@@ -168,9 +168,9 @@ IsKept r after c = Contains r.clauses c
     ⊎ (Entails after c × (contains_literal (positive r.variable) c ≡ false)
     × (contains_literal (negative r.variable) c ≡ false))
 
--- a clause has an opposite pair, or follows from the clauses after
+-- a clause has complementary literals, or follows from the clauses after
 abbrev pub IsLeft : List (List Literal) → List Literal → Type 0
-IsLeft after c = (has_opposites c ≡ true) ⊎ Entails after c
+IsLeft after c = (is_tautology c ≡ true) ⊎ Entails after c
 
 -- c and d, which have the variable and its negation, resolve to such a clause
 abbrev pub ResolveTo : List (List Literal) → ℕ → List Literal → List Literal → Type 0
@@ -193,7 +193,7 @@ pub record IsElimination (r : Removed) (before after : List (List Literal)) : Ty
 
 pub left_true : (t : Assignment) (after : List (List Literal)) (c : List Literal)
     → SatisfiesAll t after → IsLeft after c → Satisfies t c
-left_true t after c all h = elim h [ inl pair ↦ opposites_true t c pair | inr e ↦ e t all ]
+left_true t after c all h = elim h [ inl pair ↦ tautologies_true t c pair | inr e ↦ e t all ]
 
 elimination_resolved : (t : Assignment) (r : Removed) (before after : List (List Literal))
     → IsElimination r before after → SatisfiesAll t after → AreResolved t r.variable r.clauses

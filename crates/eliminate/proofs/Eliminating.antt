@@ -13,7 +13,7 @@ use Rattle.std.proofs.lemmas.List.Elements.{All-map, All-weaker, All-push, All-c
 use Rattle.std.proofs.lemmas.List.Elements.{Contains-get_or, Contains-append_left}
 use Rattle.std.proofs.lemmas.List.Elements.{Contains-append_right, Contains-append_cases}
 use Rattle.cnf.specs.Literal.{Literal, Assignment, negation}
-use Rattle.cnf.specs.Clause.{contains_literal, has_opposites}
+use Rattle.cnf.specs.Clause.{contains_literal, is_tautology}
 use Rattle.cnf.specs.Bits.{assignment_of}
 use Rattle.clauses.specs.Slots.{Slots, clause_at, live_clauses}
 use Rattle.clauses.proofs.Laws.{contains_live}
@@ -35,7 +35,7 @@ use Rattle.eliminate_names.proofs.Laws.{number_at}
 use Rattle.eliminate.proofs.Back.{negative, extended-append}
 use Rattle.eliminate.proofs.Deleting.{leaves_join, rows_left}
 use Rattle.eliminate.proofs.Growing.{resolvent-lacks}
-use Rattle.eliminate_tables.proofs.Laws.{not-opposite_too, under_live}
+use Rattle.eliminate_tables.proofs.Laws.{not-complement_too, under_live}
 use Rattle.eliminate.proofs.States.{GoesWith, Lacks, goes_back, goes_free}
 
 -- what holds of each clause with the literal holds of those under the references
@@ -129,8 +129,8 @@ module _ (start : Start) (s : Simplifier) (slots mid left : Slots) (ls most : Li
   cs : List (List Literal)
   cs = clauses_under slots (pos ++ neg)
 
-  plain : (r : ℕ) (c : List Literal) → clause_at slots r ≡ Some c → has_opposites c ≡ false
-  plain r c e = (h.state.work.clauses r c e).no_opposites
+  plain : (r : ℕ) (c : List Literal) → clause_at slots r ≡ Some c → is_tautology c ≡ false
+  plain r c e = (h.state.work.clauses r c e).no_tautology
 
   lacks : (r : ℕ) (c : List Literal) → clause_at left r ≡ Some c → Lacks v c
   lacks r c e = record {
@@ -148,7 +148,7 @@ module _ (start : Start) (s : Simplifier) (slots mid left : Slots) (ls most : Li
   resolvent_stays : (q r : ℕ) (c d : List Literal) → clause_at slots q ≡ Some c
       → clause_at slots r ≡ Some d → contains_literal (positive v) c ≡ true
       → contains_literal (negative v) d ≡ true
-      → (has_opposites (resolvent (positive v) c d) ≡ true)
+      → (is_tautology (resolvent (positive v) c d) ≡ true)
       ⊎ Contains (live_clauses left) (resolvent (positive v) c d)
   resolvent_stays q r c d e f has has_not =
       let pairs =
@@ -159,7 +159,7 @@ module _ (start : Start) (s : Simplifier) (slots mid left : Slots) (ls most : Li
       (n.all r (d, f, has_not)) in
       let w = resolvent-lacks (positive v) c d (plain q c e) (plain r d f) has has_not in
       elim (pair c d e f) [
-        | inl opposite ↦ inl opposite
+        | inl complement ↦ inl complement
         | inr there ↦ elim (out.each there.0 (resolvent (positive v) c d) there.1) [
           | inl stays ↦ inr (contains_live left there.0 (resolvent (positive v) c d) stays)
           | inr gone ↦ elim (Contains-append_cases pos neg there.0 gone) [
@@ -224,7 +224,7 @@ module _ (start : Start) (s : Simplifier) (slots mid left : Slots) (ls most : Li
       subst (λ (xs : List (List Literal)). GoesWith (removed_of v xs) slots left) all goes_with in
       let others : All (λ c. contains_literal (positive v) c ≡ false) (clauses_under slots neg) =
       under_all (λ c. contains_literal (positive v) c ≡ false) (negation (positive v)) slots neg
-      n.with_it (λ r c e has. not-opposite_too (positive v) c (plain r c e) has) in
+      n.with_it (λ r c e has. not-complement_too (positive v) c (plain r c e) has) in
       record {
         work = (work _ _ _ h.state.work (h.going works)).0;
         occurrences = rows_left (pos ++ neg) s.occurrences.rows slots left out h.state.occurrences;

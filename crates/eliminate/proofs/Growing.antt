@@ -5,7 +5,7 @@ use Rattle.std.specs.Prelude.{All}
 use Rattle.std.proofs.lemmas.Bool.{both_ways}
 use Rattle.std.proofs.lemmas.List.Elements.{All-weaker, All-push}
 use Rattle.cnf.specs.Literal.{Literal, negation}
-use Rattle.cnf.specs.Clause.{contains_literal, has_opposites}
+use Rattle.cnf.specs.Clause.{contains_literal, is_tautology}
 use Rattle.clauses.specs.Slots.{Slots, clause_at, IsLive}
 use Rattle.eliminate_tables.specs.Resolvents.{resolvent}
 use Rattle.eliminate.specs.Simplifier.{Grows}
@@ -13,15 +13,15 @@ use Rattle.eliminate.specs.Variables.{IsWith, AreThoseWith, LacksBoth, GrowsWith
 use Rattle.eliminate.specs.Variables.{IsPairResolved, ArePairsResolved}
 use Rattle.eliminate.proofs.Deleting.{take_next}
 use Rattle.clauses.proofs.Laws.{clause_cases, clause_kept}
-use Rattle.eliminate_tables.proofs.Laws.{resolvent-open, resolvent-open_not, not-opposite}
-use Rattle.eliminate_tables.proofs.Laws.{not-opposite_too}
+use Rattle.eliminate_tables.proofs.Laws.{resolvent-open, resolvent-open_not, not-complement}
+use Rattle.eliminate_tables.proofs.Laws.{not-complement_too}
 
-pub resolvent-lacks : (p : Literal) (c d : List Literal) → has_opposites c ≡ false
-    → has_opposites d ≡ false → contains_literal p c ≡ true → contains_literal (negation p) d ≡ true
+pub resolvent-lacks : (p : Literal) (c d : List Literal) → is_tautology c ≡ false
+    → is_tautology d ≡ false → contains_literal p c ≡ true → contains_literal (negation p) d ≡ true
     → LacksBoth p (resolvent p c d)
 resolvent-lacks p c d oc od has has_not = record {
-  not_it = resolvent-open p c d (not-opposite_too p d od has_not);
-  not_negation = resolvent-open_not p c d (not-opposite p c oc has);
+  not_it = resolvent-open p c d (not-complement_too p d od has_not);
+  not_negation = resolvent-open_not p c d (not-complement p c oc has);
 }
 
 pub grows_one : (l : Literal) (slots : Slots) (c : List Literal) → LacksBoth l c

@@ -6,7 +6,7 @@ use Rattle.std.proofs.lemmas.Bool.{both_ways}
 use Rattle.std.proofs.lemmas.Option.{same_Some}
 use Rattle.std.proofs.lemmas.List.Elements.{All-nil, All-cons, All-append, All-filter, All-weaker}
 use Rattle.cnf.specs.Literal.{Literal, negation, literal_eq}
-use Rattle.cnf.specs.Clause.{contains_literal, without_literal, has_opposites}
+use Rattle.cnf.specs.Clause.{contains_literal, without_literal, is_tautology}
 use Rattle.cnf.specs.Formula.{IsFormulaClause}
 use Rattle.cnf.specs.Lrat.{IsId}
 use Rattle.clauses.specs.Slots.{Slots, clause_at}
@@ -41,11 +41,11 @@ resolvent_all P p c d a b =
     (All-filter (λ k. not (literal_eq (negation p) k)) P d b))
 
 pub resolvent_clause : (n : ℕ) (p : Literal) (c d : List Literal) → IsFormulaClause n c
-    → IsFormulaClause n d → has_opposites (resolvent p c d) ≡ false
+    → IsFormulaClause n d → is_tautology (resolvent p c d) ≡ false
     → IsFormulaClause n (resolvent p c d)
 resolvent_clause n p c d fc fd plain = record {
   no_repeat = resolvent-no_repeat p c d fc.no_repeat fd.no_repeat;
-  no_opposites = plain;
+  no_tautology = plain;
   from_one = resolvent_all (λ l. 0 < l.variable) p c d fc.from_one fd.from_one;
   small = resolvent-small p c d n fc.small fd.small;
 }
@@ -68,7 +68,7 @@ module _ (start : Start) (s : Simplifier) (slots : Slots) (ls : List LogLine) (p
   pub resolvent_addable : (kind : Kind) (clause : List Literal) (hints : List Hint)
       → is_delete kind ≡ false → is_learned kind ≡ false
       → contains_literal p c ≡ true → contains_literal (negation p) d ≡ true
-      → has_opposites (resolvent p c d) ≡ false → clause ≡ resolvent p c d
+      → is_tautology (resolvent p c d) ≡ false → clause ≡ resolvent p c d
       → hints ≡ Plain (name_at s.names.names first) ∷ Plain (name_at s.names.names second) ∷ []
       → IsAddableLine start s ls (record { kind = kind; clause = clause; hints = hints })
   resolvent_addable kind clause hints adds unlearned has has_not plain clause_is hints_are =
@@ -112,8 +112,8 @@ module _ (s : Simplifier) (slots : Slots) (ls : List LogLine) (w : IsSimplifier 
       let f = w.1.state.work.clauses r c live in
       subst (λ n. All (HasPlace n) c) (sym w.1.marks) (places_of s.vars c f.from_one f.small)
 
-  pub literals_plain : has_opposites c ≡ false
-  literals_plain = (w.1.state.work.clauses r c live).no_opposites
+  pub literals_plain : is_tautology c ≡ false
+  literals_plain = (w.1.state.work.clauses r c live).no_tautology
 
   -- and it has a name
   pub is_named : r < length s.names.names

@@ -10,7 +10,7 @@ use Rattle.std.proofs.lemmas.List.Elements.{All-nil, All-cons, All-head, All-tai
 use Rattle.std.proofs.lemmas.Option.{same_Some}
 use Rattle.cnf.specs.Literal.{Literal, literal_eq, same_bool}
 use Rattle.cnf.specs.Clause.{Satisfies, is_subset, greatest_variable, contains_literal}
-use Rattle.cnf.specs.Clause.{has_opposites}
+use Rattle.cnf.specs.Clause.{is_tautology}
 use Rattle.cnf.specs.Formula.{IsFormulaClause}
 use Rattle.cnf.specs.Bits.{assignment_of}
 use Rattle.clauses.specs.Slots.{Slots, clause_at, live_clauses}
@@ -126,7 +126,7 @@ pub record GoesWith (r : Removed) (slots left : Slots) : Type 0 where
   pub have : HaveVariable r.variable r.clauses
   pub resolved : All (λ c. All (λ d. contains_literal (positive r.variable) c ≡ true
       → contains_literal (negative r.variable) d ≡ true
-      → (has_opposites (resolvent (positive r.variable) c d) ≡ true)
+      → (is_tautology (resolvent (positive r.variable) c d) ≡ true)
       ⊎ Contains (live_clauses left) (resolvent (positive r.variable) c d)) r.clauses) r.clauses
 
 pub goes_back : (n : ℕ) (removed : List Removed) (r : Removed) (before : List (List Literal))

@@ -235,7 +235,7 @@ module _ (start : Start) (s : Simplifier) (slots : Slots) (ls : List LogLine) (u
           };
           clause = record {
             no_repeat = refl;
-            no_opposites = refl;
+            no_tautology = refl;
             from_one =
                 All-cons (λ (k : Literal). 0 < k.variable) l [] some
                 (All-nil (λ (k : Literal). 0 < k.variable));
@@ -289,7 +289,7 @@ module _ (start : Start) (s : Simplifier) (slots : Slots) (ls : List LogLine) (u
           };
           clause = record {
             no_repeat = refl;
-            no_opposites = refl;
+            no_tautology = refl;
             from_one = All-nil (λ (k : Literal). 0 < k.variable);
             small = omega arith;
           };

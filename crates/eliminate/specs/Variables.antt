@@ -2,7 +2,7 @@
 use Rattle.std.specs.Prelude.{◌≡◌, ℕ, Bool, true, false, List, length, Some, ◌⊎◌, All}
 use Rattle.std.specs.Prelude.{Contains, Result, MatchResult}
 use Rattle.cnf.specs.Literal.{Literal, negation}
-use Rattle.cnf.specs.Clause.{contains_literal, has_opposites}
+use Rattle.cnf.specs.Clause.{contains_literal, is_tautology}
 use Rattle.clauses.specs.Slots.{Slots, clause_at}
 use Rattle.lrat_log.specs.declared.lines.Name.{Name}
 use Rattle.lrat_log.specs.Log.{LogLine, Given}
@@ -60,9 +60,9 @@ pub record GrowsWithout (l : Literal) (slots more : Slots) : Type 0 where
   pub came : (r : ℕ) (c : List Literal) → clause_at more r ≡ Some c
       → (clause_at slots r ≡ Some c) ⊎ LacksBoth l c
 
--- the resolvent of two clauses has an opposite pair or is there
+-- the resolvent of two clauses has complementary literals or is there
 abbrev pub IsResolvedIn : Slots → Literal → List Literal → List Literal → Type 0
-IsResolvedIn slots p c d = (has_opposites (resolvent p c d) ≡ true)
+IsResolvedIn slots p c d = (is_tautology (resolvent p c d) ≡ true)
     ⊎ ((r : ℕ) × (clause_at slots r ≡ Some (resolvent p c d)))
 
 -- so is that of the clauses under two references, which the store before has

@@ -19,7 +19,7 @@ use lrat_log::sink::Sink;
 use std::alloc::{AllocError, Global};
 
 /// Adds the resolvent of two clauses, the first with the pivot and the second with its negation,
-/// where it has no opposite pair. The empty one ends everything.
+/// where it has no complementary literals. The empty one ends everything.
 pub(crate) fn add_resolvent<S: Sink>(
     simplifier: &mut Simplifier,
     store: &mut Store,

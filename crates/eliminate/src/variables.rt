@@ -179,7 +179,8 @@ fn gather(
     Ok(())
 }
 
-/// Adds the resolvents of all pairs that have no opposite pair. It stops at the empty clause.
+/// Adds the resolvents of all pairs that have no complementary literals. It stops at the empty
+/// clause.
 fn add_resolvents<S: Sink>(
     simplifier: &mut Simplifier,
     store: &mut Store,

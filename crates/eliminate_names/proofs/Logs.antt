@@ -74,7 +74,7 @@ rup_line_more given more ls l r steps = log_steps_more (given ++ more) ls l step
                         (let e : base ≡ base + 0 = omega arith in e),
                   );
               no_repeat = r.no_repeat;
-              no_opposites = r.no_opposites;
+              no_tautology = r.no_tautology;
               small = r.small;
             },
             inl (

@@ -2,7 +2,7 @@
 use Rattle.std.specs.Prelude.{◌≡◌, ℕ, ◌+◌, ◌<◌, ◌≤◌, false, List, [], ◌∷◌, length, map}
 use Rattle.std.specs.Prelude.{Some, None, All, slice_index_or}
 use Rattle.cnf.specs.Literal.{Literal, negation}
-use Rattle.cnf.specs.Clause.{has_repeat, has_opposites, greatest_variable}
+use Rattle.cnf.specs.Clause.{has_repeat, is_tautology, greatest_variable}
 use Rattle.cnf.specs.Formula.{IsFormulaClause}
 use Rattle.cnf.specs.Refute.{Clauses, Refutes}
 use Rattle.cnf.specs.Lrat.{IsId}
@@ -74,7 +74,7 @@ pub record IsWork (first variables : ℕ) (given : Given) (slots : Slots) (names
 pub record IsRupLine (given : Given) (ls : List LogLine) (l : LogLine) : Type 0 where
   pub adds : is_delete l.kind ≡ false
   pub no_repeat : has_repeat l.clause ≡ false
-  pub no_opposites : has_opposites l.clause ≡ false
+  pub no_tautology : is_tautology l.clause ≡ false
   pub small : greatest_variable l.clause < VARIABLE_LIMIT
   pub plain : (base : ℕ) → group_ids base l.hints ≡ []
   pub refutes : (base : ℕ) → IsBaseOf given base

@@ -5,7 +5,7 @@ use Rattle.std.specs.Prelude.{◌==◌}
 use Rattle.std.proofs.lemmas.Bool.{or_left, or_right, or_from, and_left, and_right, both_ways}
 use Rattle.std.proofs.lemmas.Bool.{ne_eqb}
 use Rattle.cnf.specs.Literal.{Literal, negation, literal_eq, same_bool}
-use Rattle.cnf.specs.Clause.{contains_literal, without_literal, has_repeat, has_opposites}
+use Rattle.cnf.specs.Clause.{contains_literal, without_literal, has_repeat, is_tautology}
 use Rattle.cnf.specs.Refute.{Clauses}
 use Rattle.cnf.specs.Lrat.{CandidateHints, Live, IsAddable, IsRat}
 use Rattle.eliminate_pairs.specs.Pairs.{positive, whole_clause, side_clause}
@@ -110,7 +110,7 @@ first_addable live id z a b rising p = record {
       (other_variable (negation (positive z)) b p.not_b) refl))
       (or_from (contains_literal a (b ∷ [])) false
       (or_from (literal_eq a b) false (other_variable a b p.two) refl) refl);
-  no_opposites = or_from (contains_literal (positive z) (a ∷ b ∷ [])) (has_opposites (a ∷ b ∷ []))
+  no_tautology = or_from (contains_literal (positive z) (a ∷ b ∷ [])) (is_tautology (a ∷ b ∷ []))
       (or_from (literal_eq (positive z) a) (contains_literal (positive z) (b ∷ []))
       (other_variable (positive z) a p.not_a)
       (or_from (literal_eq (positive z) b) false (other_variable (positive z) b p.not_b) refl))
@@ -128,7 +128,7 @@ side_addable live id z a rising other few few_too = record {
       or_from (contains_literal (positive z) (negation a ∷ [])) false
       (or_from (literal_eq (positive z) (negation a)) false
       (other_variable (positive z) (negation a) other) refl) refl;
-  no_opposites =
+  no_tautology =
       or_from (contains_literal (negation (positive z)) (negation a ∷ [])) false
       (or_from (literal_eq (negation (positive z)) (negation a)) false
       (other_variable (negation (positive z)) (negation a) other) refl) refl;

@@ -3,10 +3,10 @@ pub use Rattle.eliminate_pairs.proofs.Literals.{Covers, any_member, contains-fil
 pub use Rattle.eliminate_pairs.proofs.Literals.{contains-negations}
 pub use Rattle.eliminate_pairs.proofs.Literals.{contains_same, covered_unit}
 pub use Rattle.eliminate_pairs.proofs.Literals.{filter-contains}
-pub use Rattle.eliminate_pairs.proofs.Literals.{greatest-filter, has_opposites-filter}
+pub use Rattle.eliminate_pairs.proofs.Literals.{greatest-filter, is_tautology-filter}
 pub use Rattle.eliminate_pairs.proofs.Literals.{has_repeat-filter}
 pub use Rattle.eliminate_pairs.proofs.Literals.{literal_eq-negations, literal_eq-sides}
 pub use Rattle.eliminate_pairs.proofs.Literals.{member-small}
-pub use Rattle.eliminate_pairs.proofs.Literals.{negation_twice, not-opposite, not_not}
+pub use Rattle.eliminate_pairs.proofs.Literals.{negation_twice, not-complement, not_not}
 pub use Rattle.eliminate_pairs.proofs.Literals.{without-contains}
 pub use Rattle.eliminate_pairs.proofs.Together.{fit_together, stage_together}

@@ -7,9 +7,9 @@ use Rattle.std.proofs.lemmas.Bool.{or_cases, or_parts, or_left, or_right, or_fro
 use Rattle.std.proofs.lemmas.Bool.{both_ways, false_from_ne_true, false≢true}
 use Rattle.cnf.specs.Literal.{Literal, Assignment, negation, literal_eq, literal_value}
 use Rattle.cnf.specs.Clause.{clause_value, contains_literal, without_literal, has_repeat}
-use Rattle.cnf.specs.Clause.{has_opposites, greatest_variable}
+use Rattle.cnf.specs.Clause.{is_tautology, greatest_variable}
 use Rattle.cnf.specs.Refute.{IsUnit}
-use Rattle.cnf.proofs.Laws.{literal_eq-refl, contains_negation, literal_eq-opposite}
+use Rattle.cnf.proofs.Laws.{literal_eq-refl, contains_negation, literal_eq-complement}
 use Rattle.cnf.proofs.Laws.{literal_eq-true}
 pub use Rattle.cnf.proofs.Laws.{negation_twice}
 pub use Rattle.lrat_log.proofs.Laws.{literal_eq-negations, contains-negations}
@@ -89,23 +89,23 @@ without-contains p k c e =
       | false ↦ λ h. inr (contains-filter (λ l. not (literal_eq p l)) k c e (ap not h))
     ] refl
 
--- a clause without opposites that has a literal has not its negation
-pub not-opposite : (p : Literal) (c : List Literal) → has_opposites c ≡ false
+-- a clause without complementary literals that has a literal has not its negation
+pub not-complement : (p : Literal) (c : List Literal) → is_tautology c ≡ false
     → contains_literal p c ≡ true → contains_literal (negation p) c ≡ false
-not-opposite p [] o e = refl
-not-opposite p (k ∷ c) o e =
-    let h = or_parts (contains_literal (negation k) c) (has_opposites c) o in
+not-complement p [] o e = refl
+not-complement p (k ∷ c) o e =
+    let h = or_parts (contains_literal (negation k) c) (is_tautology c) o in
     elim (or_cases (literal_eq p k) (contains_literal p c) e) [
       | inl same ↦ subst (λ x. contains_literal (negation x) (k ∷ c) ≡ false)
           (sym (literal_eq-true p k same))
           (or_from (literal_eq (negation k) k) (contains_literal (negation k) c)
-          (literal_eq-opposite k) h.0)
+          (literal_eq-complement k) h.0)
       | inr more ↦ or_from (literal_eq (negation p) k) (contains_literal (negation p) c)
           (false_from_ne_true (literal_eq (negation p) k)
           (λ x. both_ways (contains_literal (negation k) c) h.0
           (contains_same (negation k) p c (ap negation (sym (literal_eq-true (negation p) k x))
           ∙ negation_twice p) ∙ more)))
-          (not-opposite p c h.1 more)
+          (not-complement p c h.1 more)
     ]
 
 pub apart-filter : (q : Literal → Bool) (k : Literal) (c : List Literal)
@@ -125,15 +125,15 @@ has_repeat-filter q (k ∷ c) r =
       | false ↦ has_repeat-filter q c h.1
     ]
 
-pub has_opposites-filter : (q : Literal → Bool) (c : List Literal) → has_opposites c ≡ false
-    → has_opposites (filter q c) ≡ false
-has_opposites-filter q [] r = refl
-has_opposites-filter q (k ∷ c) r =
-    let h = or_parts (contains_literal (negation k) c) (has_opposites c) r in
-    elim (q k) as (λ b. has_opposites (if b then k ∷ filter q c else filter q c) ≡ false) [
-      | true ↦ or_from (contains_literal (negation k) (filter q c)) (has_opposites (filter q c))
-          (apart-filter q (negation k) c h.0) (has_opposites-filter q c h.1)
-      | false ↦ has_opposites-filter q c h.1
+pub is_tautology-filter : (q : Literal → Bool) (c : List Literal) → is_tautology c ≡ false
+    → is_tautology (filter q c) ≡ false
+is_tautology-filter q [] r = refl
+is_tautology-filter q (k ∷ c) r =
+    let h = or_parts (contains_literal (negation k) c) (is_tautology c) r in
+    elim (q k) as (λ b. is_tautology (if b then k ∷ filter q c else filter q c) ≡ false) [
+      | true ↦ or_from (contains_literal (negation k) (filter q c)) (is_tautology (filter q c))
+          (apart-filter q (negation k) c h.0) (is_tautology-filter q c h.1)
+      | false ↦ is_tautology-filter q c h.1
     ]
 
 pub literal_eq-sides : (k l : Literal) → literal_eq k l ≡ false → literal_eq l k ≡ false

@@ -6,7 +6,7 @@ use Rattle.std.proofs.lemmas.Bool.{or_cases, or_left, or_right, or_from, both_wa
 use Rattle.std.proofs.lemmas.Bool.{false_from_ne_true, eq-eqb, false≢true, true≢false, and_from}
 use Rattle.cnf.specs.Literal.{Literal, Assignment, negation, literal_value, literal_eq, same_bool}
 use Rattle.cnf.specs.Clause.{Satisfies, clause_value, contains_literal, without_literal}
-use Rattle.cnf.specs.Clause.{has_repeat, has_opposites, greatest_variable}
+use Rattle.cnf.specs.Clause.{has_repeat, is_tautology, greatest_variable}
 use Rattle.cnf.specs.Formula.{IsFormulaClause}
 use Rattle.cnf.specs.Refute.{Clauses, Refutes}
 use Rattle.cnf.proofs.Laws.{literal_eq-true, all_from, absent_own, contained_true}
@@ -19,10 +19,10 @@ use Rattle.eliminate_pairs.specs.Pairs.{positive, whole_clause, side_clause, rep
 use Rattle.eliminate_names.specs.Work.{IsRupLine}
 use Rattle.cnf.proofs.Laws.{literal_eq-refl}
 use Rattle.eliminate_pairs.proofs.Literals.{negation_twice, contains-negations}
-use Rattle.eliminate_pairs.proofs.Literals.{without-contains, not-opposite, Covers}
+use Rattle.eliminate_pairs.proofs.Literals.{without-contains, not-complement, Covers}
 use Rattle.eliminate_pairs.proofs.Literals.{covered_unit}
 use Rattle.eliminate_pairs.proofs.Literals.{literal_eq-sides, apart-filter, has_repeat-filter}
-use Rattle.eliminate_pairs.proofs.Literals.{has_opposites-filter, value-filter}
+use Rattle.eliminate_pairs.proofs.Literals.{is_tautology-filter, value-filter}
 use Rattle.eliminate_pairs.proofs.Literals.{greatest-filter}
 
 -- a clause with two literals and without z
@@ -32,7 +32,7 @@ pub record HasPair (z : ℕ) (a b : Literal) (c : List Literal) : Type 0 where
   pub two : literal_eq a b ≡ false
   pub no_z : (contains_literal (positive z) c ≡ false)
       × (contains_literal (negation (positive z)) c ≡ false)
-  pub plain : has_opposites c ≡ false
+  pub plain : is_tautology c ≡ false
 
 -- what is in c is not what is not in c
 not_same : (k l : Literal) (c : List Literal) → contains_literal k c ≡ true
@@ -99,10 +99,10 @@ replaced_refutes at z a b c j k i live_a live_b live h =
     same_in (positive z) (positive z) (without_literal b (without_literal a c)) refl in
     let lacks_na : contains_literal (negation a) r ≡ false =
     replaced-lacks z a b (negation a) c (not_z z a c h.has_a h.no_z.1)
-    (less_two a b (negation a) c (not-opposite a c h.plain h.has_a)) in
+    (less_two a b (negation a) c (not-complement a c h.plain h.has_a)) in
     let lacks_nb : contains_literal (negation b) r ≡ false =
     replaced-lacks z a b (negation b) c (not_z z b c h.has_b h.no_z.1)
-    (less_two a b (negation b) c (not-opposite b c h.plain h.has_b)) in
+    (less_two a b (negation b) c (not-complement b c h.plain h.has_b)) in
     let lacks_a : contains_literal a r ≡ false =
     replaced-lacks z a b a c
     (literal_eq-sides (positive z) a (not_same a (positive z) c h.has_a h.no_z.0))
@@ -130,7 +130,7 @@ replaced_refutes at z a b c j k i live_a live_b live h =
               (side_covers z b (a ∷ r)
               (or_right (literal_eq (positive z) a) (contains_literal (positive z) r) z_in))
               (or_from (literal_eq (negation b) a) (contains_literal (negation b) r)
-              (not_same a (negation b) c h.has_a (not-opposite b c h.plain h.has_b)) lacks_nb)
+              (not_same a (negation b) c h.has_a (not-complement b c h.plain h.has_b)) lacks_nb)
               (subst (λ x. contains_literal x (a ∷ r) ≡ false) (sym (negation_twice b))
               (or_from (literal_eq b a) (contains_literal b r)
               (literal_eq-sides a b h.two) lacks_b)),
@@ -160,14 +160,14 @@ replaced-no_repeat z a b c h once =
     (has_repeat-filter (λ k. not (literal_eq b k)) (without_literal a c)
     (has_repeat-filter (λ k. not (literal_eq a k)) c once))
 
-pub replaced-no_opposites : (z : ℕ) (a b : Literal) (c : List Literal) → HasPair z a b c
-    → has_opposites c ≡ false → has_opposites (replaced z a b c) ≡ false
-replaced-no_opposites z a b c h plain =
+pub replaced-no_tautology : (z : ℕ) (a b : Literal) (c : List Literal) → HasPair z a b c
+    → is_tautology c ≡ false → is_tautology (replaced z a b c) ≡ false
+replaced-no_tautology z a b c h plain =
     or_from (contains_literal (negation (positive z)) (without_literal b (without_literal a c)))
-    (has_opposites (without_literal b (without_literal a c)))
+    (is_tautology (without_literal b (without_literal a c)))
     (less_two a b (negation (positive z)) c h.no_z.1)
-    (has_opposites-filter (λ k. not (literal_eq b k)) (without_literal a c)
-    (has_opposites-filter (λ k. not (literal_eq a k)) c plain))
+    (is_tautology-filter (λ k. not (literal_eq b k)) (without_literal a c)
+    (is_tautology-filter (λ k. not (literal_eq a k)) c plain))
 
 replaced-small : (n z : ℕ) (a b : Literal) (c : List Literal) → n < 2 ^ 27 → z < 2 ^ 27
     → greatest_variable c ≤ n → greatest_variable (replaced z a b c) < 2 ^ 27
@@ -180,7 +180,7 @@ replaced-small n z a b c few few_z small =
 
 -- two literals of a clause are on two variables
 pub pair_variables : (a b : Literal) (c : List Literal) → contains_literal a c ≡ true
-    → contains_literal b c ≡ true → literal_eq a b ≡ false → has_opposites c ≡ false
+    → contains_literal b c ≡ true → literal_eq a b ≡ false → is_tautology c ≡ false
     → a.variable ≡ b.variable → ⊥
 pair_variables a b c has_a has_b two plain e =
     elim (same_bool a.negated b.negated) as (λ s. same_bool a.negated b.negated ≡ s → ⊥) [
@@ -190,7 +190,7 @@ pair_variables a b c has_a has_b two plain e =
       | false ↦ λ s. both_ways (literal_eq (negation a) b)
           (literal_eq-sides b (negation a)
           (literal_eq-sides (negation a) b
-          (not_same b (negation a) c has_b (not-opposite a c plain has_a))))
+          (not_same b (negation a) c has_b (not-complement a c plain has_a))))
           (and_from (a.variable == b.variable) (same_bool (not a.negated) b.negated)
           (eq-eqb a.variable b.variable e) (other a.negated b.negated s))
     ] refl
@@ -237,7 +237,7 @@ pub replaced_line : (given : Given) (ls : List LogLine) (kind : Kind) (n z : ℕ
 replaced_line given ls kind n z a b c first second third adds few few_z f h live = record {
   adds = adds;
   no_repeat = replaced-no_repeat z a b c h f.no_repeat;
-  no_opposites = replaced-no_opposites z a b c h f.no_opposites;
+  no_tautology = replaced-no_tautology z a b c h f.no_tautology;
   small = replaced-small n z a b c few few_z f.small;
   plain = λ base. refl;
   refutes = λ base above. let l = live base above in

@@ -11,7 +11,7 @@ use Rattle.std.proofs.lemmas.List.Elements.{All-nil, All-cons, All-head, All-tai
 use Rattle.std.proofs.lemmas.List.Elements.{All-filter, All-from_recursion}
 use Rattle.std.proofs.lemmas.Option.{same_Some}
 use Rattle.cnf.specs.Literal.{Literal, Assignment, negation, literal_eq}
-use Rattle.cnf.specs.Clause.{Satisfies, contains_literal, without_literal, has_opposites}
+use Rattle.cnf.specs.Clause.{Satisfies, contains_literal, without_literal, is_tautology}
 use Rattle.cnf.specs.Formula.{IsFormulaClause}
 use Rattle.cnf.specs.Lrat.{IsId}
 use Rattle.cnf.proofs.Laws.{literal_eq-true}
@@ -41,7 +41,7 @@ use Rattle.lrat_log.proofs.Laws.{additions_push, open_push}
 use Rattle.eliminate_names.proofs.Laws.{named_added, name-push, name-last}
 use Rattle.eliminate_pairs.proofs.Replacing.{HasPair, replaced_line, replaced_back}
 use Rattle.eliminate_pairs.proofs.Replacing.{replaced-no_repeat}
-use Rattle.eliminate_pairs.proofs.Replacing.{replaced-no_opposites, pair_variables}
+use Rattle.eliminate_pairs.proofs.Replacing.{replaced-no_tautology, pair_variables}
 use Rattle.cnf.proofs.Laws.{literal_eq-refl}
 use Rattle.eliminate_pairs.proofs.Literals.{greatest-filter, member-small}
 use Rattle.eliminate_pairs.proofs.Pairing.{lacks_both, stays_whole, stays_side}
@@ -86,7 +86,7 @@ wider : (n m : ℕ) (c : List Literal) → n ≤ m → IsFormulaClause n c → I
 wider n m c le f =
     record {
       no_repeat = f.no_repeat;
-      no_opposites = f.no_opposites;
+      no_tautology = f.no_tautology;
       from_one = f.from_one;
       small = omega (arith, f.small);
     }
@@ -202,7 +202,7 @@ module _ (ground : Ground) (s : Stage) (k : IsStage ground s) where
         not_b = λ e. omega arith;
         two =
             pair_variables a b w.clause w.has_a w.has_b w.two
-            (k.work.clauses w.place w.clause w.there).no_opposites;
+            (k.work.clauses w.place w.clause w.there).no_tautology;
         small = omega arith;
       }
 
@@ -224,7 +224,7 @@ module _ (ground : Ground) (s : Stage) (k : IsStage ground s) where
       refl refl small
       (record {
         no_repeat = one.no_repeat;
-        no_opposites = one.no_opposites;
+        no_tautology = one.no_tautology;
         from_one = All-cons (λ (x : Literal). 0 < x.variable) (negation (positive z)) (a ∷ b ∷ [])
             (omega arith)
             (All-cons (λ (x : Literal). 0 < x.variable) a (b ∷ [])
@@ -264,7 +264,7 @@ module _ (ground : Ground) (s : Stage) (k : IsStage ground s) where
       refl refl small
       (record {
         no_repeat = one.no_repeat;
-        no_opposites = one.no_opposites;
+        no_tautology = one.no_tautology;
         from_one =
             All-cons (λ (x : Literal). 0 < x.variable) (positive z) (negation a ∷ [])
             (from_one_in f c (negation (positive z)) live has)
@@ -402,7 +402,7 @@ abbrev pub with_replaced : Stage → Fresh → ℕ → List Literal → Stage
 with_replaced s d r c = added_stage s s.variables (replaced_line_of s d r c)
 
 has_pair : (d : Fresh) (c : List Literal) → literal_eq d.left d.right ≡ false
-    → has_opposites c ≡ false → HasPairOf d.variable d.left d.right c
+    → is_tautology c ≡ false → HasPairOf d.variable d.left d.right c
     → HasPair d.variable d.left d.right c
 has_pair d c two plain h =
     record {
@@ -451,7 +451,7 @@ pub replaced_right : (ground : Ground) (s : Stage) (d : Fresh) (r : ℕ) (c : Li
 replaced_right ground s d r c defined live pair few small k =
     let z : ℕ = d.variable in
     let f : IsFormulaClause s.variables c = k.work.clauses r c live in
-    let h : HasPair z d.left d.right c = has_pair d c defined.two f.no_opposites pair in
+    let h : HasPair z d.left d.right c = has_pair d c defined.two f.no_tautology pair in
     let lz : z ≤ s.variables =
     few_in ground s k d.left_side (side_clause z d.left) (positive z) defined.left_side
     (side-has_fresh z d.left) in
@@ -471,7 +471,7 @@ replaced_right ground s d r c defined live pair few small k =
     refl refl small
     (record {
       no_repeat = replaced-no_repeat z d.left d.right c h f.no_repeat;
-      no_opposites = replaced-no_opposites z d.left d.right c h f.no_opposites;
+      no_tautology = replaced-no_tautology z d.left d.right c h f.no_tautology;
       from_one =
           all-replaced (λ (x : Literal). 0 < x.variable) z d.left d.right c
           (from_one_in ground s k d.left_side (side_clause z d.left) (positive z) defined.left_side

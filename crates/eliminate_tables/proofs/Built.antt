@@ -7,15 +7,15 @@ use Rattle.std.proofs.lemmas.Bool.{or_cases, or_parts, or_left, or_right, or_fro
 use Rattle.std.proofs.lemmas.Bool.{false_from_ne_true, false≢true}
 use Rattle.std.proofs.lemmas.List.Elements.{All-head, All-tail}
 use Rattle.cnf.specs.Literal.{Literal, negation, literal_eq}
-use Rattle.cnf.specs.Clause.{contains_literal, without_literal, has_opposites}
+use Rattle.cnf.specs.Clause.{contains_literal, without_literal, is_tautology}
 use Rattle.cnf.proofs.Laws.{literal_eq-true, contains_front, contains_back}
 use Rattle.cnf.specs.Marks.{IsMarked, mark_of}
-use Rattle.eliminate_tables.specs.Resolvents.{resolvent, unmarked_rest, is_opposed}
+use Rattle.eliminate_tables.specs.Resolvents.{resolvent, unmarked_rest, clashes}
 use Rattle.cnf.proofs.Laws.{literal_eq-refl}
 use Rattle.eliminate_tables.proofs.Resolve.{negation_twice, contains-filter, filter-contains}
 use Rattle.eliminate_tables.proofs.Resolve.{contains-either}
-use Rattle.eliminate_tables.proofs.Resolve.{not-opposite}
-use Rattle.eliminate_pairs.proofs.Laws.{has_opposites-filter, literal_eq-sides}
+use Rattle.eliminate_tables.proofs.Resolve.{not-complement}
+use Rattle.eliminate_pairs.proofs.Laws.{is_tautology-filter, literal_eq-sides}
 use Rattle.eliminate_pairs.proofs.Laws.{any_member}
 use Rattle.cnf.proofs.Laws.{at_contains}
 
@@ -30,17 +30,17 @@ member_has P (l ∷ c) k all e =
     ]
 
 -- the negation of this literal is marked
-pub opposed_at : (marks : List Bool) (q : Literal) (c : List Literal) (i : ℕ) (l : Literal)
+pub clash_at : (marks : List Bool) (q : Literal) (c : List Literal) (i : ℕ) (l : Literal)
     → i < length c → l ≡ get_or c i l → literal_eq l q ≡ false → mark_of marks l ≡ false
     → mark_of marks (negation l) ≡ true
-    → list_any (is_opposed marks) (unmarked_rest marks q c) ≡ true
-opposed_at marks q c i l h is other unmarked opposed =
+    → list_any (clashes marks) (unmarked_rest marks q c) ≡ true
+clash_at marks q c i l h is other unmarked clash =
     let apart : literal_eq q l ≡ false = literal_eq-sides l q other in
     let in_rest : contains_literal l (without_literal q c) ≡ true =
     contains-filter (λ k. not (literal_eq q k)) l c (at_contains c i l h is) (ap not apart) in
-    any_member (is_opposed marks) l (unmarked_rest marks q c)
+    any_member (clashes marks) l (unmarked_rest marks q c)
     (contains-filter (λ k. not (mark_of marks k)) l (without_literal q c) in_rest
-    (ap not unmarked)) opposed
+    (ap not unmarked)) clash
 
 -- where the literals of a are marked, what is not marked is not in a
 pub rest_is : (marks : List Bool) (a : List Literal) (q : Literal) (c : List Literal)
@@ -59,13 +59,13 @@ rest_is marks a q (k ∷ c) m some =
       | false ↦ λ i. if not (same i) then k ∷ rest i else rest i
     ]
 
-no_opposites-append : (c d : List Literal) → has_opposites c ≡ false → has_opposites d ≡ false
+no_tautology-append : (c d : List Literal) → is_tautology c ≡ false → is_tautology d ≡ false
     → ((k : Literal) → contains_literal k d ≡ true → contains_literal (negation k) c ≡ false)
-    → has_opposites (c ++ d) ≡ false
-no_opposites-append [] d oc od apart = od
-no_opposites-append (l ∷ c) d oc od apart =
-    let h = or_parts (contains_literal (negation l) c) (has_opposites c) oc in
-    or_from (contains_literal (negation l) (c ++ d)) (has_opposites (c ++ d))
+    → is_tautology (c ++ d) ≡ false
+no_tautology-append [] d oc od apart = od
+no_tautology-append (l ∷ c) d oc od apart =
+    let h = or_parts (contains_literal (negation l) c) (is_tautology c) oc in
+    or_from (contains_literal (negation l) (c ++ d)) (is_tautology (c ++ d))
     (false_from_ne_true (contains_literal (negation l) (c ++ d))
     (λ e. elim (contains-either (negation l) c d e) [
       | inl m ↦ both_ways (contains_literal (negation l) c) h.0 m
@@ -73,16 +73,16 @@ no_opposites-append (l ∷ c) d oc od apart =
           (subst (λ x. contains_literal x (l ∷ c) ≡ true) (sym (negation_twice l))
           (or_left (literal_eq l l) (contains_literal l c) (literal_eq-refl l)))
     ]))
-    (no_opposites-append c d h.1 od
+    (no_tautology-append c d h.1 od
     (λ k e. (or_parts (literal_eq (negation k) l) (contains_literal (negation k) c)
     (apart k e)).1))
 
 -- a literal and its negation
-opposites_both : (c : List Literal) (k : Literal) → contains_literal k c ≡ true
-    → contains_literal (negation k) c ≡ true → has_opposites c ≡ true
-opposites_both c k e f = elim (has_opposites c) as (λ b. has_opposites c ≡ b → b ≡ true) [
+tautologies_both : (c : List Literal) (k : Literal) → contains_literal k c ≡ true
+    → contains_literal (negation k) c ≡ true → is_tautology c ≡ true
+tautologies_both c k e f = elim (is_tautology c) as (λ b. is_tautology c ≡ b → b ≡ true) [
   | true ↦ λ h. refl
-  | false ↦ λ h. absurd (both_ways (contains_literal (negation k) c) (not-opposite k c h e) f)
+  | false ↦ λ h. absurd (both_ways (contains_literal (negation k) c) (not-complement k c h e) f)
 ] refl
 
 some_member : (q : Literal → Bool) (c : List Literal) → list_any q c ≡ true
@@ -95,13 +95,14 @@ some_member q (l ∷ c) e =
           (w.0, or_right (literal_eq w.0 l) (contains_literal w.0 c) w.1, w.2)
     ]
 
--- the resolvent has an opposite pair just where the negation of some literal of the rest is marked
-pub opposed_is : (marks : List Bool) (p : Literal) (c d : List Literal)
-    → IsMarked marks (without_literal p c) → All (λ l. 0 < l.variable) d → has_opposites c ≡ false
-    → has_opposites d ≡ false
-    → list_any (is_opposed marks) (unmarked_rest marks (negation p) d) ≡ has_opposites
+-- the resolvent has complementary literals just where the negation of some literal of the rest is
+-- marked
+pub clash_is : (marks : List Bool) (p : Literal) (c d : List Literal)
+    → IsMarked marks (without_literal p c) → All (λ l. 0 < l.variable) d → is_tautology c ≡ false
+    → is_tautology d ≡ false
+    → list_any (clashes marks) (unmarked_rest marks (negation p) d) ≡ is_tautology
     (resolvent p c d)
-opposed_is marks p c d m some oc od =
+clash_is marks p c d m some oc od =
     let a : List Literal = without_literal p c in
     let rest : List Literal = unmarked_rest marks (negation p) d in
     let is : rest ≡ filter (λ k. not (contains_literal k a)) (without_literal (negation p) d) =
@@ -110,25 +111,25 @@ opposed_is marks p c d m some oc od =
     λ k e. member_has (λ l. 0 < l.variable) d k some
     (filter-contains (λ l. not (literal_eq (negation p) l)) k d
     (filter-contains (λ l. not (mark_of marks l)) k (without_literal (negation p) d) e).0).0 in
-    let o_rest : has_opposites rest ≡ false =
-    has_opposites-filter (λ k. not (mark_of marks k)) (without_literal (negation p) d)
-    (has_opposites-filter (λ k. not (literal_eq (negation p) k)) d od) in
-    let o_a : has_opposites a ≡ false = has_opposites-filter (λ k. not (literal_eq p k)) c oc in
-    elim (list_any (is_opposed marks) rest) as (λ b. list_any (is_opposed marks) rest ≡ b
-    → b ≡ has_opposites (resolvent p c d)) [
+    let o_rest : is_tautology rest ≡ false =
+    is_tautology-filter (λ k. not (mark_of marks k)) (without_literal (negation p) d)
+    (is_tautology-filter (λ k. not (literal_eq (negation p) k)) d od) in
+    let o_a : is_tautology a ≡ false = is_tautology-filter (λ k. not (literal_eq p k)) c oc in
+    elim (list_any (clashes marks) rest) as (λ b. list_any (clashes marks) rest ≡ b
+    → b ≡ is_tautology (resolvent p c d)) [
       | true ↦ λ e.
-          let w = some_member (is_opposed marks) rest e in
+          let w = some_member (clashes marks) rest e in
           let k : Literal = w.0 in
           let in_a : contains_literal (negation k) a ≡ true =
           sym (m.marked (negation k) (from_one k w.1)) ∙ w.2 in
-          sym (ap (λ x. has_opposites (a ++ x)) (sym is)
-          ∙ opposites_both (a ++ rest) k (contains_back k a rest w.1)
+          sym (ap (λ x. is_tautology (a ++ x)) (sym is)
+          ∙ tautologies_both (a ++ rest) k (contains_back k a rest w.1)
           (contains_front (negation k) a rest in_a))
       | false ↦ λ e.
-          sym (ap (λ x. has_opposites (a ++ x)) (sym is)
-          ∙ no_opposites-append a rest o_a o_rest (λ k h.
+          sym (ap (λ x. is_tautology (a ++ x)) (sym is)
+          ∙ no_tautology-append a rest o_a o_rest (λ k h.
           sym (m.marked (negation k) (from_one k h))
           ∙ false_from_ne_true (mark_of marks (negation k))
-          (λ f. both_ways (list_any (is_opposed marks) rest) e
-          (any_member (is_opposed marks) k rest h f))))
+          (λ f. both_ways (list_any (clashes marks) rest) e
+          (any_member (clashes marks) k rest h f))))
     ] refl

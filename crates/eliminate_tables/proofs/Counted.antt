@@ -10,9 +10,9 @@ use Rattle.cnf.specs.Literal.{Literal, negation, literal_eq}
 use Rattle.cnf.specs.Clause.{contains_literal, without_literal}
 use Rattle.clauses.specs.Slots.{Slots, clause_at}
 use Rattle.cnf.specs.Marks.{IsMarked, HasPlace}
-use Rattle.eliminate_tables.specs.Resolvents.{unmarked_rest, is_opposed}
+use Rattle.eliminate_tables.specs.Resolvents.{unmarked_rest, clashes}
 use Rattle.eliminate_tables.specs.Rows.{clause_under, clauses_under}
-use Rattle.eliminate_tables.specs.Worthwhile.{rest_of, are_opposed, are_few_and_short}
+use Rattle.eliminate_tables.specs.Worthwhile.{rest_of, give_tautology, are_few_and_short}
 use Rattle.eliminate_tables.proofs.Built.{rest_is}
 
 -- two tests that agree on the literals of a clause find the same
@@ -32,19 +32,19 @@ module _ (marks : List Bool) (p : Literal) (c d : List Literal)
   rest_marked =
       rest_is marks (without_literal p c) (negation p) d m (λ k z lt. (placed k z lt).0)
 
-  -- and its negations are marked where the two clauses are opposed
-  pub opposed_marked : list_any (is_opposed marks) (unmarked_rest marks (negation p) d)
-      ≡ are_opposed p c d
-  opposed_marked =
+  -- and its negations are marked where the two clauses are complementary
+  pub clash_marked : list_any (clashes marks) (unmarked_rest marks (negation p) d)
+      ≡ give_tautology p c d
+  clash_marked =
       let q : Literal → Bool = λ k. contains_literal (negation k) (without_literal p c) in
-      let agree : All (λ k. is_opposed marks k ≡ q k) d =
+      let agree : All (λ k. clashes marks k ≡ q k) d =
       λ k z lt. m.marked (negation (get_or d k z)) (placed k z lt).0 in
-      let left : All (λ k. is_opposed marks k ≡ q k) (without_literal (negation p) d) =
-      All-filter (λ k. not (literal_eq (negation p) k)) (λ k. is_opposed marks k ≡ q k) d agree in
-      ap (list_any (is_opposed marks)) rest_marked
-      ∙ any_same (is_opposed marks) q (rest_of p c d)
+      let left : All (λ k. clashes marks k ≡ q k) (without_literal (negation p) d) =
+      All-filter (λ k. not (literal_eq (negation p) k)) (λ k. clashes marks k ≡ q k) d agree in
+      ap (list_any (clashes marks)) rest_marked
+      ∙ any_same (clashes marks) q (rest_of p c d)
       (All-filter (λ k. not (contains_literal k (without_literal p c)))
-      (λ k. is_opposed marks k ≡ q k) (without_literal (negation p) d) left)
+      (λ k. clashes marks k ≡ q k) (without_literal (negation p) d) left)
 
 -- the clause under a reference that is looked at
 pub under_live : (slots : Slots) (r : ℕ) (c : List Literal) → clause_at slots r ≡ Some c

@@ -2,8 +2,9 @@
 pub use Rattle.eliminate_tables.proofs.Built.{member_has}
 pub use Rattle.eliminate_tables.proofs.Counted.{under_live}
 pub use Rattle.eliminate_tables.proofs.Resolve.{contains-either, filter-contains}
-pub use Rattle.eliminate_tables.proofs.Resolve.{literal_eq-negations, negation_twice, not-opposite}
-pub use Rattle.eliminate_tables.proofs.Resolve.{not-opposite_too, not_not, resolvent-open}
+pub use Rattle.eliminate_tables.proofs.Resolve.{literal_eq-negations, negation_twice}
+pub use Rattle.eliminate_tables.proofs.Resolve.{not-complement}
+pub use Rattle.eliminate_tables.proofs.Resolve.{not-complement_too, not_not, resolvent-open}
 pub use Rattle.eliminate_tables.proofs.Resolve.{resolvent-open_not, resolvent-parts}
 pub use Rattle.eliminate_tables.proofs.Resolve.{resolvent_refutes, without-contains}
 pub use Rattle.eliminate_tables.proofs.Writing.{some_clause}

@@ -72,11 +72,11 @@ apart_so_far marks c i l h is m e =
 pub apart_neither : (marks : List Bool) (c : List Literal) (i : ℕ) (l : Literal) (found : Against)
     → i < length c → l ≡ get_or c i l → mark_of marks l ≡ false → mark_of marks (negation l) ≡ false
     → IsOpen marks (unmarked marks (take i c)) found → against_of marks c ≡ Apart
-apart_neither marks c i l Apart h is m opposite lies = absurd lies
-apart_neither marks c i l Within h is m opposite lies =
+apart_neither marks c i l Apart h is m complement lies = absurd lies
+apart_neither marks c i l Within h is m complement lies =
     apart_so_far marks c i l h is m (ap (λ u. against_without marks (u ++ l ∷ [])) lies
-    ∙ rw opposite refl)
-apart_neither marks c i l (ButFor k) h is m opposite lies =
+    ∙ rw complement refl)
+apart_neither marks c i l (ButFor k) h is m complement lies =
     apart_so_far marks c i l h is m (ap (λ u. against_without marks (u ++ l ∷ [])) lies.0)
 
 -- a second literal that is not marked

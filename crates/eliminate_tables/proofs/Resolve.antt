@@ -3,7 +3,7 @@ use Rattle.std.proofs.Common.{◌≡◌, ℕ, true, false, not, List, [], ◌∷
 use Rattle.std.proofs.Common.{inl, inr, refl, sym, ◌∙◌, ap, subst}
 use Rattle.std.proofs.lemmas.Bool.{or_cases, or_left, or_right, both_ways, false_from_ne_true}
 use Rattle.cnf.specs.Literal.{Literal, negation, literal_eq}
-use Rattle.cnf.specs.Clause.{contains_literal, without_literal, has_opposites}
+use Rattle.cnf.specs.Clause.{contains_literal, without_literal, is_tautology}
 use Rattle.cnf.specs.Refute.{IsFalseUnder, Clauses, Refutes}
 use Rattle.eliminate_tables.specs.Resolvents.{resolvent}
 use Rattle.cnf.proofs.Laws.{literal_eq-refl, all_from, absent_own, contains_front, contains_back}
@@ -11,7 +11,7 @@ pub use Rattle.eliminate_pairs.proofs.Laws.{not_not, negation_twice, literal_eq-
 pub use Rattle.eliminate_pairs.proofs.Laws.{contains-negations}
 pub use Rattle.eliminate_pairs.proofs.Laws.{Covers, covered_unit, contains_same, contains-filter}
 pub use Rattle.eliminate_pairs.proofs.Laws.{filter-contains, without-contains}
-pub use Rattle.eliminate_pairs.proofs.Laws.{not-opposite}
+pub use Rattle.eliminate_pairs.proofs.Laws.{not-complement}
 
 covered_false : (p : Literal) (r d : List Literal) → Covers (negation p) r d
     → IsFalseUnder d (p ∷ map negation r)
@@ -124,19 +124,19 @@ pub record AreParents (at : Clauses) (p : Literal) (c d : List Literal) (i j : �
   pub second : at j ≡ Some d
   pub has : contains_literal p c ≡ true
   pub has_not : contains_literal (negation p) d ≡ true
-  pub plain : has_opposites c ≡ false
-  pub plain_too : has_opposites d ≡ false
+  pub plain : is_tautology c ≡ false
+  pub plain_too : is_tautology d ≡ false
 
-pub not-opposite_too : (p : Literal) (d : List Literal) → has_opposites d ≡ false
+pub not-complement_too : (p : Literal) (d : List Literal) → is_tautology d ≡ false
     → contains_literal (negation p) d ≡ true → contains_literal p d ≡ false
-not-opposite_too p d o e = contains_same p (negation (negation p)) d (sym (negation_twice p))
-    ∙ not-opposite (negation p) d o e
+not-complement_too p d o e = contains_same p (negation (negation p)) d (sym (negation_twice p))
+    ∙ not-complement (negation p) d o e
 
--- a resolvent is a RUP line by its parents, the one with the pivot first; has_opposites of the
+-- a resolvent is a RUP line by its parents, the one with the pivot first; is_tautology of the
 -- resolvent does not matter for that
 pub resolvent_refutes : (at : Clauses) (p : Literal) (c d : List Literal) (i j : ℕ)
     → AreParents at p c d i j → Refutes at (map negation (resolvent p c d)) (i ∷ j ∷ [])
 resolvent_refutes at p c d i j a = two_refute at p (resolvent p c d) c d i j a.first a.second a.has
     (resolvent-covers_left p c d) (resolvent-covers_right p c d)
-    (resolvent-open p c d (not-opposite_too p d a.plain_too a.has_not))
-    (resolvent-open_not p c d (not-opposite p c a.plain a.has))
+    (resolvent-open p c d (not-complement_too p d a.plain_too a.has_not))
+    (resolvent-open_not p c d (not-complement p c a.plain a.has))

@@ -9,7 +9,7 @@ use Rattle.eliminate_tables.specs.Rows.{Roomed, cleaned, with_space}
 use Rattle.eliminate_tables.specs.Schedule.{ScheduleState, entered, left, first_of, without_first}
 use Rattle.eliminate_tables.specs.Schedule.{is_candidate}
 use Rattle.eliminate_tables.specs.Signatures.{signature_of, all_within}
-use Rattle.eliminate_tables.specs.Worthwhile.{are_opposed, is_worthwhile}
+use Rattle.eliminate_tables.specs.Worthwhile.{give_tautology, is_worthwhile}
 
 -- variable 1 was eliminated from the clauses 1 2 and -1 3
 abbrev one : List Removed
@@ -102,8 +102,8 @@ with_not_one = (n 1 ∷ p 4 ∷ []) ∷ (n 1 ∷ p 5 ∷ []) ∷ (n 1 ∷ p 6 �
 no_worth : is_worthwhile (p 1) with_one with_not_one ≡ false
 no_worth = refl
 
-opposed : are_opposed (p 1) (p 1 ∷ p 2 ∷ []) (n 1 ∷ n 2 ∷ []) ≡ true
-opposed = refl
+clash : give_tautology (p 1) (p 1 ∷ p 2 ∷ []) (n 1 ∷ n 2 ∷ []) ≡ true
+clash = refl
 
 two_literals : signature_of (p 1 ∷ n 2 ∷ []) ≡ 9
 two_literals = refl

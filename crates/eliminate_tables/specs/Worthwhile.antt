@@ -13,8 +13,8 @@ rest_of p c d =
     filter (λ k. not (contains_literal k (without_literal p c))) (without_literal (negation p) d)
 
 -- the first clause has the negation of one of these: the resolvent is always true
-abbrev pub are_opposed : Literal → List Literal → List Literal → Bool
-are_opposed p c d =
+abbrev pub give_tautology : Literal → List Literal → List Literal → Bool
+give_tautology p c d =
     list_any (λ k. contains_literal (negation k) (without_literal p c)) (rest_of p c d)
 
 -- the resolvent is not too long; the first clause has the pivot beside those that it gives
@@ -23,11 +23,11 @@ is_short p c d = nat_le (length (rest_of p c d) + length c) (MOST_LITERALS + 1)
 
 -- no resolvent of c with these is long
 abbrev pub are_short : Literal → List Literal → List (List Literal) → Bool
-are_short p c ds = list_all (λ d. are_opposed p c d || is_short p c d) ds
+are_short p c ds = list_all (λ d. give_tautology p c d || is_short p c d) ds
 
 -- how many resolvents c has with these, but for those that are always true
 abbrev pub resolvent_count : Literal → List Literal → List (List Literal) → ℕ
-resolvent_count p c ds = count_by (λ d. not (are_opposed p c d)) ds
+resolvent_count p c ds = count_by (λ d. not (give_tautology p c d)) ds
 
 -- few clauses, and none that is long
 abbrev pub are_few_and_short : List (List Literal) → Bool

@@ -2,16 +2,17 @@
 ghost use Rattle.std.specs.Prelude.{◌≡◌, true, not, ◌++◌, length, false};
 ghost use Rattle.std.specs.Prelude.{All, IfOk, IfSome, None};
 ghost use Rattle.std.specs.List.{list_any};
-ghost use Rattle.cnf.specs.Clause.{without_literal, has_opposites};
+ghost use Rattle.cnf.specs.Clause.{without_literal, is_tautology};
 ghost use Rattle.cnf.specs.Marks.{HasPlace};
-ghost use Rattle.eliminate_tables.specs.Resolvents.{resolvent, unmarked_rest, is_opposed};
+ghost use Rattle.eliminate_tables.specs.Resolvents.{resolvent, unmarked_rest, clashes};
 
 use cnf::marks::Marks;
 use cnf::types::Lit;
 use std::alloc::AllocError;
 
 /// Builds the resolvent of two clauses, the first with the pivot and the second with its negation.
-/// The answer is whether it has no opposite pair; where it has one, what was built is of no use.
+/// The answer is whether it has no complementary literals; where it has one, what was built is of
+/// no use.
 pub fn resolve(
     marks: &mut Marks,
     pivot: Lit,
@@ -21,11 +22,11 @@ pub fn resolve(
 ) -> Result<bool, AllocError>
     requires first { All (HasPlace (length marks.old)) first.now }
     requires second { All (HasPlace (length marks.old)) second.now }
-    requires plain_first { has_opposites first.now ≡ false }
-    requires plain_second { has_opposites second.now ≡ false }
+    requires plain_first { is_tautology first.now ≡ false }
+    requires plain_second { is_tautology second.now ≡ false }
     ensures len { length marks.new ≡ length marks.old }
     ensures plain { IfOk result (λ plain.
-        plain ≡ not (has_opposites (resolvent pivot first.now second.now))) }
+        plain ≡ not (is_tautology (resolvent pivot first.now second.now))) }
     ensures built { IfOk result (λ plain. plain ≡ true
         → out.new.items ≡ resolvent pivot first.now second.now) }
 {
@@ -59,7 +60,7 @@ fn add_rest(
 ) -> Result<bool, AllocError>
     requires { All (HasPlace (length marks.now)) lits.now }
     ensures plain { IfOk result (λ plain.
-        plain ≡ not (list_any (is_opposed marks.now) (unmarked_rest marks.now left_out lits.now))) }
+        plain ≡ not (list_any (clashes marks.now) (unmarked_rest marks.now left_out lits.now))) }
     ensures built { IfOk result (λ plain. plain ≡ true
         → out.new.items ≡ out.old.items ++ unmarked_rest marks.now left_out lits.now) }
 {
@@ -78,10 +79,10 @@ fn add_rest(
 /// marked.
 pub fn count_rest(marks: &Marks, left_out: Lit, lits: &[Lit]) -> Option<usize>
     requires { All (HasPlace (length marks.now)) lits.now }
-    ensures opposed { result ≡ None
-        → list_any (is_opposed marks.now) (unmarked_rest marks.now left_out lits.now) ≡ true }
+    ensures clash { result ≡ None
+        → list_any (clashes marks.now) (unmarked_rest marks.now left_out lits.now) ≡ true }
     ensures plain { IfSome result (λ _.
-        list_any (is_opposed marks.now) (unmarked_rest marks.now left_out lits.now) ≡ false) }
+        list_any (clashes marks.now) (unmarked_rest marks.now left_out lits.now) ≡ false) }
     ensures count { IfSome result (λ n. n ≡ length (unmarked_rest marks.now left_out lits.now)) }
 {
     let mut count = 0usize;

@@ -21,7 +21,7 @@ const MOST_OF_A_SIGN: usize = 10;
 const MOST_LITERALS: usize = 32;
 
 /// Clauses that are longer are not tried: their resolvents are too long, but where each has an
-/// opposite pair.
+/// complementary literals.
 const LONGEST_PARENT: usize = 100;
 
 /// Whether the literal's variable occurs, and each of its signs in few clauses.
@@ -78,8 +78,8 @@ fn are_few_and_short(store: &Store, references: &[CRef]) -> bool
     references.len() <= MOST_OF_A_SIGN
 }
 
-/// How many resolvents without an opposite pair the first clause has with the others; none where
-/// one of them is long.
+/// How many resolvents without complementary literals the first clause has with the others; none
+/// where one of them is long.
 fn count_resolvents(
     marks: &mut Marks,
     store: &Store,

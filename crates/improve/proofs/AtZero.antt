@@ -37,7 +37,7 @@ empty_accepted cs n e =
   where
     addable : IsAddable (start_of (cs ++ [] ∷ [])) (length (cs ++ [] ∷ []) + 0 + 1) []
     addable =
-        record { rising = omega arith; no_repeat = refl; no_opposites = refl; small = omega arith }
+        record { rising = omega arith; no_repeat = refl; no_tautology = refl; small = omega arith }
 
     refuted : Refutes (numbered (cs ++ [] ∷ [])) [] (n ∷ [])
     refuted = record {

@@ -53,7 +53,7 @@ hints_refute cs h =
           record {
             rising = omega arith;
             no_repeat = refl;
-            no_opposites = refl;
+            no_tautology = refl;
             small = omega arith;
           },
           inl (refl, h.1),

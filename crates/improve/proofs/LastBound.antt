@@ -114,7 +114,7 @@ module _ (profile : Profile) (p : Problem) (h : IsInstance p) (before : List ℕ
       let r = first_found (length fixed + 1) last x f.1 in
       let few = (bound_is_formula profile p c h).few in (
         f.0.no_repeat,
-        f.0.no_opposites,
+        f.0.no_tautology,
         omega (arith, f.0.small, few),
         r.1,
         numbered_right fixed last (first_subset (length fixed + 1) last x) r.0 (omega (arith, r.2))

@@ -5,7 +5,7 @@ ghost use Rattle.std.specs.Prelude.{◌≡◌, ◌+◌, ◌<◌, ◌≤◌, ◌^
 ghost use Rattle.std.specs.Prelude.{ℕ, false, List, length, All, IfOk, OnOk};
 ghost use Rattle.cnf.specs.declared.limits.TheConstants.{NUMBER_LIMIT};
 ghost use Rattle.cnf.specs.Literal.{Literal};
-ghost use Rattle.cnf.specs.Clause.{has_repeat, has_opposites};
+ghost use Rattle.cnf.specs.Clause.{has_repeat, is_tautology};
 ghost use Rattle.lrat_log.specs.Log.{clauses_in};
 ghost use Rattle.lrat_log.specs.Steps.{learned_count};
 ghost use Rattle.lrat_log.specs.Rebase.{weaker_list};
@@ -240,7 +240,7 @@ fn collect_weaker(
 fn give_all(solver: &mut Solver<Log>, clauses: &[Clause]) -> Result<(), AllocError>
     requires usable { IsUsable solver.old }
     requires frozen { All (λ c. All (IsFrozen solver.old.frozen) c) clauses.now }
-    requires no_opposites { All (λ c. has_opposites c ≡ false) clauses.now }
+    requires no_tautology { All (λ c. is_tautology c ≡ false) clauses.now }
     ensures { OnOk result (GivesAll solver.old clauses.now solver.new) }
 {
     for clause in clauses {
@@ -254,7 +254,7 @@ fn give(solver: &mut Solver<Log>, lits: &[Lit]) -> Result<(), AllocError>
     requires usable { IsUsable solver.old }
     requires frozen { All (IsFrozen solver.old.frozen) lits.now }
     requires no_repeat { has_repeat lits.now ≡ false }
-    requires no_opposites { has_opposites lits.now ≡ false }
+    requires no_tautology { is_tautology lits.now ≡ false }
     ensures { OnOk result (Gives solver.old lits.now solver.new) }
 {
     let count = solver.given().len();

@@ -2,7 +2,7 @@
 use Rattle.std.specs.Prelude.{◌≡◌, ℕ, ◌-◌, ◌<◌, ◌≤◌, true, false, List, ◌++◌, Some, All}
 use Rattle.std.specs.Prelude.{Bool, length, slice_get}
 use Rattle.cnf.specs.Literal.{Literal}
-use Rattle.cnf.specs.Clause.{has_repeat, has_opposites}
+use Rattle.cnf.specs.Clause.{has_repeat, is_tautology}
 use Rattle.lrat_log.specs.Log.{LogLine, clauses_in}
 use Rattle.lrat_log.specs.Steps.{given_of, AddsNoEmptyClause, learned_count}
 use Rattle.cdcl.specs.Solving.{SolverState, given_to}
@@ -47,7 +47,7 @@ IsBetween free last l = (free < l.variable) × (l.variable ≤ last)
 pub record IsAddable (free relaxed last : ℕ) (c : List Literal) : Type 0 where
   pub between : All (IsBetween free last) c
   pub no_repeat : has_repeat c ≡ false
-  pub no_opposites : has_opposites c ≡ false
+  pub no_tautology : is_tautology c ≡ false
   pub counts : CountsBeyond relaxed c
 
 -- clauses may have been added, and nothing was learned

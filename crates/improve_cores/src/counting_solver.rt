@@ -24,7 +24,7 @@ use cdcl::outcome::{Assumed, Passed, Share};
 use cdcl::solver::Solver;
 use cdcl::watch::Watch;
 use cnf::clause_list::ClauseList;
-use cnf::opposites::has_opposites;
+use cnf::tautologies::is_tautology;
 use cnf::types::{Formula, Instance, Lit};
 use lrat_log::lines::{Name, Number};
 use lrat_log::log::Log;
@@ -233,14 +233,14 @@ impl CountingSolver {
 }
 
 /// Whether the clause may be added: it has a few different literals of frozen variables, no
-/// opposite ones, and the positive literal of a variable that counts.
+/// complementary ones, and the positive literal of a variable that counts.
 fn is_addable(lits: &[Lit], free: u32, relaxed: u32, last: u32) -> bool
     ensures { IsTrue result → IsAddable free relaxed last lits.now }
 {
     lits.len() <= LONGEST
         && are_between(lits, free, last)
         && !has_repeat(lits)
-        && !has_opposites(lits)
+        && !is_tautology(lits)
         && has_beyond(lits, relaxed)
 }
 

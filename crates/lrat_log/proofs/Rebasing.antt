@@ -100,7 +100,7 @@ weak_step : (cs : List (List Literal)) (e : List Literal × ℕ) → IsWeakerOf 
     → ((i : ℕ) → i ≤ length cs → live.clause_at i ≡ numbered cs i)
     → Step live (Addition id e.0 (e.1 ∷ []) []) (with_clause live id e.0)
 weak_step cs e w live id h same = (
-  record { rising = h; no_repeat = w.0; no_opposites = w.1; small = w.2 },
+  record { rising = h; no_repeat = w.0; no_tautology = w.1; small = w.2 },
   inl (
     refl,
     record {

@@ -7,7 +7,7 @@ use Rattle.std.proofs.lemmas.Bool.{false_from_ne_true}
 use Rattle.std.proofs.lemmas.List.Folds.{list_any-append}
 use Rattle.std.proofs.lemmas.List.Elements.{All-head, All-tail}
 use Rattle.cnf.specs.Literal.{Literal, negation, literal_eq}
-use Rattle.cnf.specs.Clause.{contains_literal, has_repeat, has_opposites}
+use Rattle.cnf.specs.Clause.{contains_literal, has_repeat, is_tautology}
 use Rattle.cnf.proofs.Laws.{literal_eq-refl, literal_eq-true, negation_twice, literal_eq-swapped}
 use Rattle.cnf.proofs.Laws.{literal_eq_ne, literal_ne, tests_agree}
 use Rattle.lrat_machine.specs.Assumed.{AreWithin}
@@ -81,28 +81,28 @@ repeat_at l (x ∷ xs) ys h =
       | inr e ↦ or_right _ _ (repeat_at l xs ys e)
     ]
 
--- opposites
-pub has_opposites-push : (l : Literal) (xs : List Literal) → has_opposites xs ≡ false
-    → contains_literal (negation l) xs ≡ false → has_opposites (xs ++ l ∷ []) ≡ false
-has_opposites-push l [] r h = refl
-has_opposites-push l (x ∷ xs) r h =
-    let p = or_parts (contains_literal (negation x) xs) (has_opposites xs) r in
+-- complementary literals
+pub is_tautology-push : (l : Literal) (xs : List Literal) → is_tautology xs ≡ false
+    → contains_literal (negation l) xs ≡ false → is_tautology (xs ++ l ∷ []) ≡ false
+is_tautology-push l [] r h = refl
+is_tautology-push l (x ∷ xs) r h =
+    let p = or_parts (contains_literal (negation x) xs) (is_tautology xs) r in
     let q = or_parts (literal_eq (negation l) x) (contains_literal (negation l) xs) h in
     or_from _ _ (not_in_push (negation x) l xs p.0 (sym (literal_eq-swapped x l)
     ∙ literal_eq_ne x (negation l) (λ s. literal_ne (negation l) x q.0 (sym s))))
-    (has_opposites-push l xs p.1 q.1)
+    (is_tautology-push l xs p.1 q.1)
 
-pub opposite_at : (l : Literal) (xs ys : List Literal) → contains_literal (negation l) xs ≡ true
-    → has_opposites (xs ++ l ∷ ys) ≡ true
-opposite_at l [] ys h = absurd (false≢true h)
-opposite_at l (x ∷ xs) ys h =
+pub complement_at : (l : Literal) (xs ys : List Literal) → contains_literal (negation l) xs ≡ true
+    → is_tautology (xs ++ l ∷ ys) ≡ true
+complement_at l [] ys h = absurd (false≢true h)
+complement_at l (x ∷ xs) ys h =
     elim (or_cases (literal_eq (negation l) x) (contains_literal (negation l) xs) h) [
       | inl e ↦
           let same : l ≡ negation x =
           sym (negation_twice l) ∙ ap negation (literal_eq-true (negation l) x e) in
           or_left _ _ (subst (λ k. contains_literal k (xs ++ l ∷ ys) ≡ true) same
           (in_middle l xs ys))
-      | inr e ↦ or_right _ _ (opposite_at l xs ys e)
+      | inr e ↦ or_right _ _ (complement_at l xs ys e)
     ]
 
 -- a list within a bound has no literal past it

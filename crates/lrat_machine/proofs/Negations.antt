@@ -8,7 +8,7 @@ use Rattle.std.proofs.lemmas.List.{take_more, map-append, length-map}
 use Rattle.std.proofs.lemmas.Bool.{or_left, or_right}
 use Rattle.std.proofs.lemmas.List.Elements.{All-push, All-weaker}
 use Rattle.cnf.specs.Literal.{Literal, negation}
-use Rattle.cnf.specs.Clause.{contains_literal, has_repeat, has_opposites}
+use Rattle.cnf.specs.Clause.{contains_literal, has_repeat, is_tautology}
 use Rattle.cnf.specs.Lrat.{Live, CandidateHints}
 use Rattle.lrat_read.specs.Form.{leading, groups_of}
 use Rattle.lrat_machine.specs.Assumed.{AreWithin}
@@ -18,8 +18,8 @@ use Rattle.lrat_live.specs.Listed.{same_ids}
 use Rattle.lrat_machine.specs.Verdict.{Open, Refuted, walk, ids_with, groups_fault, clause_fault}
 use Rattle.lrat_machine.specs.Steps.{EndAlike, walked_as}
 use Rattle.cnf.proofs.Laws.{negation_twice, contains_negation, repeat_push}
-use Rattle.lrat_machine.proofs.Members.{has_opposites-push}
-use Rattle.lrat_machine.proofs.Members.{repeat_at, opposite_at}
+use Rattle.lrat_machine.proofs.Members.{is_tautology-push}
+use Rattle.lrat_machine.proofs.Members.{repeat_at, complement_at}
 use Rattle.lrat_machine.proofs.Alike.{clause_fault-alike}
 use Rattle.lrat_machine.proofs.Effects.{drop_at}
 
@@ -37,23 +37,23 @@ module _ (c : List Literal) (i : ℕ) (l : Literal) (lt : i < length c)
       ∙ ap (λ k. contains_literal k (take i c)) (negation_twice l)
 
   pub not_apart : (T : List Literal) → T ≡ map negation (take i c) → contains_literal l T ≡ true
-      → false ≡ not (has_repeat c || has_opposites c)
+      → false ≡ not (has_repeat c || is_tautology c)
   not_apart T e h =
       let among : contains_literal (negation l) (take i c) ≡ true =
       sym (contains_negation l (take i c)) ∙ ap (contains_literal l) (sym e) ∙ h in
-      let opposite : has_opposites c ≡ true =
-      subst (λ d. has_opposites d ≡ true) split (opposite_at l (take i c) (drop (i + 1) c) among)
+      let complement : is_tautology c ≡ true =
+      subst (λ d. is_tautology d ≡ true) split (complement_at l (take i c) (drop (i + 1) c) among)
       in
-      sym (ap not (or_right (has_repeat c) (has_opposites c) opposite))
+      sym (ap not (or_right (has_repeat c) (is_tautology c) complement))
 
   pub not_single : (T : List Literal) → T ≡ map negation (take i c)
-      → contains_literal (negation l) T ≡ true → false ≡ not (has_repeat c || has_opposites c)
+      → contains_literal (negation l) T ≡ true → false ≡ not (has_repeat c || is_tautology c)
   not_single T e h =
       let among : contains_literal l (take i c) ≡ true =
       sym in_negations ∙ ap (contains_literal (negation l)) (sym e) ∙ h in
       let repeat : has_repeat c ≡ true =
       subst (λ d. has_repeat d ≡ true) split (repeat_at l (take i c) (drop (i + 1) c) among) in
-      sym (ap not (or_left (has_repeat c) (has_opposites c) repeat))
+      sym (ap not (or_left (has_repeat c) (is_tautology c) repeat))
 
   pub negations_more : (T : List Literal) → T ≡ map negation (take i c)
       → T ++ negation l ∷ [] ≡ map negation (take (i + 1) c)
@@ -67,11 +67,11 @@ module _ (c : List Literal) (i : ℕ) (l : Literal) (lt : i < length c)
       ∙ ap (contains_literal (negation l)) (sym e) ∙ h) r
 
   pub apart_more : (T : List Literal) → T ≡ map negation (take i c)
-      → has_opposites (take i c) ≡ false → contains_literal l T ≡ false
-      → has_opposites (take (i + 1) c) ≡ false
+      → is_tautology (take i c) ≡ false → contains_literal l T ≡ false
+      → is_tautology (take (i + 1) c) ≡ false
   apart_more T e r h =
-      ap has_opposites more
-      ∙ has_opposites-push l (take i c) r (sym (contains_negation l (take i c))
+      ap is_tautology more
+      ∙ is_tautology-push l (take i c) r (sym (contains_negation l (take i c))
       ∙ ap (contains_literal l) (sym e) ∙ h)
 
   pub within_more : (n m : ℕ) → n ≤ m → AreWithin n (take i c) → l.variable ≤ m

@@ -12,7 +12,7 @@ use Rattle.std.proofs.lemmas.List.Elements.{All-head, All-tail}
 use Rattle.std.proofs.lemmas.Map.Keys.{IsDistinct-head, IsDistinct-tail, IsDistinct-cons}
 use Rattle.cnf.specs.Formula.{numbered}
 use Rattle.cnf.specs.Literal.{Literal, negation}
-use Rattle.cnf.specs.Clause.{contains_literal, without_literal, has_repeat, has_opposites}
+use Rattle.cnf.specs.Clause.{contains_literal, without_literal, has_repeat, is_tautology}
 use Rattle.cnf.specs.Clause.{greatest_variable}
 use Rattle.cnf.specs.Refute.{Clauses}
 use Rattle.cnf.specs.Lrat.{CandidateHints, Deletion as DeletesLine, Live}
@@ -200,20 +200,20 @@ pub addition_fault-None : (live : Live) → IsSane live
 addition_fault-None live s id c hs = (
   λ e. elim (cases_Bool (nat_le id live.last)) [
     | inl t ↦ let z : addition_fault live id c hs ≡ Some IdOrder = rw t refl in absurd (cc)
-    | inr f ↦ elim (cases_Bool (has_repeat c || has_opposites c || list_any IsLarge c)) [
+    | inr f ↦ elim (cases_Bool (has_repeat c || is_tautology c || list_any IsLarge c)) [
       | inl t ↦ let z : addition_fault live id c hs ≡ Some ClauseForm =
-          rw f (cond-true (has_repeat c || has_opposites c || list_any IsLarge c) _ _ t) in
+          rw f (cond-true (has_repeat c || is_tautology c || list_any IsLarge c) _ _ t) in
           absurd (cc)
       | inr g ↦
           let z : addition_fault live id c hs ≡ clause_fault live c
           (walk live.clause_at (map negation c) (leading hs)) (groups_of hs) =
-          rw f (cond-false (has_repeat c || has_opposites c || list_any IsLarge c) _ _ g) in
-          let p = or_parts (has_repeat c || has_opposites c) (list_any IsLarge c) g in
-          let q = or_parts (has_repeat c) (has_opposites c) p.0 in (
+          rw f (cond-false (has_repeat c || is_tautology c || list_any IsLarge c) _ _ g) in
+          let p = or_parts (has_repeat c || is_tautology c) (list_any IsLarge c) g in
+          let q = or_parts (has_repeat c) (is_tautology c) p.0 in (
             record {
               rising = leb-false id live.last f;
               no_repeat = q.0;
-              no_opposites = q.1;
+              no_tautology = q.1;
               small = none_large c p.1;
             },
             clause_means live s (leading hs) c (walk live.clause_at (map negation c) (leading hs))
@@ -223,8 +223,8 @@ addition_fault-None live s id c hs = (
   ],
   λ h. let a = h.0 in
       let f : nat_le id live.last ≡ false = lt-leb id live.last a.rising in
-      rw f (cond-false (has_repeat c || has_opposites c || list_any IsLarge c) _ _
-      (or_from _ _ (or_from _ _ a.no_repeat a.no_opposites) (small_none c a.small))
+      rw f (cond-false (has_repeat c || is_tautology c || list_any IsLarge c) _ _
+      (or_from _ _ (or_from _ _ a.no_repeat a.no_tautology) (small_none c a.small))
       ∙ clause_from live s (leading hs) c (groups_of hs) h.1),
 )
 

@@ -4,7 +4,7 @@ use Rattle.std.specs.Prelude.{◌++◌, map, filter, Option, Some, None, is_some
 use Rattle.std.specs.Prelude.{if◌then◌else◌}
 use Rattle.std.specs.List.{list_any}
 use Rattle.cnf.specs.Literal.{Literal, negation}
-use Rattle.cnf.specs.Clause.{contains_literal, without_literal, has_repeat, has_opposites}
+use Rattle.cnf.specs.Clause.{contains_literal, without_literal, has_repeat, is_tautology}
 use Rattle.text.specs.Text.{token_lines}
 use Rattle.cnf.specs.Refute.{Clauses}
 use Rattle.cnf.specs.Lrat.{Live, CandidateHints, start_of, with_clause}
@@ -108,7 +108,7 @@ clause_fault live (p ∷ c) (Open B) gs =
 abbrev pub addition_fault : Live → ℕ → List Literal → List (Bool × ℕ) → Option Cause
 addition_fault live id c hints =
     if nat_le id live.last then Some IdOrder
-    else if has_repeat c || has_opposites c
+    else if has_repeat c || is_tautology c
     || list_any (λ l. nat_le VARIABLE_LIMIT l.variable) c then Some ClauseForm
     else clause_fault live c (walk live.clause_at (map negation c) (leading hints))
     (groups_of hints)

@@ -3,7 +3,7 @@
 ghost use Rattle.std.specs.Prelude.{◌≡◌, ℕ, ◌<◌, ◌≤◌, true, false, not, ◌||◌, [], Some, None, IfOk};
 ghost use Rattle.std.specs.Prelude.{map, if◌then◌else◌};
 ghost use Rattle.cnf.specs.Literal.{negation};
-ghost use Rattle.cnf.specs.Clause.{has_repeat, has_opposites};
+ghost use Rattle.cnf.specs.Clause.{has_repeat, is_tautology};
 ghost use Rattle.lrat_machine.specs.Assumed.{AreWithin};
 ghost use Rattle.lrat_machine.specs.Steps.{IsBase, live_of, IsFaultOf};
 ghost use Rattle.lrat_machine.specs.Verdict.{clause_fault, walk as walk_of};
@@ -23,7 +23,7 @@ use std::alloc::AllocError;
 pub(crate) fn assume_negations(clause: &[Lit], assumed: &mut Assumed) -> Result<bool, AllocError>
     requires { assumed.old.literals ≡ [] }
     ensures distinct { IfOk result
-        (λ r. r ≡ not (has_repeat clause.now || has_opposites clause.now)) }
+        (λ r. r ≡ not (has_repeat clause.now || is_tautology clause.now)) }
     ensures assumed { IfOk result (λ r. r ≡ true → assumed.new.literals ≡ map negation clause.now) }
     ensures within { IfOk result (λ r. r ≡ true → AreWithin assumed.new.variables clause.now) }
     ensures more { assumed.old.variables ≤ assumed.new.variables }

@@ -19,8 +19,8 @@ use Rattle.propagate_trail.specs.Trail.{Assigned, literals_of, kept_to}
 use Rattle.propagate.specs.Watches.{EngineState, is_attached, watches_at, count_in}
 use Rattle.propagate.specs.Fits.{Fits, FitsAttachment, IsWatch, HasTrue, IsComplete}
 use Rattle.propagate.specs.Steps.{IsTrueEntry, AreTrueWaiting}
-use Rattle.propagate_trail.proofs.Laws.{kept_prefix, literals-append, NoOpposites}
-use Rattle.propagate_trail.proofs.Laws.{no_opposites}
+use Rattle.propagate_trail.proofs.Laws.{kept_prefix, literals-append, NoTautology}
+use Rattle.propagate_trail.proofs.Laws.{no_tautology}
 use Rattle.propagate.proofs.Fitting.{with_progress, true_more}
 use Rattle.propagate.proofs.Attachments.{count-cons, one-same, one-other}
 
@@ -119,7 +119,7 @@ abbrev IsDone : List Literal → List Literal → Type 0
 IsDone c A = (IsFalseUnder c A → ⊥) × ((l : Literal) → IsUnit c A l → ⊥)
 
 -- a true clause is neither false nor unit
-true_done : (c A : List Literal) → NoOpposites A → HasTrue c A → IsDone c A
+true_done : (c A : List Literal) → NoTautology A → HasTrue c A → IsDone c A
 true_done c A apart h = (
   (λ f. apart h.0 h.2 (all_at (λ l. contains_literal (negation l) A ≡ true) c h.0 f h.1)),
   (λ l u. elim (all_at (λ k. (k ≡ l) ⊎ (contains_literal (negation k) A ≡ true)) c h.0 u.others
@@ -156,7 +156,7 @@ covered_now e c x all h m =
     (let long = length-map e.trail (λ (a : Assigned). a.literal) in omega arith))) m)
 
 attachment_done : (e : EngineState) (slots : Slots) (r : ℕ) (c : List Literal) (p : Attachment)
-    → p ≡ attachment_in e.watches.table r → NoOpposites (literals_of e.trail)
+    → p ≡ attachment_in e.watches.table r → NoTautology (literals_of e.trail)
     → e.watches.qhead ≡ length e.trail
     → AreTrueWaiting slots e → clause_at slots r ≡ Some c → FitsAttachment e c p
     → IsDone c (literals_of e.trail)
@@ -187,7 +187,7 @@ complete e slots all waiting fits = λ r c attached live.
     let same : f.0 ≡ c = cc (f.1, live) in
     subst (λ x. IsDone x (literals_of e.trail)) same
     (attachment_done e slots r f.0 (attachment_in e.watches.table r) refl
-    (no_opposites (clause_at slots) e.trail fits.reasons) all waiting f.1 f.2.1)
+    (no_tautology (clause_at slots) e.trail fits.reasons) all waiting f.1 f.2.1)
 
 pub grown_at : (T U more : List Assigned) (p q : ℕ) (d w : Literal) → U ≡ T ++ more → q ≡ p
     → p < length T → w ≡ negation (get_or (literals_of T) p d)

@@ -6,9 +6,9 @@ pub use Rattle.propagate.proofs.FitsLaws.{fits_local}
 pub use Rattle.propagate.proofs.Looking.{attached_within, false_value, not_false_value, within_all}
 pub use Rattle.propagate.proofs.Looking.{within_variable}
 pub use Rattle.propagate.proofs.Subsets.{have_places}
-pub use Rattle.propagate_trail.proofs.Laws.{NoOpposites, contains_at, contains_take, depth-cons}
+pub use Rattle.propagate_trail.proofs.Laws.{NoTautology, contains_at, contains_take, depth-cons}
 pub use Rattle.propagate_trail.proofs.Laws.{depth_grows, depth_named, depth_push, depth_step}
 pub use Rattle.propagate_trail.proofs.Laws.{in_kept, justified_same, kept_all, kept_kept, kept_low}
 pub use Rattle.propagate_trail.proofs.Laws.{kept_named, kept_prefix, kept_push, level_from-le}
-pub use Rattle.propagate_trail.proofs.Laws.{literals-append, no_opposites, open_literal, same_swap}
+pub use Rattle.propagate_trail.proofs.Laws.{literals-append, no_tautology, open_literal, same_swap}
 pub use Rattle.propagate_trail.proofs.Laws.{trail_listed}

@@ -17,7 +17,7 @@ use Rattle.propagate_watches.specs.Table.{is_kept, attachment_in, IsWatchedBy}
 use Rattle.propagate_trail.specs.Trail.{Assigned, literals_of, value_in, HasReasons}
 use Rattle.propagate.specs.Watches.{EngineState, IsVariable, is_attached}
 use Rattle.propagate.specs.Fits.{Fits, IsWithin}
-use Rattle.propagate_trail.proofs.Laws.{open_at, no_opposites}
+use Rattle.propagate_trail.proofs.Laws.{open_at, no_tautology}
 
 pub within_variable : (v : ℕ) (c : List Literal) (l : Literal) → IsWithin v c
     → contains_literal l c ≡ true → IsVariable v l
@@ -80,7 +80,7 @@ pub not_false_value : (at : Clauses) (T : List Assigned) (l : Literal) → HasRe
 not_false_value at T l h ne =
     false_from_ne_true (contains_literal (negation l) (literals_of T))
     (λ e. elim (cases_Bool (contains_literal l (literals_of T))) [
-      | inl is ↦ no_opposites at T h l is e
+      | inl is ↦ no_tautology at T h l is e
       | inr is ↦ ne (value_false (contains_literal l (literals_of T))
           (contains_literal (negation l) (literals_of T)) is e)
     ])

@@ -26,7 +26,7 @@ use Rattle.propagate.specs.Fits.{HasTrue}
 use Rattle.propagate.specs.Steps.{entry_of, pushed, watched, with_attachment, with_trail, Continues}
 use Rattle.propagate.specs.Steps.{IsMadeTrue, with_room}
 use Rattle.propagate_trail.proofs.Laws.{index-within, kept_all, contains_take, in_kept}
-use Rattle.propagate_trail.proofs.Laws.{no_opposites, made}
+use Rattle.propagate_trail.proofs.Laws.{no_tautology, made}
 use Rattle.propagate.proofs.Attachments.{fits_attachment, blockers_kept, count-cons, one-same}
 use Rattle.propagate.proofs.Attachments.{one-other, watch_same, with_watches}
 use Rattle.propagate.proofs.Attaching.{kept_within, fits_attach, engine_change, engine_set}
@@ -58,7 +58,7 @@ pub true_watch : (e : EngineState) (slots : Slots) (c : List Literal) (one : Lit
     → IsWatch e c one
 true_watch e slots c one fits m t =
     open_watch e c one m (false_from_ne_true (contains_literal (negation one) (literals_of e.trail))
-    (λ f. no_opposites (clause_at slots) e.trail fits.reasons one t f))
+    (λ f. no_tautology (clause_at slots) e.trail fits.reasons one t f))
 
 count_pushed : (R : List (List WatchEntry)) (l : Literal) (w : WatchEntry) (q k : ℕ)
     → index_of l < length R

@@ -8,6 +8,6 @@ pub use Rattle.propagate_trail.proofs.Levels.{level_from-le}
 pub use Rattle.propagate_trail.proofs.Literals.{index-within}
 pub use Rattle.propagate_trail.proofs.Naming.{depth_named, kept_named, literals_named}
 pub use Rattle.propagate_trail.proofs.Naming.{named_assigned, trail_listed}
-pub use Rattle.propagate_trail.proofs.Reasons.{NoOpposites, justified_same, no_opposites}
+pub use Rattle.propagate_trail.proofs.Reasons.{NoTautology, justified_same, no_tautology}
 pub use Rattle.propagate_trail.proofs.Reasons.{open_literal, reasons_front, reasons_push, same_swap}
 pub use Rattle.propagate_trail.proofs.Trails.{depth-cons, depth_push, made, open_at}

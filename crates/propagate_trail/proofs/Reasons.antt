@@ -6,7 +6,7 @@ use Rattle.std.proofs.lemmas.List.{append-nil}
 use Rattle.cnf.specs.Literal.{Literal, negation, literal_eq}
 use Rattle.cnf.specs.Clause.{contains_literal, HaveSame}
 use Rattle.cnf.specs.Refute.{Clauses}
-use Rattle.cnf.proofs.Laws.{literal_eq-true, literal_eq-opposite, contains-append}
+use Rattle.cnf.proofs.Laws.{literal_eq-true, literal_eq-complement, contains-append}
 use Rattle.cnf.proofs.Laws.{unit_same}
 use Rattle.propagate_trail.specs.Trail.{Assigned, literals_of, HasReasons, IsJustified}
 use Rattle.propagate_trail.proofs.Literals.{negation_twice}
@@ -51,8 +51,8 @@ reasons_push at T a h j =
     (sym (append-nil (literals_of T))) j)
 
 -- no literal with its negation
-abbrev pub NoOpposites : List Literal → Type 0
-NoOpposites A = (l : Literal) → contains_literal l A ≡ true → contains_literal (negation l) A ≡ true
+abbrev pub NoTautology : List Literal → Type 0
+NoTautology A = (l : Literal) → contains_literal l A ≡ true → contains_literal (negation l) A ≡ true
     → ⊥
 
 pub open_literal : (at : Clauses) (A : List Literal) (l : Literal) (r : Option ℕ)
@@ -61,14 +61,14 @@ pub open_literal : (at : Clauses) (A : List Literal) (l : Literal) (r : Option �
 open_literal at A l None h = h
 open_literal at A l (Some r) h = (h.2.not_true, h.2.not_false)
 
-no_opposites_cons : (A : List Literal) (k : Literal) → contains_literal (negation k) A ≡ false
-    → NoOpposites A → NoOpposites (k ∷ A)
-no_opposites_cons A k new h l e f = elim (or_cases (literal_eq l k) (contains_literal l A) e) [
+no_tautology_cons : (A : List Literal) (k : Literal) → contains_literal (negation k) A ≡ false
+    → NoTautology A → NoTautology (k ∷ A)
+no_tautology_cons A k new h l e f = elim (or_cases (literal_eq l k) (contains_literal l A) e) [
   | inl same ↦
       let s = literal_eq-true l k same in
       elim (or_cases (literal_eq (negation l) k) (contains_literal (negation l) A) f) [
         | inl g ↦ both_ways _ (subst (λ x. literal_eq (negation x) k ≡ false) (sym s)
-            (literal_eq-opposite k)) g
+            (literal_eq-complement k)) g
         | inr g ↦ both_ways _ (subst (λ x. contains_literal (negation x) A ≡ false) (sym s) new) g
       ]
   | inr member ↦ elim (or_cases (literal_eq (negation l) k) (contains_literal (negation l) A) f) [
@@ -80,17 +80,17 @@ no_opposites_cons A k new h l e f = elim (or_cases (literal_eq l k) (contains_li
   ]
 ]
 
-no_opposites_on : (at : Clauses) (A : List Literal) (T : List Assigned) → HasReasons at A T
-    → NoOpposites A → NoOpposites (literals_of T ++ A)
-no_opposites_on at A [] h n = n
-no_opposites_on at A (a ∷ T) h n =
+no_tautology_on : (at : Clauses) (A : List Literal) (T : List Assigned) → HasReasons at A T
+    → NoTautology A → NoTautology (literals_of T ++ A)
+no_tautology_on at A [] h n = n
+no_tautology_on at A (a ∷ T) h n =
     let o = open_literal at A a.literal a.reason h.0 in
-    let rest = no_opposites_on at (a.literal ∷ A) T h.1 (no_opposites_cons A a.literal o.1 n) in
+    let rest = no_tautology_on at (a.literal ∷ A) T h.1 (no_tautology_cons A a.literal o.1 n) in
     let same = same_swap A (literals_of T) a.literal in
     λ l e f. rest l (sym (same l) ∙ e) (sym (same (negation l)) ∙ f)
 
-pub no_opposites : (at : Clauses) (T : List Assigned) → HasReasons at [] T
-    → NoOpposites (literals_of T)
-no_opposites at T h =
-    subst NoOpposites (append-nil (literals_of T))
-    (no_opposites_on at [] T h (λ l e f. false≢true e))
+pub no_tautology : (at : Clauses) (T : List Assigned) → HasReasons at [] T
+    → NoTautology (literals_of T)
+no_tautology at T h =
+    subst NoTautology (append-nil (literals_of T))
+    (no_tautology_on at [] T h (λ l e f. false≢true e))

@@ -10,7 +10,7 @@ use Rattle.std.proofs.lemmas.List.{get_or_append_left, take-append-le, take_all}
 use Rattle.std.proofs.lemmas.List.Sums.{sum_by-set, sum_by-cons, sum_by_push}
 use Rattle.cnf.specs.Literal.{Literal, negation, literal_eq}
 use Rattle.cnf.specs.Clause.{contains_literal}
-use Rattle.cnf.proofs.Laws.{literal_eq-opposite}
+use Rattle.cnf.proofs.Laws.{literal_eq-complement}
 use Rattle.propagate_trail.specs.Trail.{Assigned, literals_of, depth_of, is_decision, value_in}
 use Rattle.propagate_trail.specs.Trail.{level_in, level_from, level_after, reason_in}
 use Rattle.propagate_trail.specs.Tables.{mentions, reason_at, assigned_by}
@@ -184,7 +184,7 @@ value_push_negation T a e =
     value_push T a (negation a.literal)
     ∙ rw (
       contains-none (negation a.literal) (literals_of T) e,
-      literal_eq-opposite a.literal,
+      literal_eq-complement a.literal,
       or_right (contains_literal (negation (negation a.literal)) (literals_of T))
           (literal_eq (negation (negation a.literal)) a.literal)
           (ap (λ k. literal_eq k a.literal) (negation_twice a.literal) ∙ literal_eq-self a.literal),

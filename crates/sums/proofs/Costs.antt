@@ -19,9 +19,9 @@ use Rattle.std.proofs.lemmas.Option.{slice_get_past}
 use Rattle.std.proofs.lemmas.List.Concat.{flat_map-cons}
 use Rattle.cnf.specs.Numbers.{one_if}
 use Rattle.cnf.specs.Literal.{Assignment, Literal, literal_value, positive, SameBelow}
-use Rattle.cnf.specs.Clause.{clause_value, has_opposites, greatest_variable}
+use Rattle.cnf.specs.Clause.{clause_value, is_tautology, greatest_variable}
 use Rattle.cnf.specs.Problem.{Problem, SoftClause, IsFeasible, cost_under, cost_of, AreWithin}
-use Rattle.cnf.proofs.Laws.{all_parts, opposites_true}
+use Rattle.cnf.proofs.Laws.{all_parts, tautologies_true}
 use Rattle.sums_tree.specs.Tree.{Tree, Leaf, Fork, groups_of}
 use Rattle.sums_tree.specs.Groups.{Placed, placed_from, placed}
 use Rattle.sums_tree.specs.Arranging.{is_false, IsArrangement}
@@ -88,14 +88,14 @@ module _ (p : Problem) (t : Assignment) where
   placed_cost i [] r = refl
   placed_cost i (s ∷ ss) r =
       let later = placed_cost (i + 1) ss (rest_next i s ss r) in
-      elim (has_opposites s.clause) as (λ b. has_opposites s.clause ≡ b
+      elim (is_tautology s.clause) as (λ b. is_tautology s.clause ≡ b
       → sum_by (cost_at p t) (map (λ c. c.place) (if b then placed_from (i + 1) ss
       else record { place = i; literals = s.clause } ∷ placed_from (i + 1) ss))
       ≡ sum_by (cost_of t) (s ∷ ss)) [
         | true ↦ λ e. later
             ∙ sym (sum_by-cons (cost_of t) s ss
             ∙ ap (λ b. (if b then 0 else s.weight) + sum_by (cost_of t) ss)
-            (opposites_true t s.clause e) ∙ nothing (sum_by (cost_of t) ss))
+            (tautologies_true t s.clause e) ∙ nothing (sum_by (cost_of t) ss))
         | false ↦ λ e.
             sum_by-cons (cost_at p t) i (map (λ c. c.place) (placed_from (i + 1) ss))
             ∙ (λ j. here j + later j) ∙ sym (sum_by-cons (cost_of t) s ss)
@@ -246,7 +246,7 @@ placed_within : (n i : ℕ) (ss : List SoftClause) → i + length ss ≤ n
     → AllByRecursion (λ k. k < n) (map (λ c. c.place) (placed_from i ss))
 placed_within n i [] le = tt
 placed_within n i (s ∷ ss) le =
-    elim (has_opposites s.clause) as (λ b. AllByRecursion (λ k. k < n)
+    elim (is_tautology s.clause) as (λ b. AllByRecursion (λ k. k < n)
     (map (λ c. c.place) (if b then placed_from (i + 1) ss
     else record { place = i; literals = s.clause } ∷ placed_from (i + 1) ss))) [
       | true ↦ placed_within n (i + 1) ss (omega arith)

@@ -11,7 +11,7 @@ use Rattle.std.proofs.lemmas.List.Elements.{All-from_recursion}
 use Rattle.std.proofs.lemmas.List.Sorted.{sum_by-IsPermutation}
 use Rattle.std.proofs.lemmas.List.Sums.{sum_by-cons, sum_by-append, sum_by_more_le}
 use Rattle.std.proofs.lemmas.List.Concat.{flat_map-cons}
-use Rattle.cnf.specs.Clause.{has_opposites}
+use Rattle.cnf.specs.Clause.{is_tautology}
 use Rattle.cnf.specs.Problem.{Problem, SoftClause}
 use Rattle.cnf.specs.Instance.{IsInstance}
 use Rattle.sums_tree.specs.Tree.{Tree, Leaf, Fork, Step, Take, Join, steps_of, groups_of}
@@ -68,7 +68,7 @@ placed_weights pre (s ∷ ss) i e =
     let here : f i ≡ s.weight = weight_seam pre ss s i e in
     let all : sum_by (λ s. s.weight) (s ∷ ss) ≡ s.weight + sum_by (λ s. s.weight) ss =
     sum_by-cons (λ (s : SoftClause). s.weight) s ss in
-    elim (has_opposites s.clause) as (λ b. sum_by f (map (λ c. c.place)
+    elim (is_tautology s.clause) as (λ b. sum_by f (map (λ c. c.place)
     (if b then placed_from (i + 1) ss
     else record { place = i; literals = s.clause } ∷ placed_from (i + 1) ss))
     ≤ sum_by (λ s. s.weight) (s ∷ ss)) [

@@ -11,7 +11,7 @@ use Rattle.std.proofs.lemmas.List.Sorted.{IsPermutation-trans, IsPermutation-map
 use Rattle.std.proofs.lemmas.List.Sorted.{length_permutation}
 use Rattle.std.proofs.lemmas.List.Sums.{sum_by-cons}
 use Rattle.cnf.specs.Literal.{Assignment}
-use Rattle.cnf.specs.Clause.{clause_value, has_opposites, Satisfies}
+use Rattle.cnf.specs.Clause.{clause_value, is_tautology, Satisfies}
 use Rattle.cnf.specs.Problem.{Problem, IsFeasible}
 use Rattle.cnf.proofs.Laws.{all_parts}
 use Rattle.sums_tree.specs.Tree.{Tree, groups_of}
@@ -91,7 +91,7 @@ module _ (p : Problem) (a : Assignment) where
   groups_exclude : IsFeasible p a → All AtMostOne (groups p)
   groups_exclude h =
       let hard = recursion_from_All (Satisfies a) (binding p)
-      (All-filter (λ c. not (has_opposites c)) (Satisfies a) p.hard h) in
+      (All-filter (λ c. not (is_tautology c)) (Satisfies a) p.hard h) in
       let placed_right = placed_at p.soft 0 p.soft (λ k. ap (slice_get p.soft) (zero-add k)) in
       let all_right = recursion_from_All (IsAt p.soft) (all_of (grouped p))
       (All-permutation (IsAt p.soft) (placed p) (all_of (grouped p))
@@ -141,7 +141,7 @@ nothing_of p e =
     empty [] h = refl
     empty (x ∷ xs) h = absurd (omega arith)
 
--- there is a tree wherever a soft clause has no opposite pair
+-- there is a tree wherever a soft clause has no complementary literals
 pub no_tree : (p : Problem) → tree p ≡ None → placed p ≡ []
 no_tree p e =
     let ts = map (λ (x : Node). x.tree) (nodes p) in

@@ -15,7 +15,7 @@ use Rattle.std.proofs.lemmas.List.Sorted.{IsPermutation-append_left, IsPermutati
 use Rattle.std.proofs.lemmas.List.Sorted.{IsPermutation-to_front}
 use Rattle.std.proofs.lemmas.List.Sums.{sum_by_push, sum_by-cons}
 use Rattle.cnf.specs.Literal.{Literal, Assignment, literal_value, literal_eq}
-use Rattle.cnf.specs.Clause.{clause_value, contains_literal, has_opposites, Satisfies}
+use Rattle.cnf.specs.Clause.{clause_value, contains_literal, is_tautology, Satisfies}
 use Rattle.cnf.specs.Problem.{SoftClause}
 use Rattle.cnf.proofs.Laws.{literal_eq-true, negation-value}
 use Rattle.sums_tree.specs.Groups.{Placed, placed_from, partner, partners, rivals, excludes}
@@ -96,7 +96,7 @@ placed_at soft i [] h = tt
 placed_at soft i (s ∷ more) h =
     let tail = placed_at soft (i + 1) more
     (λ k. ap (slice_get soft) (plus-one i k) ∙ h (suc k)) in
-    cond_both (has_opposites s.clause) (placed_from (i + 1) more)
+    cond_both (is_tautology s.clause) (placed_from (i + 1) more)
     (record { place = i; literals = s.clause } ∷ placed_from (i + 1) more)
     (AllByRecursion (IsAt soft))
     (λ e. tail)

@@ -5,7 +5,7 @@ use Rattle.std.proofs.Common.{get_or, refl, sym, ap, ◌∙◌, subst, append_as
 use Rattle.std.proofs.Common.{if◌then◌else◌}
 use Rattle.std.proofs.lemmas.List.{map-append, reverse-append, append-nil}
 use Rattle.cnf.specs.Literal.{Literal, index_of}
-use Rattle.cnf.specs.Clause.{has_opposites}
+use Rattle.cnf.specs.Clause.{is_tautology}
 use Rattle.cnf.specs.Marks.{HasPlace}
 use Rattle.sums_tree.specs.Groups.{partner, partners, plain}
 use Rattle.sums_tree.specs.Partners.{PutsPartners}
@@ -17,7 +17,7 @@ row_for l clauses = reverse (map index_of (partners l (plain clauses)))
 partners-cons : (l : Literal) (c : List Literal) (cs : List (List Literal))
     → partners l (plain (c ∷ cs)) ≡ partners l (plain (c ∷ [])) ++ partners l (plain cs)
 partners-cons l c cs =
-    elim (has_opposites c) as (λ b. partners l (if not b then c ∷ plain cs else plain cs)
+    elim (is_tautology c) as (λ b. partners l (if not b then c ∷ plain cs else plain cs)
     ≡ partners l (if not b then c ∷ [] else []) ++ partners l (plain cs)) [
       | true ↦ refl
       | false ↦ ap (λ z. z ++ partners l (plain cs)) (sym (append-nil (partner l c)))

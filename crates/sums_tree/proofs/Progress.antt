@@ -11,7 +11,7 @@ use Rattle.std.proofs.lemmas.List.Elements.{All-filter, All-get_or, All-nil, All
 use Rattle.std.proofs.lemmas.List.Elements.{recursion_from_All, All-from_recursion, All-map}
 use Rattle.std.proofs.lemmas.List.Sorted.{IsPermutation-reverse, All-permutation}
 use Rattle.cnf.specs.Literal.{Literal, index_of}
-use Rattle.cnf.specs.Clause.{has_opposites}
+use Rattle.cnf.specs.Clause.{is_tautology}
 use Rattle.cnf.specs.Problem.{Problem, SoftClause}
 use Rattle.cnf.specs.Instance.{IsInstance, IsClauseWithin}
 use Rattle.cnf.specs.Marks.{HasPlace}
@@ -148,10 +148,10 @@ module _ (p : Problem) (i : ℕ) (s : SoftClause) (h : i < length p.soft) (is : 
         (All-get_or (λ (x : SoftClause). IsClauseWithin p.variables x.clause) p.soft i s h
         limits.soft_clauses)
 
-    -- a clause with opposites takes no part
-    pub skipped : (g : Grouping) → Progress p g i → has_opposites s.clause ≡ true
+    -- a clause with complementary literals takes no part
+    pub skipped : (g : Grouping) → Progress p g i → is_tautology s.clause ≡ true
         → Progress p g (i + 1)
-    skipped g pr opposed = record {
+    skipped g pr clash = record {
       cost = pr.cost;
       earlier = pr.earlier;
       groups = pr.groups;
@@ -169,9 +169,9 @@ module _ (p : Problem) (i : ℕ) (s : SoftClause) (h : i < length p.soft) (is : 
       };
       rest =
           sym (ap (grouped_from (binding p) pr.cost pr.earlier pr.groups)
-          (ap (placed_from i) here ∙ cond-true (has_opposites s.clause) (placed_from (i + 1)
+          (ap (placed_from i) here ∙ cond-true (is_tautology s.clause) (placed_from (i + 1)
           (drop (i + 1) p.soft)) (record { place = i; literals = s.clause }
-          ∷ placed_from (i + 1) (drop (i + 1) p.soft)) opposed))
+          ∷ placed_from (i + 1) (drop (i + 1) p.soft)) clash))
           ∙ pr.rest;
     }
 
@@ -197,7 +197,7 @@ module _ (p : Problem) (i : ℕ) (s : SoftClause) (h : i < length p.soft) (is : 
           }
 
       -- the clause has its group
-      pub gone_on : (old new : Grouping) → Progress p old i → has_opposites s.clause ≡ false
+      pub gone_on : (old new : Grouping) → Progress p old i → is_tautology s.clause ≡ false
           → Adds old new rows s.clause i → Progress p new (i + 1)
       gone_on old new pr plain adds =
           let c : Placed = record { place = i; literals = s.clause } in
@@ -213,7 +213,7 @@ module _ (p : Problem) (i : ℕ) (s : SoftClause) (h : i < length p.soft) (is : 
                 lits_here (is_ready old pr) adds;
             rest =
                 sym (ap (grouped_from (binding p) pr.cost pr.earlier pr.groups)
-                (ap (placed_from i) here ∙ cond-false (has_opposites s.clause) (placed_from (i + 1)
+                (ap (placed_from i) here ∙ cond-false (is_tautology s.clause) (placed_from (i + 1)
                 (drop (i + 1) p.soft)) (c ∷ placed_from (i + 1) (drop (i + 1) p.soft)) plain))
                 ∙ pr.rest;
           }

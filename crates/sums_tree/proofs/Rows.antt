@@ -10,7 +10,7 @@ use Rattle.std.proofs.lemmas.Bool.{cond-true, cond-false}
 use Rattle.std.proofs.lemmas.List.{drop_more, append-nil}
 use Rattle.std.proofs.lemmas.List.Elements.{All-weaker, recursion_from_All}
 use Rattle.cnf.specs.Literal.{Literal}
-use Rattle.cnf.specs.Clause.{has_opposites}
+use Rattle.cnf.specs.Clause.{is_tautology}
 use Rattle.cnf.specs.Instance.{IsClauseWithin}
 use Rattle.cnf.specs.Marks.{HasPlace}
 use Rattle.cnf.proofs.Laws.{places_within}
@@ -90,18 +90,18 @@ homes_row homes groups vars c homes_are within =
         λ i. cons_option (same i) (agree c h.1 i)
 
 pub clause_skipped : (groups : List (List Placed)) (it rest : List (List Literal))
-    (c : List Literal) (xs all : List Connection) → it ≡ c ∷ rest → has_opposites c ≡ true
+    (c : List Literal) (xs all : List Connection) → it ≡ c ∷ rest → is_tautology c ≡ true
     → xs ++ flat_map row_connections (map (clause_row groups) (plain it)) ≡ all
     → xs ++ flat_map row_connections (map (clause_row groups) (plain rest)) ≡ all
-clause_skipped groups it rest c xs all is opposed inv =
+clause_skipped groups it rest c xs all is clash inv =
     sym (ap (λ cs. xs ++ flat_map row_connections (map (clause_row groups) cs))
-    (ap plain is ∙ cond-false (not (has_opposites c)) (c ∷ plain rest) (plain rest)
-    (ap not opposed)))
+    (ap plain is ∙ cond-false (not (is_tautology c)) (c ∷ plain rest) (plain rest)
+    (ap not clash)))
     ∙ inv
 
 pub clause_step : (groups : List (List Placed)) (it rest : List (List Literal))
     (c : List Literal) (row : List ℕ) (xs new all : List Connection) → it ≡ c ∷ rest
-    → has_opposites c ≡ false → row ≡ clause_row groups c → new ≡ xs ++ row_connections row
+    → is_tautology c ≡ false → row ≡ clause_row groups c → new ≡ xs ++ row_connections row
     → xs ++ flat_map row_connections (map (clause_row groups) (plain it)) ≡ all
     → new ++ flat_map row_connections (map (clause_row groups) (plain rest)) ≡ all
 clause_step groups it rest c row xs new all is plain_is row_is e inv =
@@ -111,7 +111,7 @@ clause_step groups it rest c row xs new all is plain_is row_is e inv =
     (flat_map row_connections (map (clause_row groups) (plain rest)))
     ∙ sym (ap (λ cs. xs ++ flat_map row_connections (map (clause_row groups) cs))
     (ap plain is
-    ∙ cond-true (not (has_opposites c)) (c ∷ plain rest) (plain rest) (ap not plain_is)))
+    ∙ cond-true (not (is_tautology c)) (c ∷ plain rest) (plain rest) (ap not plain_is)))
     ∙ inv
 
 pub variables_within : (vars n : ℕ) (c : List Literal) → n ≡ vars + 1 → IsClauseWithin vars c

@@ -8,7 +8,7 @@ use Rattle.std.proofs.lemmas.List.Filters.{sum_by-filter_both}
 use Rattle.std.proofs.lemmas.List.Concat.{flat_map-cons}
 use Rattle.std.proofs.lemmas.List.Sums.{sum_by-cons, sum_by-append}
 use Rattle.cnf.specs.Literal.{Literal}
-use Rattle.cnf.specs.Clause.{has_opposites}
+use Rattle.cnf.specs.Clause.{is_tautology}
 use Rattle.cnf.specs.Problem.{Problem}
 use Rattle.cnf.specs.Instance.{IsInstance}
 use Rattle.sums_tree.specs.Groups.{Placed, binding, grouped}
@@ -89,7 +89,7 @@ binding_short : (p : Problem) → sum_by length (binding p) ≤ sum_by length p.
 binding_short p =
     omega (
       arith,
-      sum_by-filter_both (λ c. not (has_opposites c)) (λ c. not (not (has_opposites c)))
+      sum_by-filter_both (λ c. not (is_tautology c)) (λ c. not (not (is_tautology c)))
           (λ _. refl) (λ (c : List Literal). length c) p.hard,
     )
 

@@ -99,7 +99,7 @@ is_false p a i = by (slice_get p.soft i)
 
 -- what a tree has to be for the weights to be added along it
 pub record IsArrangement (p : Problem) (t : Tree) : Type 0 where
-  -- the soft clauses without an opposite pair stand in its groups, each of them once
+  -- the soft clauses without complementary literals stand in its groups, each of them once
   pub whole : IsPermutation (map (λ c. c.place) (placed p)) (flat_map (λ g. g) (groups_of t))
   -- at most one clause of a group is false where the hard clauses hold
   pub exclude : (a : Assignment) → IsFeasible p a

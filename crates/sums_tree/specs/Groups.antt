@@ -4,7 +4,7 @@ use Rattle.std.specs.Prelude.{reverse}
 use Rattle.std.specs.Prelude.{count_by, nat_le, if◌then◌else◌}
 use Rattle.std.specs.List.{list_any, list_all}
 use Rattle.cnf.specs.Literal.{Literal, negation, literal_eq}
-use Rattle.cnf.specs.Clause.{contains_literal, has_opposites}
+use Rattle.cnf.specs.Clause.{contains_literal, is_tautology}
 use Rattle.cnf.specs.Problem.{Problem, SoftClause}
 use Rattle.sums_tree.specs.declared.joining.TheConstants.{LOOK_LIMIT}
 
@@ -13,19 +13,19 @@ pub record Placed : Type 0 where
   pub place : ℕ
   pub literals : List Literal
 
--- the soft clauses without an opposite pair, from a place on: each of them can be false
+-- the soft clauses without complementary literals, from a place on: each of them can be false
 abbrev pub placed_from : ℕ → List SoftClause → List Placed
 placed_from i [] = []
 placed_from i (s ∷ more) =
-    if has_opposites s.clause then placed_from (i + 1) more
+    if is_tautology s.clause then placed_from (i + 1) more
     else record { place = i; literals = s.clause } ∷ placed_from (i + 1) more
 
 abbrev pub placed : Problem → List Placed
 placed p = placed_from 0 p.soft
 
--- the clauses without an opposite pair: each of them can be false
+-- the clauses without complementary literals: each of them can be false
 abbrev pub plain : List (List Literal) → List (List Literal)
-plain clauses = filter (λ c. not (has_opposites c)) clauses
+plain clauses = filter (λ c. not (is_tautology c)) clauses
 
 abbrev pub binding : Problem → List (List Literal)
 binding p = plain p.hard

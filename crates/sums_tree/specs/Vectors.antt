@@ -74,12 +74,12 @@ signs_past : map (λ g. map (λ c. c.place) g)
     ≡ (0 ∷ 1 ∷ []) ∷ (2 ∷ []) ∷ (3 ∷ []) ∷ []
 signs_past = refl
 
--- clauses with an opposite pair take no part, and an empty one is a group of its own
-opposites_take_no_part :
+-- clauses with complementary literals take no part, and an empty one is a group of its own
+tautologies_take_no_part :
     tree (instance 2 (both (positive 1) (negative 1) ∷ both (positive 2) (positive 1) ∷ [])
     (both (positive 1) (negative 1) ∷ (negative 1 ∷ []) ∷ (negative 2 ∷ []) ∷ [] ∷ []))
     ≡ Some (Fork (Fork (single 1) (single 2)) (single 3))
-opposites_take_no_part = refl
+tautologies_take_no_part = refl
 
 -- 1 - 2 - 3 - 4
 abbrev chain : Problem

@@ -13,7 +13,7 @@ ghost use Rattle.sums_tree.specs.Connections.{between, first_of};
 
 use crate::chains::Chains;
 use cnf::marks::Marks;
-use cnf::opposites::are_opposed;
+use cnf::tautologies::is_tautology_by;
 use cnf::types::{Instance, Lit};
 use std::alloc::AllocError;
 use std::marker::Model;
@@ -64,7 +64,7 @@ fn connect_clauses(
     let mut marks = Marks::new(instance.allocator(), instance.vars())?;
     let mut row = Vec::new(instance.allocator());
     for lits in instance.hard().iter() {
-        if are_opposed(&mut marks, lits) {
+        if is_tautology_by(&mut marks, lits) {
             continue;
         }
         take_homes(homes, lits, &mut row)?;

@@ -6,7 +6,7 @@ use crate::chains::Chains;
 use crate::joining::Grouping;
 use crate::partners::partners_of;
 use cnf::marks::Marks;
-use cnf::opposites::are_opposed;
+use cnf::tautologies::is_tautology_by;
 use cnf::types::Instance;
 use std::alloc::AllocError;
 
@@ -23,7 +23,7 @@ pub(crate) fn groups_of(instance: &Instance) -> Result<Chains, AllocError>
     let mut grouping = Grouping::new(alloc, vars, clauses.len())?;
     for (place, soft) in clauses.iter().enumerate() {
         let lits = soft.clause().lits();
-        if are_opposed(&mut marks, lits) {
+        if is_tautology_by(&mut marks, lits) {
             continue;
         }
         grouping.add(&partners, lits, place as u32)?;

@@ -1,9 +1,9 @@
--- The next clause counts exactly where it has no opposite pair.
+-- The next clause counts exactly where it has no complementary literals.
 use Rattle.std.proofs.Common.{◌≡◌, ◌+◌, ◌*◌, ◌≤◌, ◌<◌, ◌^◌, ◌∷◌, length, true, false, arith, ap}
 use Rattle.std.proofs.Common.{sym, ◌∙◌, subst, rules}
 use Rattle.std.proofs.lemmas.List.Elements.{All-head, All-tail}
 use Rattle.std.specs.Prelude.{All}
-use Rattle.cnf.specs.Clause.{has_opposites}
+use Rattle.cnf.specs.Clause.{is_tautology}
 use Rattle.cnf.specs.Instance.{IsClauseWithin}
 use Rattle.cnf.proofs.Laws.{places_within}
 use Rattle.bound.specs.Bound.{kept}
@@ -11,8 +11,8 @@ use Rattle.bound.proofs.Few.{kept_le}
 use Rattle.bound.proofs.Streams.{hard_counted, hard_passed}
 use Rattle.bound.proofs.encoding.count_hard.Goals as goal
 
-pub are_opposed-requires : goal.are_opposed-requires
-are_opposed-requires c =
+pub is_tautology_by-requires : goal.is_tautology_by-requires
+is_tautology_by-requires c =
     let n = c.args.instance.now.variables in
     let left : All (IsClauseWithin n) (c.in-Some.clause.now ∷ c.next.new.self) =
     subst (All (IsClauseWithin n)) c.in-Some.ensures.steps c.loop-clause.invariant.left in
@@ -33,14 +33,15 @@ overflow_add-count c =
     ) in
     search rules
 
-pub loop-clause-preserved-then-not-are_opposed : goal.loop-clause-preserved-then-not-are_opposed
-loop-clause-preserved-then-not-are_opposed c =
+pub loop-clause-preserved-then-not-is_tautology_by :
+    goal.loop-clause-preserved-then-not-is_tautology_by
+loop-clause-preserved-then-not-is_tautology_by c =
     let n = c.args.instance.now.variables in
     let left : All (IsClauseWithin n) (c.in-Some.clause.now ∷ c.next.new.self) =
     subst (All (IsClauseWithin n)) c.in-Some.ensures.steps c.loop-clause.invariant.left in
     let once = (All-head (IsClauseWithin n) c.in-Some.clause.now c.next.new.self left).0 in
-    let e : has_opposites c.in-Some.clause.now ≡ false = sym c.are_opposed.ensures.value
-    ∙ c.if-not-are_opposed.true in
+    let e : is_tautology c.in-Some.clause.now ≡ false = sym c.is_tautology_by.ensures.value
+    ∙ c.if-not-is_tautology_by.true in
     record {
       counted =
           omega (
@@ -49,7 +50,7 @@ loop-clause-preserved-then-not-are_opposed c =
             ap (λ x. length (kept x)) c.in-Some.ensures.steps,
             hard_counted c.in-Some.clause.now c.next.new.self once e,
           );
-      marks = c.are_opposed.ensures.marks ∙ c.loop-clause.invariant.marks;
+      marks = c.is_tautology_by.ensures.marks ∙ c.loop-clause.invariant.marks;
       left = All-tail (IsClauseWithin n) c.in-Some.clause.now c.next.new.self left;
     }
 
@@ -59,8 +60,8 @@ loop-clause-preserved c =
     let left : All (IsClauseWithin n) (c.in-Some.clause.now ∷ c.next.new.self) =
     subst (All (IsClauseWithin n)) c.in-Some.ensures.steps c.loop-clause.invariant.left in
     let once = (All-head (IsClauseWithin n) c.in-Some.clause.now c.next.new.self left).0 in
-    let e : has_opposites c.in-Some.clause.now ≡ true = sym c.are_opposed.ensures.value
-    ∙ c.if-not-are_opposed.false in
+    let e : is_tautology c.in-Some.clause.now ≡ true = sym c.is_tautology_by.ensures.value
+    ∙ c.if-not-is_tautology_by.false in
     record {
       counted =
           omega (
@@ -69,6 +70,6 @@ loop-clause-preserved c =
             ap (λ x. length (kept x)) c.in-Some.ensures.steps,
             hard_passed c.in-Some.clause.now c.next.new.self once e,
           );
-      marks = c.are_opposed.ensures.marks ∙ c.loop-clause.invariant.marks;
+      marks = c.is_tautology_by.ensures.marks ∙ c.loop-clause.invariant.marks;
       left = All-tail (IsClauseWithin n) c.in-Some.clause.now c.next.new.self left;
     }

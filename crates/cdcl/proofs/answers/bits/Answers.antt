@@ -6,7 +6,7 @@ use Rattle.cdcl.specs.Solving.{SatisfyGiven}
 use Rattle.cdcl_search.specs.Running.{tables_of}
 use Rattle.cdcl.proofs.Satisfied.{answer_sat}
 use Rattle.clauses.specs.Slots.{clause_at}
-use Rattle.propagate.proofs.Laws.{no_opposites}
+use Rattle.propagate.proofs.Laws.{no_tautology}
 use Rattle.cdcl.specs.Assuming.{IsTrueUnder}
 use Rattle.cdcl.proofs.Frozen.{frozen_true}
 use Rattle.cdcl.proofs.answers.bits.Goals as goal
@@ -56,6 +56,6 @@ returns-clause-frozen c = λ l one fixed e.
     let many : length read ≡ p.stack.variables = c.in_ok-bits.ensures.long ∙ r.variables in
     subst (λ bits. IsTrueUnder bits l) (sym c.set_eliminated.ensures)
     (frozen_true s.engine.trail read p.frozen.items p.stack.removed l
-    (no_opposites (clause_at s.store.slots) s.engine.trail r.searches.fits.reasons)
+    (no_tautology (clause_at s.store.slots) s.engine.trail r.searches.fits.reasons)
     c.in_ok-bits.ensures.values r.recorded.not_frozen
     (let few = c.requires.input.no_fewer in omega arith) one fixed e)

@@ -5,8 +5,8 @@ use Rattle.cnf.specs.Marks.{HasPlace}
 use Rattle.cnf.proofs.Laws.{places_within}
 use Rattle.cores.proofs.counting.rests_of.Goals as goal
 
-pub are_opposed-requires : goal.are_opposed-requires
-are_opposed-requires c =
+pub is_tautology_by-requires : goal.is_tautology_by-requires
+is_tautology_by-requires c =
     let p = c.args.instance.now in
     let rows = length c.loop-soft.marks in
     let s = c.soft-item.result in

@@ -1,4 +1,4 @@
--- The resolvent is there, or has an opposite pair.
+-- The resolvent is there, or has complementary literals.
 use Rattle.std.proofs.Common.{◌≡◌, ◌∙◌, ◌++◌, ◌∷◌, [], List, Some, true, ap, sym, subst, inr}
 use Rattle.std.proofs.Common.{length}
 use Rattle.std.proofs.lemmas.Bool.{not-true}

@@ -21,11 +21,11 @@ returns-then-ne-clause-exact c =
           sym (apart_second c.args.marks.now c.args.lits.now c.loop-lit.lit-index c.lit-item.result
           c.loop-lit.found c.loop-lit-test.true c.lit-item.is here other c.loop-lit.invariant)
       | then-ne-via-else-ne+then-not-is_marked-2 w ↦
-          let opposite : mark_of c.args.marks.now (negation c.lit-item.result) ≡ false =
+          let complement : mark_of c.args.marks.now (negation c.lit-item.result) ≡ false =
           ap (mark_of c.args.marks.now) (sym w.negation.ensures) ∙ sym w.is_marked-else-ne.ensures
           ∙ w.if-not-is_marked-2.true in
           sym (apart_neither c.args.marks.now c.args.lits.now c.loop-lit.lit-index c.lit-item.result
-          c.loop-lit.found c.loop-lit-test.true c.lit-item.is here opposite
+          c.loop-lit.found c.loop-lit-test.true c.lit-item.is here complement
           c.loop-lit.invariant)
     ]
 

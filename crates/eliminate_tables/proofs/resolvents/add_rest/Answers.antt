@@ -2,7 +2,7 @@
 use Rattle.std.proofs.Common.{◌≡◌, ◌∙◌, sym, ap, not, true, false, rules}
 use Rattle.cnf.specs.Literal.{negation}
 use Rattle.cnf.specs.Marks.{mark_of}
-use Rattle.eliminate_tables.proofs.Built.{opposed_at}
+use Rattle.eliminate_tables.proofs.Built.{clash_at}
 use Rattle.eliminate_tables.proofs.Needed.{codes_differ}
 use Rattle.eliminate_tables.proofs.resolvents.add_rest.Goals as goal
 
@@ -11,9 +11,9 @@ returns-then-is_marked-clause-plain c =
     let ms = c.args.marks.now in
     let unmarked : mark_of ms c.lit-item.result ≡ false =
     sym c.is_marked.ensures ∙ c.if-not-is_marked.true in
-    let opposed : mark_of ms (negation c.lit-item.result) ≡ true =
+    let clash : mark_of ms (negation c.lit-item.result) ≡ true =
     ap (mark_of ms) (sym c.negation.ensures) ∙ sym c.is_marked-then-not-is_marked.ensures
     ∙ c.if-is_marked.true in
-    sym (ap not (opposed_at ms c.args.left_out c.args.lits.now c.loop-lit.lit-index
+    sym (ap not (clash_at ms c.args.left_out c.args.lits.now c.loop-lit.lit-index
     c.lit-item.result c.loop-lit-test.true c.lit-item.is
-    (codes_differ c.lit-item.result c.args.left_out (search rules)) unmarked opposed))
+    (codes_differ c.lit-item.result c.args.left_out (search rules)) unmarked clash))

@@ -6,8 +6,8 @@ use Rattle.std.proofs.lemmas.List.Elements.{All-weaker}
 use Rattle.cnf.specs.Literal.{Literal, negation}
 use Rattle.cnf.specs.Clause.{without_literal}
 use Rattle.cnf.specs.Marks.{HasPlace}
-use Rattle.eliminate_tables.specs.Resolvents.{is_opposed, unmarked_rest}
-use Rattle.eliminate_tables.proofs.Built.{rest_is, opposed_is}
+use Rattle.eliminate_tables.specs.Resolvents.{clashes, unmarked_rest}
+use Rattle.eliminate_tables.proofs.Built.{rest_is, clash_is}
 use Rattle.eliminate_tables.proofs.resolvents.resolve.Goals as goal
 
 pub returns-clause-plain : goal.returns-clause-plain
@@ -17,9 +17,9 @@ returns-clause-plain c =
     All-weaker (HasPlace (length c.args.marks.now)) (λ (l : Literal). 0 < l.variable) (λ l h. h.0)
     c.args.second.now c.requires.second in
     c.in_ok-plain.ensures.plain
-    ∙ ap (λ q. not (list_any (is_opposed ms) (unmarked_rest ms q c.args.second.now)))
+    ∙ ap (λ q. not (list_any (clashes ms) (unmarked_rest ms q c.args.second.now)))
     c.negation.ensures
-    ∙ ap not (opposed_is ms c.args.pivot c.args.first.now c.args.second.now
+    ∙ ap not (clash_is ms c.args.pivot c.args.first.now c.args.second.now
     c.mark_without.ensures.marked some c.requires.plain_first c.requires.plain_second)
 
 pub returns-clause-built : goal.returns-clause-built

@@ -1,4 +1,4 @@
--- The clauses are live; each resolvent is opposed, or short, or long.
+-- The clauses are live; each resolvent clashes, or short, or long.
 use Rattle.std.proofs.Common.{◌≡◌, ◌<◌, ◌+◌, Bool, true, false, not, ◌&&◌, ◌||◌, List, [], length}
 use Rattle.std.proofs.Common.{get_or, sym, ◌∙◌, ap, subst, arith}
 use Rattle.std.specs.Prelude.{nat_le}
@@ -11,10 +11,10 @@ use Rattle.clauses.specs.Slots.{IsLive}
 use Rattle.cnf.specs.Marks.{HasPlace}
 use Rattle.std.specs.Prelude.{All}
 use Rattle.std.specs.List.{list_any}
-use Rattle.eliminate_tables.specs.Resolvents.{unmarked_rest, is_opposed}
+use Rattle.eliminate_tables.specs.Resolvents.{unmarked_rest, clashes}
 use Rattle.eliminate_tables.specs.Rows.{clause_under, clauses_under}
-use Rattle.eliminate_tables.specs.Worthwhile.{rest_of, are_opposed, is_short, are_short}
-use Rattle.eliminate_tables.proofs.Counted.{rest_marked, opposed_marked, under_at, under_live}
+use Rattle.eliminate_tables.specs.Worthwhile.{rest_of, give_tautology, is_short, are_short}
+use Rattle.eliminate_tables.proofs.Counted.{rest_marked, clash_marked, under_at, under_live}
 use Rattle.eliminate_tables.proofs.worthwhile.count_resolvents.Goals as goal
 use Rattle.eliminate_tables.proofs.worthwhile.count_resolvents.Goals.{After-count_rest}
 use Rattle.eliminate_tables.proofs.worthwhile.count_resolvents.Goals.{in-Some+else-saturating_add}
@@ -41,13 +41,13 @@ at c =
     c.second-item.result c.lits.result.now c.loop-second-test.true c.second-item.is c.lits.ensures
 
 -- the tests of the marks are those of the resolvent
-opposed : (c : After-count_rest)
-    → list_any (is_opposed c.mark_without.new.self)
+clash : (c : After-count_rest)
+    → list_any (clashes c.mark_without.new.self)
     (unmarked_rest c.mark_without.new.self c.negation.result c.lits.result.now)
-    ≡ are_opposed c.args.pivot c.lits-lits.result.now c.lits.result.now
-opposed c =
+    ≡ give_tautology c.args.pivot c.lits-lits.result.now c.lits.result.now
+clash c =
     rw c.negation.ensures
-    (opposed_marked c.mark_without.new.self c.args.pivot c.lits-lits.result.now c.lits.result.now
+    (clash_marked c.mark_without.new.self c.args.pivot c.lits-lits.result.now c.lits.result.now
     c.mark_without.ensures.marked
     (subst (λ n. All (HasPlace n) c.lits.result.now) (sym c.mark_without.ensures.len)
     (c.requires.placed c.second-item.result c.lits.result.now c.lits.ensures)))
@@ -77,12 +77,13 @@ returns-then-saturating_add-clause-long c none =
       c.in-Some.ensures.count,
       ap length (rest r),
     )) in
-    let apart : are_opposed p first second ≡ false = sym (opposed r) ∙ c.in-Some.ensures.plain in
-    let test : (are_opposed p first second || is_short p first second) ≡ false =
+    let apart : give_tautology p first second ≡ false = sym (clash r) ∙ c.in-Some.ensures.plain in
+    let test : (give_tautology p first second || is_short p first second) ≡ false =
     ap (λ b. b || is_short p first second) apart ∙ long in
     let found : are_short p first cs ≡ false =
-    list_all_at (λ d. are_opposed p first d || is_short p first d) cs c.loop-second.second-index []
-    (within r) (ap (λ d. are_opposed p first d || is_short p first d) (at r) ∙ test) in
+    list_all_at (λ d. give_tautology p first d || is_short p first d) cs c.loop-second.second-index
+    []
+    (within r) (ap (λ d. give_tautology p first d || is_short p first d) (at r) ∙ test) in
     ap (λ d. are_short p d cs)
     (under_live c.args.store.now.slots c.args.first first c.lits-lits.ensures) ∙ found
 
@@ -95,11 +96,11 @@ loop-second-preserved c =
     let cs : List (List Literal) = clauses_under c.args.store.now.slots c.args.seconds.now in
     let i = c.loop-second.second-index in
     let was = c.loop-second.invariant in
-    let fits : List Literal → Bool = λ d. are_opposed p first d || is_short p first d in
+    let fits : List Literal → Bool = λ d. give_tautology p first d || is_short p first d in
     elim c.match-count_rest.branch [
       | in-Some+else-saturating_add w ↦
-          let apart : are_opposed p first second ≡ false =
-          sym (opposed r) ∙ w.in-Some.ensures.plain in
+          let apart : give_tautology p first second ≡ false =
+          sym (clash r) ∙ w.in-Some.ensures.plain in
           let short : is_short p first second ≡ true =
           le-leb _ _ (omega (
             arith,
@@ -110,8 +111,8 @@ loop-second-preserved c =
           )) in
           let fit : fits second ≡ true = ap (λ b. b || is_short p first second) apart ∙ short in
           let one =
-          count_by_more_yes (λ d. not (are_opposed p first d)) cs i [] (within r)
-          (ap (λ d. not (are_opposed p first d)) (at r) ∙ ap not apart) in
+          count_by_more_yes (λ d. not (give_tautology p first d)) cs i [] (within r)
+          (ap (λ d. not (give_tautology p first d)) (at r) ∙ ap not apart) in
           record {
             count = omega (arith, w.count-is, was.count, one);
             short = list_all_more fits cs i [] (within r)
@@ -119,12 +120,12 @@ loop-second-preserved c =
             few = omega (arith, w.count-is, was.few);
           }
       | in-None w ↦
-          let apart : are_opposed p first second ≡ true =
-          sym (opposed r) ∙ c.count_rest.ensures.opposed w.in-None.is in
+          let apart : give_tautology p first second ≡ true =
+          sym (clash r) ∙ c.count_rest.ensures.clash w.in-None.is in
           let fit : fits second ≡ true = ap (λ b. b || is_short p first second) apart in
           let none =
-          count_by_more_no (λ d. not (are_opposed p first d)) cs i [] (within r)
-          (ap (λ d. not (are_opposed p first d)) (at r) ∙ ap not apart) in
+          count_by_more_no (λ d. not (give_tautology p first d)) cs i [] (within r)
+          (ap (λ d. not (give_tautology p first d)) (at r) ∙ ap not apart) in
           record {
             count = w.count-is ∙ was.count ∙ sym none;
             short = list_all_more fits cs i [] (within r)

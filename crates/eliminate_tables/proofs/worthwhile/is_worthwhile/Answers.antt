@@ -10,7 +10,7 @@ use Rattle.cnf.specs.Literal.{Literal}
 use Rattle.clauses.specs.Slots.{IsLive}
 use Rattle.eliminate_tables.specs.Bins.{ArePlaced}
 use Rattle.eliminate_tables.specs.Rows.{clause_under, clauses_under}
-use Rattle.eliminate_tables.specs.Worthwhile.{are_opposed, are_short, resolvent_count}
+use Rattle.eliminate_tables.specs.Worthwhile.{give_tautology, are_short, resolvent_count}
 use Rattle.eliminate_tables.specs.Worthwhile.{are_few_and_short}
 use Rattle.eliminate_tables.proofs.Counted.{under_item, few_length}
 use Rattle.eliminate_tables.proofs.worthwhile.is_worthwhile.Goals as goal
@@ -82,7 +82,7 @@ loop-first-preserved c =
     let first : List Literal = clause_under c.args.store.now.slots c.first-item.result in
     let more : c.in-Some.more ≡ resolvent_count p first ds = c.in-Some.ensures.count in
     let ten : resolvent_count p first ds ≤ length ds =
-    count_by-le-length (λ d. not (are_opposed p first d)) ds in
+    count_by-le-length (λ d. not (give_tautology p first d)) ds in
     let some_ten : length ds ≤ 10 = few_length ds (few r).1 in
     let places : i < length cs = within r in
     let all_ten : length cs ≤ 10 = few_length cs (few r).0 in

@@ -8,8 +8,8 @@ use Rattle.sums_tree.specs.Groups.{grouped}
 use Rattle.sums_tree.proofs.Rows.{clause_skipped, clause_step, homes_row, variables_within}
 use Rattle.sums_tree.proofs.connecting.connect_clauses.Goals as goal
 
-pub are_opposed-requires : goal.are_opposed-requires
-are_opposed-requires c =
+pub is_tautology_by-requires : goal.is_tautology_by-requires
+is_tautology_by-requires c =
     let p = c.args.instance.now in
     let left : All (IsClauseWithin p.variables) (c.in-Some.lits.now ∷ c.next.new.self) =
     subst (All (IsClauseWithin p.variables)) c.in-Some.ensures.steps c.loop-lits.invariant.left in
@@ -17,18 +17,20 @@ are_opposed-requires c =
     (omega (arith, c.loop-lits.invariant.marks))
     (All-head (IsClauseWithin p.variables) c.in-Some.lits.now c.next.new.self left)
 
-pub loop-lits-preserved-then-are_opposed : goal.loop-lits-preserved-then-are_opposed
-loop-lits-preserved-then-are_opposed c =
+pub loop-lits-preserved-then-is_tautology_by : goal.loop-lits-preserved-then-is_tautology_by
+loop-lits-preserved-then-is_tautology_by c =
     let p = c.args.instance.now in
     let is = c.in-Some.ensures.steps in
     record {
-      marks = c.are_opposed.ensures.marks ∙ c.loop-lits.invariant.marks;
+      marks = c.is_tautology_by.ensures.marks ∙ c.loop-lits.invariant.marks;
       left =
           All-tail (IsClauseWithin p.variables) c.in-Some.lits.now c.next.new.self
           (subst (All (IsClauseWithin p.variables)) is c.loop-lits.invariant.left);
       rest =
           clause_skipped (grouped p) _ c.next.new.self c.in-Some.lits.now c.loop-lits.parts.items _
-          is (sym c.are_opposed.ensures.value ∙ c.if-are_opposed.true) c.loop-lits.invariant.rest;
+          is
+          (sym c.is_tautology_by.ensures.value ∙ c.if-is_tautology_by.true)
+          c.loop-lits.invariant.rest;
     }
 
 pub take_homes-requires : goal.take_homes-requires
@@ -46,12 +48,12 @@ loop-lits-preserved c =
     let left : All (IsClauseWithin p.variables) (c.in-Some.lits.now ∷ c.next.new.self) =
     subst (All (IsClauseWithin p.variables)) is c.loop-lits.invariant.left in
     record {
-      marks = c.are_opposed.ensures.marks ∙ c.loop-lits.invariant.marks;
+      marks = c.is_tautology_by.ensures.marks ∙ c.loop-lits.invariant.marks;
       left = All-tail (IsClauseWithin p.variables) c.in-Some.lits.now c.next.new.self left;
       rest =
           clause_step (grouped p) _ c.next.new.self c.in-Some.lits.now c.deref.result.now
           c.loop-lits.parts.items c.connect_row.new.parts.items _ is
-          (sym c.are_opposed.ensures.value ∙ c.if-are_opposed.false)
+          (sym c.is_tautology_by.ensures.value ∙ c.if-is_tautology_by.false)
           (c.deref.ensures.value ∙ c.in_ok-take_homes.ensures
           ∙ homes_row c.args.homes.now (grouped p) p.variables c.in-Some.lits.now c.requires
           (All-head (IsClauseWithin p.variables) c.in-Some.lits.now c.next.new.self left))

@@ -1,7 +1,7 @@
 -- One soft clause more is passed over, or has its group.
 use Rattle.std.proofs.Common.{◌≡◌, ◌∙◌, ◌*◌, ◌<◌, ◌≤◌, ap, sym, subst, length, get_or, arith, All}
 use Rattle.std.proofs.Common.{replicate, List, []}
-use Rattle.cnf.specs.Clause.{has_opposites}
+use Rattle.cnf.specs.Clause.{is_tautology}
 use Rattle.cnf.specs.Problem.{SoftClause}
 use Rattle.cnf.specs.Marks.{HasPlace}
 use Rattle.cnf.proofs.Laws.{places_within}
@@ -24,8 +24,8 @@ loop-place-init c =
           (g.group_of ∙ soft) (g.seen ∙ soft);
     }
 
-pub are_opposed-requires : goal.are_opposed-requires
-are_opposed-requires c =
+pub is_tautology_by-requires : goal.is_tautology_by-requires
+is_tautology_by-requires c =
     let p = c.args.instance.now in
     let s = c.index-clauses-place.result in
     let h = subst (λ (ss : List SoftClause). c.loop-place.place < length ss) c.soft-clauses.ensures
@@ -38,8 +38,8 @@ are_opposed-requires c =
     (omega (arith, c.loop-place.invariant.marks, c.vars-vars.ensures.vars))
     (within_limits p c.loop-place.place s h is c.vars-vars.ensures.limits))
 
-pub loop-place-preserved-then-are_opposed : goal.loop-place-preserved-then-are_opposed
-loop-place-preserved-then-are_opposed c =
+pub loop-place-preserved-then-is_tautology_by : goal.loop-place-preserved-then-is_tautology_by
+loop-place-preserved-then-is_tautology_by c =
     let p = c.args.instance.now in
     let s = c.index-clauses-place.result in
     let h = subst (λ (ss : List SoftClause). c.loop-place.place < length ss) c.soft-clauses.ensures
@@ -47,11 +47,11 @@ loop-place-preserved-then-are_opposed c =
     let is = subst (λ (ss : List SoftClause). s ≡ get_or ss c.loop-place.place s)
     c.soft-clauses.ensures c.index-clauses-place.is in
     record {
-      marks = c.are_opposed.ensures.marks ∙ c.loop-place.invariant.marks;
+      marks = c.is_tautology_by.ensures.marks ∙ c.loop-place.invariant.marks;
       progress =
           skipped p c.loop-place.place s h is c.loop-place.grouping c.loop-place.invariant.progress
-          (sym (ap has_opposites (c.lits-lits.ensures.lits ∙ c.clause.ensures))
-          ∙ sym c.are_opposed.ensures.value ∙ c.if-are_opposed.true);
+          (sym (ap is_tautology (c.lits-lits.ensures.lits ∙ c.clause.ensures))
+          ∙ sym c.is_tautology_by.ensures.value ∙ c.if-is_tautology_by.true);
     }
 
 pub add-requires : goal.add-requires
@@ -81,14 +81,15 @@ loop-place-preserved c =
     let rows = c.in_ok-partners.partners in
     let same = c.lits-lits.ensures.lits ∙ c.clause.ensures in
     record {
-      marks = c.are_opposed.ensures.marks ∙ c.loop-place.invariant.marks;
+      marks = c.is_tautology_by.ensures.marks ∙ c.loop-place.invariant.marks;
       progress =
           gone_on p c.loop-place.place s h is rows c.vars-vars.ensures.limits
           (c.in_ok-partners.ensures.len ∙ ap (λ n. 2 * n) c.vars-vars.ensures.vars)
           (subst (λ hs. ArePartners rows (plain hs)) c.hard.ensures
           c.in_ok-partners.ensures.partners)
           c.loop-place.grouping c.add.new.self c.loop-place.invariant.progress
-          (sym (ap has_opposites same) ∙ sym c.are_opposed.ensures.value ∙ c.if-are_opposed.false)
+          (sym (ap is_tautology same) ∙ sym c.is_tautology_by.ensures.value
+          ∙ c.if-is_tautology_by.false)
           (subst (λ ls. Adds c.loop-place.grouping c.add.new.self rows ls c.loop-place.place) same
           c.in_ok-add.ensures);
     }

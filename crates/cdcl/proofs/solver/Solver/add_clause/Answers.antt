@@ -31,7 +31,7 @@ gives g c =
       c.get-number.ensures.from_one,
       c.get-number.ensures.small,
     ) fixed c.requires.no_repeat
-    c.requires.no_opposites c.ask_variables.ensures c.in-Ok.ensures.takes
+    c.requires.no_tautology c.ask_variables.ensures c.in-Ok.ensures.takes
 
 -- memory was refused
 fails : (g : _) (c : In-Err g)

@@ -4,8 +4,8 @@ use Rattle.std.proofs.Common.{sym, take, true}
 use Rattle.std.proofs.lemmas.List.{length-replicate}
 use Rattle.cnf.specs.Literal.{index_of}
 use Rattle.cnf.specs.Marks.{mark_of, IsMarked, HasPlace}
-use Rattle.cnf.proofs.Opposed.{mark_step}
-use Rattle.cnf.proofs.opposites.meets_negation.Goals as goal
+use Rattle.cnf.proofs.Complements.{mark_step}
+use Rattle.cnf.proofs.tautologies.meets_negation.Goals as goal
 
 pub loop-lit-preserved : goal.loop-lit-preserved
 loop-lit-preserved c =

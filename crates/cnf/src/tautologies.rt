@@ -1,23 +1,23 @@
-// Whether a clause has an opposite pair.
+// Whether a clause has complementary literals.
 ghost use Rattle.std.specs.Prelude.{◌≡◌, length, All};
-ghost use Rattle.cnf.specs.Clause.{contains_literal, has_opposites};
+ghost use Rattle.cnf.specs.Clause.{contains_literal, is_tautology};
 ghost use Rattle.cnf.specs.Marks.{HasPlace};
 
 use crate::marks::Marks;
 use crate::types::Lit;
 
-/// Clauses up to this length are searched for opposites pair by pair, which takes fewer steps than
-/// marks do.
+/// Clauses up to this length are searched for complementary literals pair by pair, which takes
+/// fewer steps than marks do.
 const FEW: usize = 8;
 
 /// Whether some literal stands with its negation, in time linear in their number.
-pub fn are_opposed(marks: &mut Marks, lits: &[Lit]) -> bool
+pub fn is_tautology_by(marks: &mut Marks, lits: &[Lit]) -> bool
     requires { All (HasPlace (length marks.old)) lits.now }
-    ensures value { result ≡ has_opposites lits.now }
+    ensures value { result ≡ is_tautology lits.now }
     ensures marks { length marks.new ≡ length marks.old }
 {
     if lits.len() <= FEW {
-        has_opposites(lits)
+        is_tautology(lits)
     } else {
         meets_negation(marks, lits)
     }
@@ -27,7 +27,7 @@ pub fn are_opposed(marks: &mut Marks, lits: &[Lit]) -> bool
 /// it. A clause may have millions of literals.
 fn meets_negation(marks: &mut Marks, lits: &[Lit]) -> bool
     requires { All (HasPlace (length marks.old)) lits.now }
-    ensures value { result ≡ has_opposites lits.now }
+    ensures value { result ≡ is_tautology lits.now }
     ensures marks { length marks.new ≡ length marks.old }
 {
     marks.clear();
@@ -40,8 +40,8 @@ fn meets_negation(marks: &mut Marks, lits: &[Lit]) -> bool
 }
 
 /// Whether some literal stands with its negation: pair by pair, for a few literals.
-pub fn has_opposites(lits: &[Lit]) -> bool
-    ensures { result ≡ has_opposites lits.now }
+pub fn is_tautology(lits: &[Lit]) -> bool
+    ensures { result ≡ is_tautology lits.now }
 {
     let mut rest = lits;
     while let [first, more @ ..] = rest {
