@@ -46,7 +46,6 @@ tree_more n (x ∷ y ∷ more) h =
 pub record IsRounding (whole : Adders) (cells : List Cell) (n : ℕ) (xs : List Number) : Type 0 where
   pub cells_are : cells ++ (tree_from n xs).cells ≡ whole.cells
   pub outputs_are : (tree_from n xs).outputs ≡ whole.outputs
-  pub from_one : 0 < n
   pub most : most_of xs < 2 ^ 63
   pub room : n + 2 * length (tree_from n xs).cells ≤ 2 ^ 26
 
@@ -73,7 +72,6 @@ module _ {whole : Adders} {cells : List Cell} {n : ℕ} {xs : List Number} (many
         cells_are = append_assoc cells (round n xs).cells (after_round n xs).cells
             ∙ ap (λ (a : Adders). cells ++ a.cells) (sym more) ∙ h.cells_are;
         outputs_are = ap (λ (a : Adders). a.outputs) (sym more) ∙ h.outputs_are;
-        from_one = omega (arith, h.from_one);
         most = omega (arith, h.most, round_most n xs);
         room = next_room;
       })
@@ -98,7 +96,6 @@ pub record IsPairing (whole : Round) (before : List Cell) (end : ℕ) (sums : Li
     (cells : List Cell) (n : ℕ) (xs : List Number) : Type 0 where
   pub numbers_are : sums ++ (round n xs).numbers ≡ whole.numbers
   pub cells_are : cells ++ (round n xs).cells ≡ before ++ whole.cells
-  pub from_one : 0 < n
   pub most : most_of xs < 2 ^ 63
   pub end_is : n + 2 * length (round n xs).cells ≡ end
 
@@ -137,7 +134,6 @@ module _ {whole : Round} {before : List Cell} {end : ℕ} {sums : List Number} {
         numbers_are = ap (λ (s : Number). (sums ++ s ∷ []) ++ (round next more).numbers) same
             ∙ append_assoc sums (one ∷ []) (round next more).numbers ∙ rw is at h.numbers_are;
         cells_are = append_assoc cells added.cells (round next more).cells ∙ rw is at h.cells_are;
-        from_one = omega (arith, h.from_one);
         most = omega (arith, rw is at h.most);
         end_is = next_end;
       })

@@ -1,5 +1,5 @@
 -- The columns one by one.
-use Rattle.std.proofs.Common.{◌≡◌, ℕ, suc, ◌+◌, ◌*◌, ◌<◌, ◌≤◌, ◌^◌, true, false, List, [], ◌∷◌}
+use Rattle.std.proofs.Common.{◌≡◌, ℕ, suc, ◌+◌, ◌*◌, ◌≤◌, ◌^◌, true, false, List, [], ◌∷◌}
 use Rattle.std.proofs.Common.{◌++◌, length, map, filter, Option, Result, Ok, Err, if◌then◌else◌}
 use Rattle.std.proofs.Common.{refl, sym, ◌∙◌, ap, subst, arith, append_assoc, append-nil}
 use Rattle.std.proofs.lemmas.List.{length-append}
@@ -74,23 +74,21 @@ pub record IsBuilding (whole : Adders) (end : ℕ) (column : ℕ → List Litera
     (outputs : List (Option Literal)) (more j n : ℕ) (carries : List Literal) : Type 0 where
   pub cells_are : cells ++ (columns_from column more j n carries).cells ≡ whole.cells
   pub outputs_are : outputs ++ (columns_from column more j n carries).outputs ≡ whole.outputs
-  pub from_one : 0 < n
   pub end_is : n + 2 * length (columns_from column more j n carries).cells ≡ end
 
 pub building_starts : (column : ℕ → List Literal) (digits : ℕ) {cells : List Cell}
     {outputs : List (Option Literal)} {more n : ℕ} {carries : List Literal} → more ≡ digits
-    → outputs ≡ [] → carries ≡ [] → 0 < n
+    → outputs ≡ [] → carries ≡ []
     → IsBuilding (record {
       cells = cells ++ (columns_from column digits 0 n []).cells;
       outputs = (columns_from column digits 0 n []).outputs;
     })
     (n + 2 * length (columns_from column digits 0 n []).cells) column cells outputs more
     0 n carries
-building_starts column digits more_is outputs_are carries_are h =
+building_starts column digits more_is outputs_are carries_are =
     rw (more_is, outputs_are, carries_are) (record {
       cells_are = refl;
       outputs_are = refl;
-      from_one = h;
       end_is = refl;
     })
 
@@ -127,12 +125,6 @@ module _ {whole : Adders} {end : ℕ} {column : ℕ → List Literal} {cells : L
       rw (cells_are, outputs_are, n_is, carries_are, more_is, ls_is) (record {
         cells_are = append_assoc cells sum.cells rest.cells ∙ rw e at h.cells_are;
         outputs_are = append_assoc outputs (sum.output ∷ []) rest.outputs ∙ rw e at h.outputs_are;
-        from_one =
-            omega (
-              arith,
-              h.from_one,
-              column_fresh (length (column j ++ carries)) n (column j ++ carries),
-            );
         end_is = next_end k e h;
       })
 

@@ -1,5 +1,5 @@
 // Building the network of an instance, column by column or along a tree.
-ghost use Rattle.std.specs.Prelude.{◌≡◌, ◌+◌, ◌*◌, ◌<◌, ◌≤◌, ◌^◌, [], length, map, IfOk};
+ghost use Rattle.std.specs.Prelude.{◌≡◌, ◌+◌, ◌*◌, ◌≤◌, ◌^◌, [], length, map, IfOk};
 ghost use Rattle.cnf.specs.declared.limits.TheConstants.{FORMULA_VARIABLE_LIMIT};
 ghost use Rattle.adder.specs.Network.{columns_from, adders_as, AddsUp};
 ghost use Rattle.adder.specs.Parts.{literals_with};
@@ -57,7 +57,6 @@ pub fn network_as(instance: &Instance, profile: Profile) -> Result<Network, Allo
 
 fn add_columns(alloc: Global, relaxations: &Relaxations) -> Result<Network, AllocError>
     requires digits { relaxations.now.digits ≤ 64 }
-    requires from_one { 0 < relaxations.now.fresh }
     requires small { relaxations.now.fresh + 2 * length
         (columns_from (λ j. literals_with j relaxations.now.each.items) relaxations.now.digits 0
         relaxations.now.fresh []).cells ≤ FORMULA_VARIABLE_LIMIT }

@@ -7,6 +7,7 @@ ghost use Rattle.adder.specs.Parts.{literals_with, column_from};
 
 use crate::cells::Cell;
 use crate::relaxations::Relaxation;
+use cnf::fresh::Fresh;
 use cnf::types::Lit;
 use std::alloc::{AllocError, Global};
 
@@ -18,12 +19,12 @@ pub(crate) struct Adder {
     /// What the last column has carried into the next one.
     pub carries: Vec<Lit>,
     /// The next new variable.
-    pub fresh: u32,
+    pub fresh: Fresh,
 }
 
 impl Adder {
     /// No cells, and new variables from `fresh` on.
-    pub fn new(alloc: Global, fresh: u32) -> Self
+    pub fn new(alloc: Global, fresh: Fresh) -> Self
         ensures cells { result.cells.items ≡ [] }
         ensures carries { result.carries.items ≡ [] }
         ensures fresh { result.fresh ≡ fresh }
@@ -37,8 +38,7 @@ impl Adder {
 
     /// Takes a cell of these inputs and two new variables, and answers its sum.
     fn add(&mut self, a: Lit, b: Lit, third: Option<Lit>) -> Result<Lit, AllocError>
-        requires from_one { 0 < self.old.fresh }
-        requires small { self.old.fresh < FORMULA_VARIABLE_LIMIT }
+        requires { self.old.fresh < FORMULA_VARIABLE_LIMIT }
         ensures sum { IfOk result (λ s. s ≡ positive self.old.fresh) }
         ensures cells { OnOk result (self.new.cells.items
             ≡ self.old.cells.items
@@ -53,7 +53,7 @@ impl Adder {
             ≡ self.old.carries.items ++ positive (self.old.fresh + 1) ∷ []) }
         ensures fresh { OnOk result (self.new.fresh ≡ self.old.fresh + 2) }
     {
-        let sum = self.fresh;
+        let sum = self.fresh.get();
         let carry = sum + 1;
         self.cells.push(Cell {
             a,
@@ -63,14 +63,14 @@ impl Adder {
             carry,
         })?;
         self.carries.push(Lit::new(carry, false))?;
-        self.fresh += 2;
+        self.fresh = self.fresh.after(2);
         Ok(Lit::new(sum, false))
     }
 
     /// Adds up a column, and answers its output: the literal that is left.
     pub fn add_up(&mut self, column: &mut Vec<Lit>) -> Result<Option<Lit>, AllocError>
-        requires from_one { 0 < self.old.fresh }
-        requires small { (column_from self.old.fresh column.old.items).fresh ≤ FORMULA_VARIABLE_LIMIT }
+        requires { (column_from self.old.fresh column.old.items).fresh
+            ≤ FORMULA_VARIABLE_LIMIT }
         ensures output { IfOk result
             (λ o. o ≡ (column_from self.old.fresh column.old.items).output) }
         ensures cells { OnOk result (self.new.cells.items
@@ -95,8 +95,7 @@ impl Adder {
 
     /// Adds up a column with what the last one has carried into it, and answers its output.
     pub fn add_column(&mut self, column: &mut Vec<Lit>) -> Result<Option<Lit>, AllocError>
-        requires from_one { 0 < self.old.fresh }
-        requires small { (column_from self.old.fresh
+        requires { (column_from self.old.fresh
             (column.old.items ++ self.old.carries.items)).fresh ≤ FORMULA_VARIABLE_LIMIT }
         ensures output { IfOk result (λ o. o
             ≡ (column_from self.old.fresh

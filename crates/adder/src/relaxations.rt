@@ -7,6 +7,7 @@ ghost use Rattle.adder.specs.Parts.{relaxation_of, own_relaxation};
 
 use crate::cells::Profile;
 use crate::profiles::Relaxing;
+use cnf::fresh::Fresh;
 use cnf::types::{Clause, Instance, Lit, Soft};
 use std::alloc::AllocError;
 
@@ -25,7 +26,7 @@ pub struct Relaxations {
     /// In the order of the soft clauses.
     pub each: Vec<Relaxation>,
     /// The first variable that neither the instance nor a relaxation has.
-    pub fresh: u32,
+    pub fresh: Fresh,
     /// The binary digits of the total weight.
     pub digits: u32,
 }
@@ -44,14 +45,15 @@ impl Relaxations {
         ensures digits { IfOk result (λ r. r.digits ≡ binary_length (total_weight instance.now)) }
     {
         let soft_clauses = instance.soft();
-        let mut fresh = instance.vars() + 1;
+        let mut fresh = Fresh::new(instance.vars() + 1);
         let mut each = Vec::with_capacity(instance.allocator(), soft_clauses.len())?;
         for soft in soft_clauses {
             let lit = match own_literal(soft.clause(), profile.relaxing()) {
                 Some(lit) => lit,
                 None => {
-                    fresh += 1;
-                    Lit::new(fresh - 1, false)
+                    let lit = Lit::new(fresh.get(), false);
+                    fresh = fresh.after(1);
+                    lit
                 }
             };
             each.push(Relaxation {

@@ -8,6 +8,7 @@ ghost use Rattle.adder.specs.Parts.{lightest_numbers, most_of, numbers_with, tre
 use crate::columns::Adder;
 use crate::networks::Network;
 use crate::relaxations::{Relaxation, Relaxations, digit_count};
+use cnf::fresh::Fresh;
 use cnf::types::Lit;
 use std::alloc::{AllocError, Global};
 use std::marker::Model;
@@ -71,10 +72,10 @@ impl Number {
         adder: &mut Adder,
         column: &mut Vec<Lit>,
     ) -> Result<Self, AllocError>
-        requires from_one { 0 < adder.old.fresh }
         requires most { self.now.most + other.now.most < 2 ^ 63 }
         requires small { adder.old.fresh
-            + 2 * length (addition adder.old.fresh self.now other.now).cells ≤ FORMULA_VARIABLE_LIMIT }
+            + 2 * length (addition adder.old.fresh self.now other.now).cells
+            ≤ FORMULA_VARIABLE_LIMIT }
         ensures bits { IfOk result
             (λ n. n.bits ≡ (addition adder.old.fresh self.now other.now).outputs) }
         ensures most { IfOk result (λ n. n.most ≡ self.now.most + other.now.most) }
@@ -127,10 +128,10 @@ fn fill(column: &mut Vec<Lit>, x: &Number, y: &Number, j: u32) -> Result<(), All
 
 /// Adds up the weights in pairs along a balanced tree, light ones first.
 pub(crate) fn add_tree(alloc: Global, relaxations: Relaxations) -> Result<Network, AllocError>
-    requires from_one { 0 < relaxations.fresh }
     requires most { most_of (lightest_numbers relaxations.each.items) < 2 ^ 63 }
     requires small { relaxations.fresh + 2 * length
-        (tree_from relaxations.fresh (lightest_numbers relaxations.each.items)).cells ≤ FORMULA_VARIABLE_LIMIT }
+        (tree_from relaxations.fresh (lightest_numbers relaxations.each.items)).cells
+        ≤ FORMULA_VARIABLE_LIMIT }
     ensures { IfOk result (λ n. n
         ≡ tree_from relaxations.fresh (lightest_numbers relaxations.each.items)) }
 {
@@ -162,10 +163,10 @@ fn numbers_of(alloc: Global, relaxations: &[Relaxation]) -> Result<Vec<Number>, 
 }
 
 /// Adds numbers in rounds until one is left.
-fn add_rounds(alloc: Global, fresh: u32, numbers: Vec<Number>) -> Result<Network, AllocError>
-    requires from_one { 0 < fresh }
+fn add_rounds(alloc: Global, fresh: Fresh, numbers: Vec<Number>) -> Result<Network, AllocError>
     requires most { most_of numbers.items < 2 ^ 63 }
-    requires small { fresh + 2 * length (tree_from fresh numbers.items).cells ≤ FORMULA_VARIABLE_LIMIT }
+    requires small { fresh + 2 * length (tree_from fresh numbers.items).cells
+        ≤ FORMULA_VARIABLE_LIMIT }
     ensures { IfOk result (λ n. n ≡ tree_from fresh numbers.items) }
 {
     let mut adder = Adder::new(alloc, fresh);
@@ -186,7 +187,6 @@ fn add_round(
     adder: &mut Adder,
     numbers: &[Number],
 ) -> Result<Vec<Number>, AllocError>
-    requires from_one { 0 < adder.old.fresh }
     requires most { most_of numbers.now < 2 ^ 63 }
     requires small { adder.old.fresh
         + 2 * length (round adder.old.fresh numbers.now).cells ≤ FORMULA_VARIABLE_LIMIT }

@@ -3,6 +3,7 @@
 #![tactic(auto)]
 
 pub mod clause_list;
+pub mod fresh;
 pub mod judging;
 pub mod limits;
 pub mod marks;

@@ -12,6 +12,7 @@ use crate::sizes::room_after;
 use crate::state::State;
 use crate::types::Core;
 use cnf::clause_list::ClauseList;
+use cnf::fresh::Fresh;
 use cnf::marks::Marks;
 use cnf::tautologies::is_tautology_by;
 use cnf::types::Instance;
@@ -69,9 +70,9 @@ impl Counter {
             }) }
     {
         let alloc = instance.allocator();
-        let from = instance.vars() + 1;
+        let from = Fresh::new(instance.vars() + 1);
         let rests = rests_of(instance)?;
-        let fresh = from + rests.len() as u32;
+        let fresh = from.after(rests.len() as u32);
         Ok(Counter {
             state: State {
                 from,
@@ -128,7 +129,7 @@ impl Counter {
         ensures fresh { result ≡ self.now.counted.fresh }
         ensures limits { IsCounter self.now }
     {
-        self.state.fresh
+        self.state.fresh.get()
     }
 
     /// The clauses of the outputs, core by core.
@@ -156,10 +157,10 @@ impl Counter {
         if core.weight == 0 || core.outputs == 0 || core.outputs > core.inputs.len() as u64 {
             return Ok(false);
         }
-        if !can_pay(&state.rests, state.from, core.weight, &core.inputs) {
+        if !can_pay(&state.rests, state.from.get(), core.weight, &core.inputs) {
             return Ok(false);
         }
-        let vars = state.fresh - 1;
+        let vars = state.fresh.get() - 1;
         if self.marks.len() < 2 * vars as usize {
             self.marks.grow(vars)?;
         }

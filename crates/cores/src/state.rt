@@ -11,6 +11,7 @@ use crate::charging::charge;
 use crate::totalizing::{push_any, push_totalizer};
 use crate::types::Core;
 use cnf::clause_list::ClauseList;
+use cnf::fresh::Fresh;
 use std::alloc::AllocError;
 use std::marker::Model;
 
@@ -18,7 +19,7 @@ use std::marker::Model;
 #[derive(Drop)]
 pub(crate) struct State {
     /// The variable of the first soft clause, from 1 to 2^22 + 1.
-    pub from: u32,
+    pub from: Fresh,
     /// For each variable from that one on, what is left of its weight.
     pub rests: Vec<u64>,
     /// The clauses of the outputs, at most 2^22.
@@ -28,7 +29,7 @@ pub(crate) struct State {
     /// What the cores are worth together, below 2^62.
     pub weight: u64,
     /// The next new variable, below 2^24.
-    pub fresh: u32,
+    pub fresh: Fresh,
 }
 
 impl Model for State {
@@ -54,7 +55,7 @@ struct Outputs {
     /// The first of them.
     first: u32,
     /// The next new variable after them.
-    fresh: u32,
+    fresh: Fresh,
 }
 
 impl State {
@@ -70,9 +71,9 @@ impl State {
         ensures from { self.new.from ≡ self.old.from }
     {
         let outputs = push_outputs(&mut self.clauses, self.fresh, core)?;
-        charge(&mut self.rests, self.from, core.weight, &core.inputs);
+        charge(&mut self.rests, self.from.get(), core.weight, &core.inputs);
         let others = core.outputs as usize - 1;
-        let inner = (outputs.fresh - self.fresh) as usize - others;
+        let inner = (outputs.fresh.get() - self.fresh.get()) as usize - others;
         let len = self.rests.len();
         self.rests.resize(len + inner, 0)?;
         self.rests.resize(len + inner + others, core.weight)?;
@@ -102,10 +103,9 @@ impl State {
 }
 
 /// Puts the clauses of the outputs of a core behind those that are there.
-fn push_outputs(clauses: &mut ClauseList, fresh: u32, core: &Core) -> Result<Outputs, AllocError>
+fn push_outputs(clauses: &mut ClauseList, fresh: Fresh, core: &Core) -> Result<Outputs, AllocError>
     requires some { 0 < core.now.outputs }
     requires few { core.now.outputs ≤ length core.now.inputs }
-    requires from_one { 0 < fresh }
     requires inputs { All (IsNamed fresh) core.now.inputs }
     requires room { (counters fresh core.now).fresh ≤ FORMULA_VARIABLE_LIMIT }
     ensures first { IfOk result (λ o. o.first ∷ [] ≡ take 1 (counters fresh core.now).outputs) }
@@ -116,8 +116,8 @@ fn push_outputs(clauses: &mut ClauseList, fresh: u32, core: &Core) -> Result<Out
     if core.outputs == 1 {
         push_any(clauses, fresh, &core.inputs)?;
         return Ok(Outputs {
-            first: fresh,
-            fresh: fresh + 1,
+            first: fresh.get(),
+            fresh: fresh.after(1),
         });
     }
     let total = push_totalizer(clauses, core.outputs as u32, fresh, &core.inputs)?;

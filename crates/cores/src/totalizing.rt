@@ -12,6 +12,7 @@ ghost use Rattle.cores.specs.Spans.{variables_of, IsLiteralVariable};
 
 use crate::spans::OutputSpan;
 use cnf::clause_list::ClauseList;
+use cnf::fresh::Fresh;
 use cnf::types::Lit;
 use std::alloc::AllocError;
 
@@ -21,7 +22,7 @@ pub(crate) struct Total {
     /// The j-th is true where at least j inputs are.
     pub outputs: OutputSpan,
     /// The next new variable.
-    pub fresh: u32,
+    pub fresh: Fresh,
 }
 
 /// The totalizer of the inputs, with at most `most` outputs: its clauses come behind those that are
@@ -29,12 +30,11 @@ pub(crate) struct Total {
 pub(crate) fn push_totalizer(
     clauses: &mut ClauseList,
     most: u32,
-    fresh: u32,
+    fresh: Fresh,
     inputs: &[u64],
 ) -> Result<Total, AllocError>
     requires some { 0 < length inputs.now }
     requires variables { All IsLiteralVariable inputs.now }
-    requires from_one { 0 < fresh }
     requires room { (totalizer most fresh inputs.now).fresh ≤ FORMULA_VARIABLE_LIMIT }
     ensures outputs { IfOk result
         (λ t. variables_of t.outputs ≡ (totalizer most fresh inputs.now).outputs) }
@@ -50,11 +50,11 @@ pub(crate) fn push_totalizer(
     let left = push_totalizer(clauses, most, fresh, first)?;
     let right = push_totalizer(clauses, most, left.fresh, second)?;
     let count = most.min(left.outputs.count() + right.outputs.count());
-    let sums = OutputSpan::new(right.fresh, count);
+    let sums = OutputSpan::new(right.fresh.get(), count);
     push_sums(clauses, left.outputs, right.outputs, sums)?;
     Ok(Total {
         outputs: sums,
-        fresh: right.fresh + count,
+        fresh: right.fresh.after(count),
     })
 }
 
@@ -153,17 +153,16 @@ fn push_order(clauses: &mut ClauseList, sums: OutputSpan) -> Result<(), AllocErr
 /// One output, which holds where some input does.
 pub(crate) fn push_any(
     clauses: &mut ClauseList,
-    output: u32,
+    output: Fresh,
     inputs: &[u64],
 ) -> Result<(), AllocError>
     requires variables { All IsLiteralVariable inputs.now }
-    requires from_one { 0 < output }
     requires small { output < VARIABLE_LIMIT }
     ensures { OnOk result (clauses.new
         ≡ clauses.old ++ map (λ x. negative x ∷ positive output ∷ []) inputs.now) }
 {
     for input in inputs {
-        clauses.push(&[Lit::new(*input as u32, true), Lit::new(output, false)])?;
+        clauses.push(&[Lit::new(*input as u32, true), Lit::new(output.get(), false)])?;
     }
     Ok(())
 }

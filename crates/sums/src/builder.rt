@@ -5,13 +5,13 @@ ghost use Rattle.std.specs.Prelude.{IsTrue};
 ghost use Rattle.sums.specs.Halts.{IfTooMany};
 ghost use Rattle.sums.specs.Sums.{grouped, group_list, joined, join};
 
-use crate::fresh::Fresh;
 use crate::halts::Halt;
 use crate::linking::{push_both, push_order, push_own};
 use crate::lists::AtLeast;
 use crate::naming::{Named, push_numbers, push_sums};
 use crate::root::MOST_CLAUSES;
 use cnf::clause_list::ClauseList;
+use cnf::fresh::Fresh;
 
 /// The clauses so far, and the next new variable.
 #[derive(Drop)]

@@ -5,7 +5,6 @@
 mod builder;
 mod carrying;
 pub mod comparators;
-mod fresh;
 mod halts;
 mod halving;
 mod linking;

@@ -4,8 +4,8 @@ ghost use Rattle.std.specs.Prelude.{OnOk, IfOk};
 ghost use Rattle.cnf.specs.declared.limits.TheConstants.{FORMULA_VARIABLE_LIMIT};
 ghost use Rattle.sums.specs.Sums.{literal_of, named_from, numbers, rising, sums_with};
 
-use crate::fresh::Fresh;
 use crate::lists::AtLeast;
+use cnf::fresh::Fresh;
 use cnf::limits::FORMULA_VARIABLE_LIMIT;
 use cnf::types::Lit;
 use std::alloc::{AllocError, Global};

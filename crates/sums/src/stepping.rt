@@ -9,12 +9,12 @@ ghost use Rattle.sums.specs.Stepping.{group_weight, steps_weight, IsPlaced, CanS
 ghost use Rattle.sums.specs.Sums.{members};
 
 use crate::builder::Builder;
-use crate::fresh::Fresh;
 use crate::halts::Halt;
 use crate::lists::AtLeast;
 use crate::root::Root;
 use crate::taking::{Lists, join_lists, take_group};
 use cnf::clause_list::ClauseList;
+use cnf::fresh::Fresh;
 use cnf::types::Instance;
 use std::alloc::AllocError;
 use std::marker::Model;

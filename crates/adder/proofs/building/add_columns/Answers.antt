@@ -3,8 +3,8 @@ use Rattle.cnf.specs.Literal.{Literal}
 use Rattle.adder.proofs.Whole.{filled_is, column_room, builds_column}
 use Rattle.adder.proofs.building.add_columns.Goals as goal
 
-pub add_column-requires-clause-small : goal.add_column-requires-clause-small
-add_column-requires-clause-small c =
+pub add_column-requires : goal.add_column-requires
+add_column-requires c =
     let more : c.args.relaxations.now.digits - c.loop-j.j
     ≡ suc (c.args.relaxations.now.digits - (c.loop-j.j + 1)) = omega arith in
     let filled =

@@ -16,7 +16,6 @@ add_columns-requires c =
     let law = adds_up c.args.profile p r.limits in
     record {
       digits = omega (arith, binary_length_le (total_weight p), r.digits);
-      from_one = omega (arith, r.fresh);
       small = rw same (omega (arith, law.small.0, r.fresh));
     }
 

@@ -11,7 +11,7 @@ overflow_cast-core-inside c =
     let core = c.args.core.now in
     omega (
       arith,
-      (outputs_of c.args.fresh core c.requires.some c.requires.few c.requires.from_one
+      (outputs_of c.args.fresh core c.requires.some c.requires.few (omega arith)
           c.requires.inputs).room,
       c.requires.room,
       ap (λ (k : Core). k.outputs) c.core.view_is,
@@ -20,7 +20,7 @@ overflow_cast-core-inside c =
 pub push_totalizer-requires-clause-variables : goal.push_totalizer-requires-clause-variables
 push_totalizer-requires-clause-variables c =
     let core = c.args.core.now in
-    let some = outputs_of c.args.fresh core c.requires.some c.requires.few c.requires.from_one
+    let some = outputs_of c.args.fresh core c.requires.some c.requires.few (omega arith)
     c.requires.inputs in
     subst (All IsLiteralVariable)
     (sym (c.deref-2.ensures.value ∙ ap (λ (k : Core). k.inputs) c.core.view_is))
@@ -30,7 +30,7 @@ push_totalizer-requires-clause-variables c =
 pub returns-clause-first : goal.returns-clause-first
 returns-clause-first c =
     let core = c.args.core.now in
-    let some = outputs_of c.args.fresh core c.requires.some c.requires.few c.requires.from_one
+    let some = outputs_of c.args.fresh core c.requires.some c.requires.few (omega arith)
     c.requires.inputs in
     let count = ap (λ (k : Core). k.outputs) c.core.view_is in
     let inputs = c.deref-2.ensures.value ∙ ap (λ (k : Core). k.inputs) c.core.view_is in

@@ -4,7 +4,7 @@ use Rattle.std.specs.Prelude.{All}
 use Rattle.std.proofs.lemmas.List.Elements.{All-take, All-drop}
 use Rattle.cores.specs.Totalizer.{totalizer, variables_from, sum_clauses}
 use Rattle.cores.specs.Spans.{variables_of, IsLiteralVariable}
-use Rattle.cores.proofs.Halving.{IsSplit, left_room, right_room, node_made, three_parts, fresh_le}
+use Rattle.cores.proofs.Halving.{IsSplit, left_room, right_room, node_made, three_parts}
 use Rattle.cores.proofs.totalizing.+push_totalizer.Goals as goal
 
 pub push_totalizer-requires : goal.push_totalizer-requires
@@ -22,11 +22,8 @@ push_totalizer-requires t c =
         (
           subst (All IsLiteralVariable) (sym c.split_at.ensures.front)
               (All-take IsLiteralVariable (length xs / 2) xs c.requires.variables),
-          (
-            c.requires.from_one,
-            left_room c.args.most c.args.fresh _ xs c.split_at.result.0.now
-                c.split_at.result.1.now split refl (2 ^ 26) c.requires.room,
-          ),
+          left_room c.args.most c.args.fresh _ xs c.split_at.result.0.now
+              c.split_at.result.1.now split refl (2 ^ 26) c.requires.room,
         ),
       ),
     )
@@ -46,28 +43,11 @@ push_totalizer-requires-2 t c =
         (
           subst (All IsLiteralVariable) (sym c.split_at.ensures.back)
               (All-drop IsLiteralVariable (length xs / 2) xs c.requires.variables),
-          (
-            omega (
-              arith,
-              fresh_le c.args.most c.args.fresh c.split_at.result.0.now,
-              c.in_ok-left.ensures.fresh,
-            ),
-            right_room c.args.most c.args.fresh c.in_ok-left.left.fresh xs
-                c.split_at.result.0.now c.split_at.result.1.now split
-                c.in_ok-left.ensures.fresh (2 ^ 26) c.requires.room,
-          ),
+          right_room c.args.most c.args.fresh c.in_ok-left.left.fresh xs
+              c.split_at.result.0.now c.split_at.result.1.now split
+              c.in_ok-left.ensures.fresh (2 ^ 26) c.requires.room,
         ),
       ),
-    )
-
-pub new-sums-requires-clause-from_one : goal.new-sums-requires-clause-from_one
-new-sums-requires-clause-from_one t c =
-    omega (
-      arith,
-      fresh_le c.args.most c.args.fresh c.split_at.result.0.now,
-      c.in_ok-left.ensures.fresh,
-      fresh_le c.args.most c.in_ok-left.left.fresh c.split_at.result.1.now,
-      c.in_ok-right.ensures.fresh,
     )
 
 pub new-sums-requires-clause-small : goal.new-sums-requires-clause-small
@@ -106,7 +86,8 @@ returns t c =
     ≡ variables_from (totalizer c.args.most c.in_ok-left.left.fresh c.split_at.result.1.now).fresh
     c.min-count.result =
     ap variables_of c.new-sums.ensures
-    ∙ ap (λ v. variables_from v c.min-count.result) c.in_ok-right.ensures.fresh in
+    ∙ ap (λ v. variables_from v c.min-count.result)
+    (c.get.ensures.variable ∙ c.in_ok-right.ensures.fresh) in
     record {
       outputs = sums ∙ sym (ap (λ t. t.outputs) made);
       clauses =
@@ -118,6 +99,7 @@ returns t c =
           (variables_of c.in_ok-right.right.outputs) zs) sums)
           ∙ ap (λ cs. c.args.clauses.now ++ cs) (sym (ap (λ t. t.clauses) made));
       fresh =
-          ap (λ v. v + c.min-count.result) c.in_ok-right.ensures.fresh
+          c.after.ensures
+          ∙ ap (λ v. v + c.min-count.result) c.in_ok-right.ensures.fresh
           ∙ sym (ap (λ t. t.fresh) made);
     }

@@ -5,8 +5,8 @@ use Rattle.adder.proofs.columns.Adder.add_up.Goals.{in-len2+in_ok-add-in-len2}
 use Rattle.adder.proofs.columns.Adder.add_up.Goals.{in-len3-up+in_ok-add-in-len3-up}
 use Rattle.adder.proofs.columns.Adder.add_up.Goals as goal
 
-pub add-requires-clause-small : goal.add-requires-clause-small
-add-requires-clause-small c =
+pub add-requires : goal.add-requires
+add-requires c =
     let next =
     two_at _ _ c.loop-front.front _ _ c.a-item.result c.deref.ensures.value c.in-len2.len_at_least
     c.in-len2.len_below c.a-item.is c.b-item.is in
@@ -16,8 +16,8 @@ add-requires-clause-small c =
       c.loop-front.invariant.adding.fresh_is,
     )
 
-pub add-requires-in-len3-up-clause-small : goal.add-requires-in-len3-up-clause-small
-add-requires-in-len3-up-clause-small c =
+pub add-requires-in-len3-up : goal.add-requires-in-len3-up
+add-requires-in-len3-up c =
     let next =
     three_at _ _ c.loop-front.front _ _ _ c.a-item-in-loop-front.result c.deref.ensures.value
     c.in-len3-up.len_at_least c.a-item-in-loop-front.is c.b-item-in-loop-front.is
@@ -43,7 +43,6 @@ loop-front-preserved c = elim c.if-this-lt3.branch [
       rw w.self-is w.in_ok-add-in-len2.ensures.fresh in
       record {
         within = rw (taken, pushed) next.1;
-        from_one = omega arith;
         adding =
             adds_cell c.loop-front.invariant.adding next.0
             (rw w.self-is w.in_ok-add-in-len2.ensures.cells)
@@ -63,7 +62,6 @@ loop-front-preserved c = elim c.if-this-lt3.branch [
       rw w.self-is w.in_ok-add-in-len3-up.ensures.fresh in
       record {
         within = rw (taken, pushed) next.1;
-        from_one = omega arith;
         adding =
             adds_cell c.loop-front.invariant.adding next.0
             (rw w.self-is w.in_ok-add-in-len3-up.ensures.cells)

@@ -1,4 +1,4 @@
-use Rattle.std.proofs.Common.{◌<◌, ◌≤◌, ◌-◌, length, drop}
+use Rattle.std.proofs.Common.{◌≤◌, ◌-◌, length, drop}
 use Rattle.adder.specs.Parts.{column_from}
 use Rattle.adder.proofs.Queue.{IsAddingUp}
 use Rattle.adder.proofs.columns.Adder.add_up.Given as goal
@@ -6,7 +6,6 @@ use Rattle.adder.proofs.columns.Adder.add_up.Given as goal
 abbrev pub invariant-loop-front : goal.invariant-loop-front
 invariant-loop-front l = record {
   within : l.front ≤ length l.column.items;
-  from_one : 0 < l.self.fresh;
   adding : IsAddingUp l.initial.self.cells.items l.initial.self.carries.items
       (column_from l.initial.self.fresh l.initial.column.items) l.self.cells.items
       l.self.carries.items l.self.fresh (drop l.front l.column.items);

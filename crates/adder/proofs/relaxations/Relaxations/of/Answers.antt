@@ -24,11 +24,11 @@ all_numbered relaxing v i ss whole le e =
     at_drop_all (λ x. length (filter (λ e. e.is_fresh) (relaxed_from relaxing v x))) ss i le in
     omega (arith, none, e)
 
-pub overflow_add-fresh-in-None : goal.overflow_add-fresh-in-None
-overflow_add-fresh-in-None c =
+pub after-fresh-requires : goal.after-fresh-requires
+after-fresh-requires c =
     omega (
       arith,
-      c.vars-fresh.ensures.limits.soft_count,
+      c.vars.ensures.limits.soft_count,
       ap length c.soft-soft_clauses.ensures,
       c.loop-soft.invariant.small,
       c.loop-soft-test.true,

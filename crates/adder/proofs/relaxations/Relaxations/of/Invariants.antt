@@ -1,4 +1,4 @@
-use Rattle.std.proofs.Common.{◌≡◌, ◌+◌, ◌<◌, ◌≤◌, ◌^◌, ◌++◌, length, map, filter, drop}
+use Rattle.std.proofs.Common.{◌≡◌, ◌+◌, ◌≤◌, ◌^◌, ◌++◌, length, map, filter, drop}
 use Rattle.adder.specs.Network.{relaxing_of, relaxed_from, relaxed_as, relaxed_variables}
 use Rattle.adder.specs.Parts.{relaxation_of}
 use Rattle.adder.proofs.relaxations.Relaxations.of.Given as goal
@@ -8,7 +8,6 @@ abbrev pub invariant-loop-soft : goal.invariant-loop-soft
 invariant-loop-soft l =
     let left = relaxed_from (relaxing_of l.fn.profile) l.fresh (drop l.soft-index l.soft_clauses) in
     record {
-      from_one : 0 < l.fresh;
       small : l.fresh ≤ 2 ^ 22 + 1 + l.soft-index;
       each : l.each.items ++ map relaxation_of left ≡ map relaxation_of
           (relaxed_as l.fn.profile l.fn.instance);

@@ -12,10 +12,10 @@ loop-j-init c =
     rw (← c.self.view_is, ← c.other.view_is) c.digit_count-digits.ensures.digits in
     building_starts (λ j. literal_at x.bits j ++ literal_at y.bits j)
     (binary_length (x.most + y.most)) (omega (arith, digits)) c.in_ok-bits.ensures.items
-    c.clear.ensures.items c.requires.from_one
+    c.clear.ensures.items
 
-pub add_column-requires-clause-small : goal.add_column-requires-clause-small
-add_column-requires-clause-small c =
+pub add_column-requires : goal.add_column-requires
+add_column-requires c =
     let more : c.digit_count-digits.result - c.loop-j.j
     ≡ suc (c.digit_count-digits.result - (c.loop-j.j + 1)) = omega arith in
     rw c.in_ok-fill.ensures (column_room _ more c.loop-j.invariant c.requires.small)

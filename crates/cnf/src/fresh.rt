@@ -5,7 +5,7 @@ use std::marker::Model;
 
 /// The next new variable.
 #[derive(Clone, Copy, Drop)]
-pub(crate) struct Fresh {
+pub struct Fresh {
     // From 1.
     variable: u32,
 }
