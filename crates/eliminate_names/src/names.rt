@@ -12,7 +12,7 @@ ghost use Rattle.eliminate_names.specs.Work.{name_at, added_line, delete_line, f
 use crate::name_list::NameList;
 use clauses::store::{CRef, Store};
 use cnf::types::Lit;
-use lrat_log::lines::{Hint, Kind, Line, Name, Number};
+use lrat_log::lines::{Hint, Kind, Name, Number};
 use lrat_log::packed_name::PackedName;
 use lrat_log::sink::Sink;
 use std::alloc::{AllocError, Global};
@@ -121,21 +121,21 @@ pub fn add<S: Sink>(
     names: &mut Names,
     sink: &mut S,
     kind: Kind,
-    lits: Vec<Lit>,
-    hints: Vec<Hint>,
+    lits: &[Lit],
+    hints: &[Hint],
 ) -> Result<CRef, AllocError>
-    requires line { IsLine (record { kind = kind; clause = lits.items; hints = hints.items }) }
+    requires line { IsLine (record { kind = kind; clause = lits.now; hints = hints.now }) }
     requires counted { names.old.additions ≡ added_count (S.lines sink.old) }
     ensures reference { IfOk result (λ r. r ≡ length store.old.slots) }
-    ensures slots { IfOk result (λ _. store.new.slots ≡ store.old.slots ++ Some lits.items ∷ []) }
+    ensures slots { IfOk result (λ _. store.new.slots ≡ store.old.slots ++ Some lits.now ∷ []) }
     ensures names { IfOk result (λ _. names.new ≡ record {
       names = names.old.names ++ added_line names.old.additions ∷ [];
       additions = names.old.additions + 1;
     }) }
     ensures lines { IfOk result (λ _. S.lines sink.new ≡ S.lines sink.old ++ record {
       kind = kind;
-      clause = lits.items;
-      hints = hints.items;
+      clause = lits.now;
+      hints = hints.now;
     } ∷ []) }
     ensures err { OnErr result (S.lines sink.new ≡ S.lines sink.old) }
 {
@@ -143,8 +143,8 @@ pub fn add<S: Sink>(
     let name = Name::Added(Number::new(names.additions + 1));
     names.names.push(name)?;
     names.additions += 1;
-    let reference = store.add(&lits)?;
-    sink.append(Line::new(kind, lits, hints))?;
+    let reference = store.add(lits)?;
+    sink.append(kind, lits, hints)?;
     Ok(reference)
 }
 
@@ -153,7 +153,6 @@ pub fn delete<S: Sink>(
     store: &mut Store,
     names: &Names,
     sink: &mut S,
-    alloc: Global,
     reference: CRef,
 ) -> Result<(), AllocError>
     requires live { IsLive store.old.slots reference }
@@ -165,9 +164,8 @@ pub fn delete<S: Sink>(
         []) }
     ensures err { OnErr result (S.lines sink.new ≡ S.lines sink.old) }
 {
-    let mut hints = Vec::with_capacity(alloc, 1)?;
-    hints.push(Hint::Plain(names.get(reference)))?;
-    sink.append(Line::new(Kind::Delete, Vec::new(alloc), hints))?;
+    let hint = Hint::Plain(names.get(reference));
+    sink.append(Kind::Delete, &[], &[hint])?;
     store.delete(reference);
     Ok(())
 }

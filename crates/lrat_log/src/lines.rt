@@ -5,7 +5,6 @@
 ghost use Rattle.std.specs.Prelude.{◌≡◌, ℕ, ◌<◌, ◌≤◌, ◌^◌};
 ghost use Rattle.cnf.specs.declared.limits.TheConstants.{NUMBER_LIMIT};
 
-use cnf::types::Lit;
 use std::marker::Model;
 
 /// A number from 1, below 2^62.
@@ -103,65 +102,5 @@ impl Kind {
             | Kind::Weaker
             | Kind::Empty => false,
         }
-    }
-}
-
-/// A line of a log: the clause that it adds, with the hints by which it follows; or a deletion,
-/// whose hints name the clauses that it deletes, each a plain one, and which has no literals.
-#[derive(Drop)]
-pub struct Line {
-    // What the line does, and why it may.
-    kind: Kind,
-    // Of an addition: its clause.
-    lits: Vec<Lit>,
-    // Of an addition: by which it follows; of a deletion: the clauses that go.
-    hints: Vec<Hint>,
-}
-
-impl Model for Line {
-    ghost use Rattle.lrat_log.specs.Log.{LogLine, IsLine};
-
-    ghost Value = { LogLine };
-
-    ghost view = { λ l. record { kind = l.kind; clause = l.lits.items; hints = l.hints.items } };
-
-    ghost invariant = { λ l. IsLine (record {
-      kind = l.kind;
-      clause = l.lits.items;
-      hints = l.hints.items;
-    }) };
-}
-
-impl Line {
-    ghost use Rattle.lrat_log.specs.Log.{LogLine, IsLine};
-
-    /// The line with these literals and hints, in this order.
-    pub fn new(kind: Kind, lits: Vec<Lit>, hints: Vec<Hint>) -> Self
-        requires { IsLine (record { kind = kind; clause = lits.items; hints = hints.items }) }
-        ensures { result ≡ record { kind = kind; clause = lits.items; hints = hints.items } }
-    {
-        Line { kind, lits, hints }
-    }
-
-    /// What the line is for.
-    pub fn kind(&self) -> Kind
-        ensures kind { result ≡ self.now.kind }
-        ensures line { IsLine self.now }
-    {
-        self.kind
-    }
-
-    /// The literals of the clause, in the order in which they were given.
-    pub fn lits(&self) -> &[Lit]
-        ensures { result.now ≡ self.now.clause }
-    {
-        &self.lits
-    }
-
-    /// The hints, in the order in which they were given.
-    pub fn hints(&self) -> &[Hint]
-        ensures { result.now ≡ self.now.hints }
-    {
-        &self.hints
     }
 }

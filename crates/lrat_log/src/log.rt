@@ -19,7 +19,7 @@ ghost use Rattle.lrat_log.specs.Flat.{lits_before, hints_before};
 
 use crate::heads::{HeadList, LineHead};
 use crate::hints::{HintList, HintSlice};
-use crate::lines::{Hint, Kind, Line};
+use crate::lines::{Hint, Kind};
 use crate::sink::Sink;
 use crate::spelling::{put_addition, put_deletion};
 use cnf::types::Lit;
@@ -139,15 +139,13 @@ impl Log {
 impl Sink for Log {
     ghost lines = { λ l. l };
 
-    fn append(&mut self, line: Line) -> Result<(), AllocError> {
+    fn append(&mut self, kind: Kind, lits: &[Lit], hints: &[Hint]) -> Result<(), AllocError> {
         if self.heads.len() >= LINE_LIMIT - 1 {
             return Err(AllocError);
         }
-        let lits = line.lits();
-        let hints = line.hints();
         let count = self.hints.len();
         let head = LineHead {
-            kind: line.kind(),
+            kind,
             lits_end: (self.lits.len() + lits.len()) as u64,
             hints_end: count.saturating_add(hints.len()) as u64,
         };

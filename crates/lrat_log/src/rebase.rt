@@ -3,17 +3,18 @@
 // the last bound alone. Each clause of the others has a clause of the last as a subset: so it comes
 // as a line of its own, and the lines of the log name it by that.
 ghost use Rattle.std.specs.Prelude.{◌≡◌, ◌+◌, ◌<◌, ◌^◌, length, map, All, IfOk, OnOk};
+ghost use Rattle.std.specs.Prelude.{[], ◌∷◌, ◌++◌};
 ghost use Rattle.cnf.specs.declared.limits.TheConstants.{NUMBER_LIMIT};
 ghost use Rattle.cnf.specs.Lrat.{IsId};
 ghost use Rattle.lrat_log.specs.Log.{HasSmallIds, id_of, line_at};
 ghost use Rattle.lrat_log.specs.Rebase.{KeepsLog, moved_hint, moved_line, moved_name, rebased};
 ghost use Rattle.lrat_log.specs.Rebase.{weaker_line, weaker_list};
 
-use crate::lines::{Hint, Kind, Line, Name, Number};
+use crate::lines::{Hint, Kind, Name, Number};
 use crate::log::Log;
 use crate::sink::Sink;
 use cnf::types::Lit;
-use std::alloc::{AllocError, Global};
+use std::alloc::AllocError;
 
 /// The log of a solver that was given `fixed` clauses, then the weaker ones, then others, as a log
 /// over the fixed clauses and the others: a line for each weaker clause, whose one hint is the
@@ -38,57 +39,68 @@ pub fn rebase(log: &Log, fixed: u64, weaker: &[(Vec<Lit>, u64)]) -> Result<Log, 
     let count = weaker.len() as u64;
     let mut new = Log::new(alloc);
     for entry in weaker {
-        new.append(weaken(alloc, &entry.0, entry.1)?)?;
+        append_weaker(&mut new, &entry.0, entry.1)?;
     }
+    let mut hints = Vec::new(alloc);
     for line in 0..log.len() {
-        new.append(move_line(log, line, fixed, count)?)?;
+        append_moved(&mut new, &mut hints, log, line, fixed, count)?;
     }
     Ok(new)
 }
 
-/// Makes the line that adds the clause, which the formula's clause with this number is a subset of.
-fn weaken(alloc: Global, lits: &[Lit], number: u64) -> Result<Line, AllocError>
+/// Adds the line that adds the clause, which the formula's clause with this number is a subset of.
+fn append_weaker(new: &mut Log, lits: &[Lit], number: u64) -> Result<(), AllocError>
     requires literals { All (λ l. IsId l.variable) lits.now }
     requires number { IsId number }
-    ensures { IfOk result (λ line. line ≡ weaker_line (lits.now, number)) }
+    ensures { OnOk result (new.new ≡ new.old ++ weaker_line (lits.now, number) ∷ []) }
 {
-    let mut hints = Vec::with_capacity(alloc, 1)?;
-    hints.push(Hint::Plain(Name::Formula(Number::new(number))))?;
-    let lits = Vec::from_slice(alloc, lits)?;
-    Ok(Line::new(Kind::Weaker, lits, hints))
+    let hint = Hint::Plain(Name::Formula(Number::new(number)));
+    new.append(Kind::Weaker, lits, &[hint])
 }
 
-/// Copies the line in this place, with its names moved.
-fn move_line(log: &Log, line: usize, fixed: u64, count: u64) -> Result<Line, AllocError>
+/// Adds a copy of the line in this place, with its names moved.
+fn append_moved(
+    new: &mut Log,
+    hints: &mut Vec<Hint>,
+    log: &Log,
+    line: usize,
+    fixed: u64,
+    count: u64,
+) -> Result<(), AllocError>
     requires line { line < length log.now }
     requires room { fixed + count < NUMBER_LIMIT }
     requires ids { HasSmallIds count log.now }
-    ensures { IfOk result (λ new. new ≡ moved_line fixed count (line_at log.now line)) }
+    ensures { OnOk result
+        (new.new ≡ new.old ++ moved_line fixed count (line_at log.now line) ∷ []) }
 {
     prove!(line < log.len());
-    let lits = Vec::from_slice(log.allocator(), log.lits(line))?;
-    let hints = move_hints(log, line, fixed, count)?;
-    Ok(Line::new(log.kind(line), lits, hints))
+    move_hints(hints, log, line, fixed, count)?;
+    new.append(log.kind(line), log.lits(line), hints)
 }
 
-/// Copies the hints of the line in this place, with their names moved.
-fn move_hints(log: &Log, line: usize, fixed: u64, count: u64) -> Result<Vec<Hint>, AllocError>
+/// Fills `moved` with the hints of the line in this place, with their names moved.
+fn move_hints(
+    moved: &mut Vec<Hint>,
+    log: &Log,
+    line: usize,
+    fixed: u64,
+    count: u64,
+) -> Result<(), AllocError>
     requires line { line < length log.now }
     requires room { fixed + count < NUMBER_LIMIT }
     requires ids { HasSmallIds count log.now }
-    ensures { IfOk result (λ hints. hints.items
-        ≡ map (moved_hint fixed count) (line_at log.now line).hints) }
+    ensures { OnOk result
+        (moved.new.items ≡ map (moved_hint fixed count) (line_at log.now line).hints) }
 {
-    let len = log.hints_len(line);
-    let mut hints = Vec::with_capacity(log.allocator(), len)?;
-    for index in 0..len {
+    moved.clear();
+    for index in 0..log.hints_len(line) {
         let hint = match log.hint(line, index) {
             Hint::Plain(name) => Hint::Plain(move_name(name, fixed, count)),
             Hint::Group(name) => Hint::Group(move_name(name, fixed, count)),
         };
-        hints.push(hint)?;
+        moved.push(hint)?;
     }
-    Ok(hints)
+    Ok(())
 }
 
 /// The new name, where the `count` clauses after the first `fixed` ones come as lines before all

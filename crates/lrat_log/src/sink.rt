@@ -1,8 +1,9 @@
 // What takes the lines of a solver: a log in memory, or a writer that passes them on.
 ghost use Rattle.std.specs.Prelude.{◌≡◌, ℕ, ◌<◌, ◌^◌, List, [], ◌∷◌, ◌++◌, length, OnOk, OnErr};
-ghost use Rattle.lrat_log.specs.Log.{LogLine};
+ghost use Rattle.lrat_log.specs.Log.{LogLine, IsLine};
 
-use crate::lines::Line;
+use crate::lines::{Hint, Kind};
+use cnf::types::Lit;
 use std::alloc::AllocError;
 
 /// Takes lines, one after another. It has always fewer than 2^61 of them.
@@ -10,14 +11,21 @@ pub trait Sink: Drop {
     /// The lines that it has.
     ghost lines: { Self → List LogLine };
 
-    /// Takes the line, after those that it has.
+    /// Takes a line, after those that it has: the clause that it adds, with the hints by which it
+    /// follows; or a deletion, which has no literals, and whose hints name the clauses that it
+    /// deletes, each a plain one.
     ///
     /// # Errors
     ///
     /// `AllocError` where memory was refused, or the line would be the 2^61st. The lines stay as
     /// they were.
-    fn append(&mut self, line: Line) -> Result<(), AllocError>
-        ensures ok { OnOk result (lines self.new ≡ lines self.old ++ line ∷ []) }
+    fn append(&mut self, kind: Kind, lits: &[Lit], hints: &[Hint]) -> Result<(), AllocError>
+        requires line { IsLine (record { kind = kind; clause = lits.now; hints = hints.now }) }
+        ensures ok { OnOk result (lines self.new ≡ lines self.old ++ record {
+          kind = kind;
+          clause = lits.now;
+          hints = hints.now;
+        } ∷ []) }
         ensures err { OnErr result (lines self.new ≡ lines self.old) };
 
     /// Says that it has fewer than 2^61 lines; it does nothing. It is a call and no law of the

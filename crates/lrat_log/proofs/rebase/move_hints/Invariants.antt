@@ -6,4 +6,4 @@ use Rattle.lrat_log.proofs.rebase.move_hints.Given as goal
 
 abbrev pub invariant-loop-index : goal.invariant-loop-index
 invariant-loop-index l =
-    l.hints.items ≡ take l.index (map (moved_hint l.fixed l.count) (line_at l.log l.line).hints)
+    l.moved.items ≡ take l.index (map (moved_hint l.fixed l.count) (line_at l.log l.line).hints)

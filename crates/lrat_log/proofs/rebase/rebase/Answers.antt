@@ -11,7 +11,7 @@ pub loop-entry-preserved : goal.loop-entry-preserved
 loop-entry-preserved c =
     let t = weaker_more c.args.weaker.now c.loop-entry.entry-index c.entry-item.result (omega arith)
     c.entry-item.is in
-    cc (c.in_ok-append.ensures.ok, c.in_ok-weaken.ensures, c.loop-entry.invariant, t)
+    cc (c.in_ok-append_weaker.ensures, c.loop-entry.invariant, t)
 
 pub loop-line-preserved : goal.loop-line-preserved
 loop-line-preserved c =
@@ -26,7 +26,7 @@ loop-line-preserved c =
     (map (moved_line c.args.fixed (length c.args.weaker.now)) c.args.log.now))
     (moved_line c.args.fixed (length c.args.weaker.now)
     (line_at c.args.log.now c.loop-line.line) ∷ []) in
-    cc (c.in_ok-append-2.ensures.ok, c.in_ok-move_line.ensures, c.loop-line.invariant, a, t)
+    cc (c.in_ok-append_moved.ensures, c.loop-line.invariant, a, t)
 
 pub returns-clause-keeps : goal.returns-clause-keeps
 returns-clause-keeps c = keeps_log_law c.args.fixed (weaker_list c.args.weaker.now) c.args.log.now
