@@ -1,10 +1,11 @@
 -- Texts that go to a writer by way of a block, one after another.
-use Rattle.std.proofs.Common.{◌≡◌, ℕ, List, [], ◌∷◌, ◌++◌, Option, refl, sym}
+use Rattle.std.proofs.Common.{◌≡◌, ℕ, List, [], ◌∷◌, ◌++◌, Option, Result, Ok, Err}
+use Rattle.std.proofs.Common.{refl, sym}
 use Rattle.std.proofs.Common.{◌∙◌, ap, subst, append_assoc, append-nil}
 use Rattle.std.specs.Io.KnownBytes.{Appends}
 use Rattle.std.proofs.KnownBytes.{Appends-nil, Appends-trans}
 use Rattle.std.specs.List.{flat_map}
-use Rattle.text.specs.Writing.{spaced, AppendsPart, PassesOn}
+use Rattle.text.specs.Writing.{spaced, AppendsPart, PassesOn, Writes, Puts}
 
 pub passed-nil : (a : Option (List ℕ)) (held : List ℕ) → PassesOn a held [] a held
 passed-nil a held = record { written = []; appended = Appends-nil a; split = append-nil held }
@@ -47,6 +48,11 @@ part-after a b c w x p q = (
   Appends-trans a b c w q.0 p q.2,
 )
 
+pub puts_directly : {T E : Type 0} (r : Result T E) (a b c : Option (List ℕ)) (h x : List ℕ)
+    → Appends a b h → Writes r b x c → Puts r a h x c []
+puts_directly (Ok v) a b c h x p q = passed_directly a b c h x p q
+puts_directly (Err e) a b c h x p q = part-after a b c h x p q
+
 -- a fault while the block was written
 pub passed_part : (a b c : Option (List ℕ)) (h i x : List ℕ) → PassesOn a h x b i
     → AppendsPart b c i → AppendsPart a c (h ++ x)
@@ -60,6 +66,18 @@ passed_part-more a b c h i x y p q =
     let e : h ++ (x ++ y) ≡ p.written ++ (i ++ y) = sym (append_assoc h x y)
     ∙ ap (λ z. z ++ y) p.split ∙ append_assoc p.written i y in
     subst (AppendsPart a c) (sym e) (part-after a b c p.written (i ++ y) p.appended q)
+
+-- one text after another, where the last one may fail
+pub puts_after : {T E : Type 0} (r : Result T E) (a b c : Option (List ℕ)) (h i j x y : List ℕ)
+    → PassesOn a h x b i → Puts r b i y c j → Puts r a h (x ++ y) c j
+puts_after (Ok v) a b c h i j x y p q = passed-more a b c h i j x y p q
+puts_after (Err e) a b c h i j x y p q = passed_part-more a b c h i x y p q
+
+-- the block is written at the end
+pub writes_after : {T E : Type 0} (r : Result T E) (a b c : Option (List ℕ)) (h i x : List ℕ)
+    → PassesOn a h x b i → Writes r b i c → Writes r a (h ++ x) c
+writes_after (Ok v) a b c h i x p q = passed_whole a b c h i x p q
+writes_after (Err e) a b c h i x p q = passed_part a b c h i x p q
 
 -- a fault in the text after x, where the whole text goes on
 pub passed_fault : (a b c : Option (List ℕ)) (h i x y rest all : List ℕ) → PassesOn a h x b i

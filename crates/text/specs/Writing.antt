@@ -25,6 +25,19 @@ pub record PassesOn (old : Option (List ℕ)) (held : List ℕ) (text : List ℕ
   pub appended : Appends old new written
   pub split : held ++ text ≡ written ++ left
 
+-- what a writer has of a text: all where its writing went well, else a beginning
+abbrev pub Writes : {T E : Type 0} → Result T E → Option (List ℕ) → List ℕ → Option (List ℕ)
+    → Type 0
+Writes (Ok x) old text new = Appends old new text
+Writes (Err e) old text new = AppendsPart old new text
+
+-- the same by way of a block: where it went well the writer and the block have what was held and
+-- the text, else the writer has a beginning of them
+abbrev pub Puts : {T E : Type 0} → Result T E → Option (List ℕ) → List ℕ → List ℕ
+    → Option (List ℕ) → List ℕ → Type 0
+Puts (Ok x) old held text new left = PassesOn old held text new left
+Puts (Err e) old held text new left = AppendsPart old new (held ++ text)
+
 -- a write fails by an error, or where it takes none of some bytes
 abbrev pub write_fails : {E : Type 0} → Result ℕ E → List ℕ → Bool
 write_fails (Ok n) bytes = (n == 0) && nat_lt 0 (length bytes)

@@ -1,13 +1,12 @@
 // Texts on their way to a writer. A writer over a file makes a system call of each write, and a
 // text is made of tokens of a few bytes: so they are gathered in a block of fixed size, which asks
 // for no memory. No failed write is tried again.
-ghost use Rattle.std.specs.Prelude.{◌≡◌, ◌<◌, ◌≤◌, ◌+◌, ◌^◌, ◌∷◌, ◌++◌, [], length, take, OnOk};
+ghost use Rattle.std.specs.Prelude.{◌≡◌, ◌<◌, ◌≤◌, ◌+◌, ◌^◌, ◌∷◌, ◌++◌, [], length, take};
 ghost use Rattle.std.specs.Prelude.{OnErr};
 ghost use Rattle.std.specs.Fmt.{decimal};
-ghost use Rattle.std.specs.Io.KnownBytes.{Appends};
 ghost use Rattle.cnf.specs.declared.limits.TheConstants.{VARIABLE_LIMIT};
 ghost use Rattle.text.specs.Text.{literal_text};
-ghost use Rattle.text.specs.Writing.{AppendsPart, PassesOn};
+ghost use Rattle.text.specs.Writing.{Writes, Puts};
 
 use cnf::types::Lit;
 use itoa::{Buffer, write_digits};
@@ -61,10 +60,8 @@ impl Block {
     /// `WriteFault` where the writer failed. It has then a beginning of what the block held and the
     /// text, and the block is empty.
     pub fn put<W: Write>(&mut self, writer: &mut W, text: &[u8]) -> Result<(), WriteFault>
-        ensures ok { OnOk result
-            (PassesOn (W.contents writer.old) self.old text.now (W.contents writer.new) self.new) }
-        ensures fault { OnErr result
-            (AppendsPart (W.contents writer.old) (W.contents writer.new) (self.old ++ text.now)) }
+        ensures puts { Puts result (W.contents writer.old) self.old text.now
+            (W.contents writer.new) self.new }
         ensures lost { OnErr result (self.new ≡ []) }
     {
         if BLOCK_SIZE - self.filled < text.len() {
@@ -83,12 +80,8 @@ impl Block {
     ///
     /// As `put`.
     pub fn put_number<W: Write>(&mut self, writer: &mut W, number: u64) -> Result<(), WriteFault>
-        ensures ok { OnOk result
-            (PassesOn (W.contents writer.old) self.old (decimal number) (W.contents writer.new)
-            self.new) }
-        ensures fault { OnErr result
-            (AppendsPart (W.contents writer.old) (W.contents writer.new)
-            (self.old ++ decimal number)) }
+        ensures puts { Puts result (W.contents writer.old) self.old (decimal number)
+            (W.contents writer.new) self.new }
         ensures lost { OnErr result (self.new ≡ []) }
     {
         self.put(writer, Buffer::new().format(number).as_bytes())
@@ -100,12 +93,8 @@ impl Block {
     ///
     /// As `put`.
     pub fn put_spaced<W: Write>(&mut self, writer: &mut W, lit: Lit) -> Result<(), WriteFault>
-        ensures ok { OnOk result
-            (PassesOn (W.contents writer.old) self.old (literal_text lit ++ 32 ∷ [])
-            (W.contents writer.new) self.new) }
-        ensures fault { OnErr result
-            (AppendsPart (W.contents writer.old) (W.contents writer.new)
-            (self.old ++ (literal_text lit ++ 32 ∷ []))) }
+        ensures puts { Puts result (W.contents writer.old) self.old (literal_text lit ++ 32 ∷ [])
+            (W.contents writer.new) self.new }
         ensures lost { OnErr result (self.new ≡ []) }
     {
         if BLOCK_SIZE - self.filled < LITERAL_ROOM {
@@ -122,10 +111,7 @@ impl Block {
     /// `WriteFault` where the writer failed. It has then a beginning of what the block held, and
     /// the block is empty.
     pub fn flush<W: Write>(&mut self, writer: &mut W) -> Result<(), WriteFault>
-        ensures ok { OnOk result
-            (Appends (W.contents writer.old) (W.contents writer.new) self.old) }
-        ensures fault { OnErr result
-            (AppendsPart (W.contents writer.old) (W.contents writer.new) self.old) }
+        ensures writes { Writes result (W.contents writer.old) self.old (W.contents writer.new) }
         ensures empty { self.new ≡ [] }
     {
         let held = self.filled;
@@ -199,9 +185,7 @@ fn reaches(number: u32, bound: u32) -> usize
 /// `WriteFault` where the writer answered `Err`, or took none of the bytes that were left. It has
 /// then a beginning of the piece.
 pub fn write_piece<W: Write>(writer: &mut W, piece: &[u8]) -> Result<(), WriteFault>
-    ensures ok { OnOk result (Appends (W.contents writer.old) (W.contents writer.new) piece.now) }
-    ensures fault { OnErr result
-        (AppendsPart (W.contents writer.old) (W.contents writer.new) piece.now) }
+    ensures { Writes result (W.contents writer.old) piece.now (W.contents writer.new) }
 {
     let mut rest = piece;
     while !rest.is_empty() {
