@@ -15,7 +15,7 @@ use Rattle.lrat_log.specs.declared.lines.Kind.TheVariants.{Definition}
 use Rattle.lrat_log.specs.Log.{LogLine, Given}
 use Rattle.lrat_log.specs.Steps.{StaysLogOver, AddsNoEmptyClause, learned_count, added_count}
 use Rattle.eliminate_names.specs.Work.{IsWork, NamesState}
-use Rattle.eliminate_pairs.specs.declared.pair_table.TheConstants.{FEWEST, SHORTEST}
+use Rattle.eliminate_pairs.specs.declared.frequencies.TheConstants.{FEWEST, SHORTEST}
 use Rattle.eliminate_pairs.specs.declared.pairs.Fresh.{Fresh}
 
 -- not z, or a or b

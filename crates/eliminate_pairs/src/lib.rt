@@ -1,5 +1,9 @@
 //! Fresh variables for pairs of literals that stand together in many clauses.
 #![tactic(auto)]
 
+mod frequencies;
+mod meeting_rows;
 mod pair_table;
 pub mod pairs;
+mod runs;
+mod sketch;

@@ -22,7 +22,8 @@ ghost use Rattle.eliminate_pairs.specs.Pairs.{side_clause, side_line, replaced, 
 ghost use Rattle.eliminate_pairs.specs.Pairs.{IsOnOther, StandAt, StandOften, HasPairOf, IsDefined};
 ghost use Rattle.eliminate_pairs.specs.Pairs.{stage_of, FitNames, Moves, Passes};
 
-use crate::pair_table::{Candidate, FEWEST, PairTable, SHORTEST, first_looked_at};
+use crate::frequencies::{FEWEST, SHORTEST, first_looked_at};
+use crate::pair_table::{Candidate, PairTable};
 use clauses::store::{CRef, Store};
 use cnf::types::Lit;
 use eliminate_names::names::{Names, add, delete, move_together};
