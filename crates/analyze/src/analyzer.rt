@@ -12,7 +12,7 @@ ghost use Rattle.analyze.specs.Analyzer.{CanLearn, Learns, IsFalsified, IsFinal}
 use crate::collect::{collect, greatest};
 use crate::final_clause::learn_final;
 use crate::marks::{Mark, clear, mark_clause, resolve};
-use crate::minimise::{Idea, NOWHERE, Step, meet_reasons, minimise};
+use crate::minimise::Minimiser;
 use crate::ordering::put_in_order;
 use crate::positions::Positions;
 use clauses::store::{CRef, Store};
@@ -63,17 +63,12 @@ pub struct Analyzer {
     met: Vec<u32>,
     // These positions once more; nothing is taken in between calls.
     marked: Positions,
-    // By variable: what the minimisation at work knows of it, and all unknown between calls.
-    ideas: Vec<Idea>,
-    // The variables that a minimisation begins with; between calls, those beside what was learned.
-    // It has room for all variables.
-    queue: Vec<u32>,
-    // By level: the first position of a literal of it in the clause, and nowhere between calls.
-    firsts: Vec<u32>,
-    // The way of a minimisation back over the reasons. It has room for all variables.
-    path: Vec<Step>,
-    // The variables of which a minimisation knows whether they are redundant. It has room for all.
-    settled: Vec<u32>,
+    // What drops redundant literals.
+    minimiser: Minimiser,
+    // Between calls, the variables beside what was learned. While an analysis is at work, it lists
+    // the variables that a minimisation begins with, and then positions of the trail in order. It
+    // has room for all variables.
+    beside: Vec<u32>,
 }
 
 impl Model for Analyzer {
@@ -100,20 +95,14 @@ impl Analyzer {
         let marks = Vec::from_elem(alloc, Mark::Clear, count)?;
         let met = Vec::with_capacity(alloc, count)?;
         let marked = Positions::new(alloc, variables)?;
-        let ideas = Vec::from_elem(alloc, Idea::Unknown, count)?;
-        let queue = Vec::with_capacity(alloc, count)?;
-        let firsts = Vec::from_elem(alloc, NOWHERE, count)?;
-        let path = Vec::with_capacity(alloc, count)?;
-        let settled = Vec::with_capacity(alloc, count)?;
+        let minimiser = Minimiser::new(alloc, count)?;
+        let beside = Vec::with_capacity(alloc, count)?;
         Ok(Analyzer {
             marks,
             met,
             marked,
-            ideas,
-            queue,
-            firsts,
-            path,
-            settled,
+            minimiser,
+            beside,
         })
     }
 
@@ -145,20 +134,15 @@ impl Analyzer {
         ensures unchanged { self.new ≡ self.old }
     {
         self.met.clear();
-        let alloc = store.allocator();
         let learned = learn(
-            alloc,
             engine,
             store,
             conflict,
             &mut self.marks,
             &mut self.met,
             &mut self.marked,
-            &mut self.ideas,
-            &mut self.queue,
-            &mut self.firsts,
-            &mut self.path,
-            &mut self.settled,
+            &mut self.minimiser,
+            &mut self.beside,
         );
         clear(engine, &mut self.marks, &mut self.met);
         learned
@@ -196,10 +180,10 @@ impl Analyzer {
             &mut self.marks,
             &mut self.met,
             &mut self.marked,
-            &mut self.queue,
+            &mut self.beside,
         );
         clear(engine, &mut self.marks, &mut self.met);
-        self.queue.clear();
+        self.beside.clear();
         learned
     }
 
@@ -213,7 +197,7 @@ impl Analyzer {
     /// The variables of the reasons of what was learned last that its analysis did not meet, each
     /// once.
     pub fn beside(&self) -> &[u32] {
-        &self.queue
+        &self.beside
     }
 }
 
@@ -232,18 +216,14 @@ pub fn analyze(engine: &Engine, store: &Store, conflict: CRef) -> Result<Learned
 
 /// Learns a clause, with a clear mark for each variable, and lists what it marks.
 fn learn(
-    alloc: Global,
     engine: &Engine,
     store: &Store,
     conflict: CRef,
     marks: &mut [Mark],
     met: &mut Vec<u32>,
     marked: &mut Positions,
-    ideas: &mut [Idea],
-    queue: &mut Vec<u32>,
-    firsts: &mut [u32],
-    path: &mut Vec<Step>,
-    settled: &mut Vec<u32>,
+    minimiser: &mut Minimiser,
+    list: &mut Vec<u32>,
 ) -> Result<Learned, AllocError>
     requires can { CanLearn engine.now store.now.slots conflict }
     requires room { engine.now.variables < length marks.old }
@@ -257,10 +237,9 @@ fn learn(
 {
     let count = mark_clause(engine, store.lits(conflict), marks, met, marked);
     let asserting = resolve(engine, store, count, marks, met, marked);
-    minimise(
-        engine, store, asserting, marks, met, marked, ideas, queue, firsts, path, settled,
-    );
-    put_in_order(engine, marks, met, marked, queue);
+    minimiser.minimise(engine, store, asserting, marks, met, marked, list);
+    put_in_order(engine, marks, met, marked, list);
+    let alloc = store.allocator();
     let mut lits = SmallVec::new(alloc);
     // Room for all at once, so that they do not grow step by step.
     let mut hints = Vec::with_capacity(alloc, met.len() + 1)?;
@@ -268,7 +247,7 @@ fn learn(
         engine, asserting, conflict, marks, met, &mut lits, &mut hints,
     )?;
     let back_level = greatest(engine, &lits.as_slice()[1..]);
-    meet_reasons(engine, store, lits.as_slice(), marks, ideas, queue);
+    minimiser.meet_reasons(engine, store, lits.as_slice(), marks, list);
     Ok(Learned {
         lits,
         back_level,

@@ -19,6 +19,7 @@ use crate::positions::{Positions, put};
 use clauses::store::Store;
 use cnf::types::Lit;
 use propagate::engine::Engine;
+use std::alloc::{AllocError, Global};
 
 /// What a search for redundant literals knows of a variable.
 #[derive(Clone, Copy, Debug, PartialEq, Eq, Drop)]
@@ -31,7 +32,7 @@ pub enum Idea {
     Redundant,
 }
 
-/// A variable on the way back over the reasons.
+/// A variable on the path over the reasons.
 #[derive(Clone, Copy, Debug, PartialEq, Eq, Drop)]
 pub struct Step {
     // The variable.
@@ -40,7 +41,7 @@ pub struct Step {
     next: usize,
 }
 
-/// Where a way back over the reasons goes from a variable.
+/// Where a path over the reasons goes from a variable.
 #[derive(Clone, Copy, Debug, PartialEq, Eq, Drop)]
 pub enum Way {
     /// On to this variable of its reason, which stands before this place.
@@ -52,14 +53,22 @@ pub enum Way {
 }
 
 /// No literal of the level stands in the clause.
-pub(crate) const NOWHERE: u32 = u32::MAX;
+const NOWHERE: u32 = u32::MAX;
 
-/// What is known of a variable.
-fn idea_of(ideas: &[Idea], variable: u32) -> Idea {
-    match ideas.get(variable as usize) {
-        Some(idea) => *idea,
-        None => Idea::Unknown,
-    }
+/// What a minimisation knows, with memory that it keeps between calls.
+#[derive(Drop)]
+pub(crate) struct Minimiser {
+    // By variable, from 0, which no literal has: what is known of it; all unknown between calls.
+    ideas: Vec<Idea>,
+    // By level, from 0: the least position on the trail of a literal of it in the clause, and
+    // `NOWHERE` where the clause has none; nowhere for all between calls.
+    firsts: Vec<u32>,
+    // The path over the reasons, from a variable of the clause on: none is on it twice, and each
+    // but the first stands in the reason of the one before. It has room for all variables.
+    path: Vec<Step>,
+    // The variables that are known to be redundant or not, each once, a redundant one after those
+    // of its reason; none between calls. It has room for all variables.
+    settled: Vec<u32>,
 }
 
 /// Notes what is known of a variable.
@@ -92,260 +101,271 @@ fn level_of(engine: &Engine, variable: u32) -> u32
     engine.level(variable).unwrap_or(0)
 }
 
-/// Lists what is kept, but for the asserting literal, and for each level where the first literal of
-/// it stands.
-fn start(
-    engine: &Engine,
-    asserting: Lit,
-    marks: &[Mark],
-    met: &[u32],
-    kept: &mut Vec<u32>,
-    firsts: &mut [u32],
-)
-    requires { engine.now.variables < length marks.now }
-{
-    kept.clear();
-    for position in met {
-        let variable = variable_of(engine, *position);
-        if marks[variable as usize] == Mark::Kept && variable != asserting.variable() {
-            put(kept, variable);
-            if let Some(first) = firsts.get_mut(level_of(engine, variable) as usize) {
-                *first = (*first).min(*position);
+impl Minimiser {
+    /// For engines that have fewer variables than this.
+    ///
+    /// # Errors
+    ///
+    /// `AllocError` where memory was refused.
+    pub(crate) fn new(alloc: Global, count: usize) -> Result<Self, AllocError> {
+        let ideas = Vec::from_elem(alloc, Idea::Unknown, count)?;
+        let firsts = Vec::from_elem(alloc, NOWHERE, count)?;
+        let path = Vec::with_capacity(alloc, count)?;
+        let settled = Vec::with_capacity(alloc, count)?;
+        Ok(Minimiser {
+            ideas,
+            firsts,
+            path,
+            settled,
+        })
+    }
+
+    /// Drops the redundant literals. `kept` takes the variables that stood in the clause.
+    pub(crate) fn minimise(
+        &mut self,
+        engine: &Engine,
+        store: &Store,
+        asserting: Lit,
+        marks: &mut [Mark],
+        met: &mut Vec<u32>,
+        marked: &mut Positions,
+        kept: &mut Vec<u32>,
+    )
+        requires fits { Fits engine.now store.now.slots }
+        requires reduced { IsReduced engine.now.trail marks.old asserting }
+        requires marking { IsMarking engine.now marks.old met.old }
+        ensures reduces { Reduces store.now.slots engine.now.trail marks.old marks.new asserting }
+        ensures marking { IsMarking engine.now marks.new met.new }
+    {
+        self.start(engine, asserting, marks, met, kept);
+        for variable in kept.iter() {
+            self.find_redundant(engine, store, *variable, marks);
+        }
+        self.forget_firsts(engine, kept);
+        self.drop_redundant(engine, store, asserting, marks, met, marked);
+    }
+
+    /// Lists the variables of the reasons of these literals, each once, but for such as were met
+    /// and such of level 0.
+    pub(crate) fn meet_reasons(
+        &mut self,
+        engine: &Engine,
+        store: &Store,
+        lits: &[Lit],
+        marks: &[Mark],
+        beside: &mut Vec<u32>,
+    )
+        requires { FitsMarks engine.now store.now.slots marks.now }
+    {
+        beside.clear();
+        for lit in lits {
+            let variable = lit.variable().min(engine.variables());
+            if let Some(reason) = engine.reason(variable) {
+                let lits = store.lits(reason);
+                self.take_in(engine, lits, marks, beside);
             }
         }
-    }
-}
-
-/// Takes away what was noted of the levels of these variables.
-fn forget_firsts(engine: &Engine, variables: &[u32], firsts: &mut [u32]) {
-    for variable in variables {
-        let level = level_of(engine, (*variable).min(engine.variables()));
-        if let Some(first) = firsts.get_mut(level as usize) {
-            *first = NOWHERE;
+        for variable in beside.iter() {
+            note(&mut self.ideas, *variable, Idea::Unknown);
         }
     }
-}
 
-/// Whether a variable of this level above 0 may be redundant.
-fn may_follow(engine: &Engine, variable: u32, level: u32, firsts: &[u32]) -> bool
-    requires { variable ≤ engine.now.variables }
-{
-    match (firsts.get(level as usize), engine.position(variable)) {
-        (Some(first), Some(position)) => *first < position && engine.reason(variable).is_some(),
-        _ => false,
-    }
-}
-
-/// What is known of a variable that is not marked, or can be told at once.
-fn idea_now(engine: &Engine, variable: u32, ideas: &[Idea], firsts: &[u32]) -> Idea
-    requires { variable ≤ engine.now.variables }
-{
-    let known = idea_of(ideas, variable);
-    if known != Idea::Unknown {
-        return known;
-    }
-    let level = level_of(engine, variable);
-    if level == 0 {
-        return Idea::Redundant;
-    }
-    if may_follow(engine, variable, level, firsts) {
-        Idea::Unknown
-    } else {
-        Idea::Needed
-    }
-}
-
-/// Looks at the literals of a variable's reason, from the next one on.
-fn look(
-    engine: &Engine,
-    lits: &[Lit],
-    step: Step,
-    marks: &[Mark],
-    ideas: &[Idea],
-    firsts: &[u32],
-) -> Way
-    requires { HasMarks engine.now marks.now lits.now }
-{
-    for at in step.next..lits.len() {
-        let other = lits[at].variable();
-        if marks[other as usize] == Mark::Clear && other != step.variable {
-            match idea_now(engine, other, ideas, firsts) {
-                Idea::Unknown => return Way::Into(other, at + 1),
-                Idea::Needed => return Way::Needed,
-                Idea::Redundant => {}
-            }
+    /// What is known of a variable.
+    fn idea_of(&self, variable: u32) -> Idea {
+        match self.ideas.get(variable as usize) {
+            Some(idea) => *idea,
+            None => Idea::Unknown,
         }
     }
-    Way::Redundant
-}
 
-/// Where the way goes on from a variable.
-fn go_on(
-    engine: &Engine,
-    store: &Store,
-    step: Step,
-    marks: &[Mark],
-    ideas: &[Idea],
-    firsts: &[u32],
-) -> Way
-    requires { FitsMarks engine.now store.now.slots marks.now }
-{
-    let variable = step.variable.min(engine.variables());
-    match engine.reason(variable) {
-        Some(reason) => look(engine, store.lits(reason), step, marks, ideas, firsts),
-        None => Way::Needed,
-    }
-}
-
-/// Finds out whether a variable is redundant, and what it takes to know it.
-fn find_redundant(
-    engine: &Engine,
-    store: &Store,
-    variable: u32,
-    marks: &[Mark],
-    ideas: &mut [Idea],
-    firsts: &[u32],
-    path: &mut Vec<Step>,
-    settled: &mut Vec<u32>,
-)
-    requires { FitsMarks engine.now store.now.slots marks.now }
-{
-    path.clear();
-    let mut step = Step { variable, next: 0 };
-    // Each variable comes to the path once, and leaves it once.
-    for _ in 0..engine.assigned().saturating_mul(2) {
-        match go_on(engine, store, step, marks, ideas, firsts) {
-            Way::Into(other, next) => {
-                if path.len() < path.capacity() {
-                    path.push_reserved(Step {
-                        variable: step.variable,
-                        next,
-                    });
-                }
-                step = Step {
-                    variable: other,
-                    next: 0,
-                };
-            }
-            Way::Redundant => {
-                settle(ideas, settled, step.variable, Idea::Redundant);
-                match path.pop() {
-                    Some(last) => step = last,
-                    None => return,
+    /// Lists what is kept, but for the asserting literal, and notes for each level where the first
+    /// literal of it stands.
+    fn start(
+        &mut self,
+        engine: &Engine,
+        asserting: Lit,
+        marks: &[Mark],
+        met: &[u32],
+        kept: &mut Vec<u32>,
+    )
+        requires { engine.now.variables < length marks.now }
+    {
+        kept.clear();
+        for position in met {
+            let variable = variable_of(engine, *position);
+            if marks[variable as usize] == Mark::Kept && variable != asserting.variable() {
+                put(kept, variable);
+                if let Some(first) = self.firsts.get_mut(level_of(engine, variable) as usize) {
+                    *first = (*first).min(*position);
                 }
             }
-            Way::Needed => {
-                settle(ideas, settled, step.variable, Idea::Needed);
-                for before in path.iter() {
-                    settle(ideas, settled, before.variable, Idea::Needed);
-                }
-                return;
+        }
+    }
+
+    /// Takes away what was noted of the levels of these variables.
+    fn forget_firsts(&mut self, engine: &Engine, variables: &[u32]) {
+        for variable in variables {
+            let level = level_of(engine, (*variable).min(engine.variables()));
+            if let Some(first) = self.firsts.get_mut(level as usize) {
+                *first = NOWHERE;
             }
         }
     }
-}
 
-/// Resolves what is kept of the redundant variables, the last first, and forgets what was known of
-/// all.
-fn drop_redundant(
-    engine: &Engine,
-    store: &Store,
-    asserting: Lit,
-    ideas: &mut [Idea],
-    settled: &[u32],
-    marks: &mut [Mark],
-    met: &mut Vec<u32>,
-    marked: &mut Positions,
-)
-    requires fits { Fits engine.now store.now.slots }
-    requires reduced { IsReduced engine.now.trail marks.old asserting }
-    requires marking { IsMarking engine.now marks.old met.old }
-    ensures reduces { Reduces store.now.slots engine.now.trail marks.old marks.new asserting }
-    ensures marking { IsMarking engine.now marks.new met.new }
-{
-    let mut place = settled.len();
-    while place > 0 {
-        place -= 1;
-        let variable = settled[place].min(engine.variables());
-        let idea = idea_of(ideas, variable);
-        note(ideas, variable, Idea::Unknown);
-        if idea == Idea::Redundant
-            && marks[variable as usize] == Mark::Kept
-            && variable != asserting.variable()
-            && let Some(reason) = engine.reason(variable)
-        {
-            let _ = resolve_one(engine, store, variable, reason, marks, met, marked);
+    /// Whether a variable of this level above 0 may be redundant.
+    fn may_follow(&self, engine: &Engine, variable: u32, level: u32) -> bool
+        requires { variable ≤ engine.now.variables }
+    {
+        match (self.firsts.get(level as usize), engine.position(variable)) {
+            (Some(first), Some(position)) => *first < position && engine.reason(variable).is_some(),
+            _ => false,
         }
     }
-}
 
-/// Takes in what was not met of a clause and stands above level 0.
-fn take_in(engine: &Engine, lits: &[Lit], marks: &[Mark], ideas: &mut [Idea], queue: &mut Vec<u32>)
-    requires { HasMarks engine.now marks.now lits.now }
-{
-    for lit in lits {
-        let variable = lit.variable();
-        if marks[variable as usize] == Mark::Clear
-            && idea_of(ideas, variable) == Idea::Unknown
-            && level_of(engine, variable) > 0
-        {
-            settle(ideas, queue, variable, Idea::Needed);
+    /// What is known of a variable that is not marked, or can be told at once.
+    fn idea_now(&self, engine: &Engine, variable: u32) -> Idea
+        requires { variable ≤ engine.now.variables }
+    {
+        let known = self.idea_of(variable);
+        if known != Idea::Unknown {
+            return known;
+        }
+        let level = level_of(engine, variable);
+        if level == 0 {
+            return Idea::Redundant;
+        }
+        if self.may_follow(engine, variable, level) {
+            Idea::Unknown
+        } else {
+            Idea::Needed
         }
     }
-}
 
-/// Lists the variables of the reasons of these literals, each once, but for such as were met and
-/// such of level 0.
-pub(crate) fn meet_reasons(
-    engine: &Engine,
-    store: &Store,
-    lits: &[Lit],
-    marks: &[Mark],
-    ideas: &mut [Idea],
-    queue: &mut Vec<u32>,
-)
-    requires { FitsMarks engine.now store.now.slots marks.now }
-{
-    queue.clear();
-    for lit in lits {
-        let variable = lit.variable().min(engine.variables());
-        if let Some(reason) = engine.reason(variable) {
-            let lits = store.lits(reason);
-            take_in(engine, lits, marks, ideas, queue);
+    /// Looks at the literals of a variable's reason, from the next one on.
+    fn look(&self, engine: &Engine, lits: &[Lit], step: Step, marks: &[Mark]) -> Way
+        requires { HasMarks engine.now marks.now lits.now }
+    {
+        for at in step.next..lits.len() {
+            let other = lits[at].variable();
+            if marks[other as usize] == Mark::Clear && other != step.variable {
+                match self.idea_now(engine, other) {
+                    Idea::Unknown => return Way::Into(other, at + 1),
+                    Idea::Needed => return Way::Needed,
+                    Idea::Redundant => {}
+                }
+            }
+        }
+        Way::Redundant
+    }
+
+    /// Where the path goes on from a variable.
+    fn go_on(&self, engine: &Engine, store: &Store, step: Step, marks: &[Mark]) -> Way
+        requires { FitsMarks engine.now store.now.slots marks.now }
+    {
+        let variable = step.variable.min(engine.variables());
+        match engine.reason(variable) {
+            Some(reason) => self.look(engine, store.lits(reason), step, marks),
+            None => Way::Needed,
         }
     }
-    for variable in queue.iter() {
-        note(ideas, *variable, Idea::Unknown);
-    }
-}
 
-/// Drops the redundant literals.
-pub(crate) fn minimise(
-    engine: &Engine,
-    store: &Store,
-    asserting: Lit,
-    marks: &mut [Mark],
-    met: &mut Vec<u32>,
-    marked: &mut Positions,
-    ideas: &mut [Idea],
-    queue: &mut Vec<u32>,
-    firsts: &mut [u32],
-    path: &mut Vec<Step>,
-    settled: &mut Vec<u32>,
-)
-    requires fits { Fits engine.now store.now.slots }
-    requires reduced { IsReduced engine.now.trail marks.old asserting }
-    requires marking { IsMarking engine.now marks.old met.old }
-    ensures reduces { Reduces store.now.slots engine.now.trail marks.old marks.new asserting }
-    ensures marking { IsMarking engine.now marks.new met.new }
-{
-    start(engine, asserting, marks, met, queue, firsts);
-    settled.clear();
-    for variable in queue.iter() {
-        find_redundant(
-            engine, store, *variable, marks, ideas, firsts, path, settled,
-        );
+    /// Finds out whether a variable is redundant, and what it takes to know it.
+    fn find_redundant(&mut self, engine: &Engine, store: &Store, variable: u32, marks: &[Mark])
+        requires { FitsMarks engine.now store.now.slots marks.now }
+    {
+        self.path.clear();
+        let mut step = Step { variable, next: 0 };
+        // Each variable comes to the path once, and leaves it once.
+        for _ in 0..engine.assigned().saturating_mul(2) {
+            match self.go_on(engine, store, step, marks) {
+                Way::Into(other, next) => {
+                    if self.path.len() < self.path.capacity() {
+                        self.path.push_reserved(Step {
+                            variable: step.variable,
+                            next,
+                        });
+                    }
+                    step = Step {
+                        variable: other,
+                        next: 0,
+                    };
+                }
+                Way::Redundant => {
+                    settle(
+                        &mut self.ideas,
+                        &mut self.settled,
+                        step.variable,
+                        Idea::Redundant,
+                    );
+                    match self.path.pop() {
+                        Some(last) => step = last,
+                        None => return,
+                    }
+                }
+                Way::Needed => {
+                    settle(
+                        &mut self.ideas,
+                        &mut self.settled,
+                        step.variable,
+                        Idea::Needed,
+                    );
+                    for before in self.path.iter() {
+                        settle(
+                            &mut self.ideas,
+                            &mut self.settled,
+                            before.variable,
+                            Idea::Needed,
+                        );
+                    }
+                    return;
+                }
+            }
+        }
     }
-    forget_firsts(engine, queue, firsts);
-    drop_redundant(engine, store, asserting, ideas, settled, marks, met, marked);
+
+    /// Resolves what is kept of the redundant variables, the last first, and forgets what was known
+    /// of all.
+    fn drop_redundant(
+        &mut self,
+        engine: &Engine,
+        store: &Store,
+        asserting: Lit,
+        marks: &mut [Mark],
+        met: &mut Vec<u32>,
+        marked: &mut Positions,
+    )
+        requires fits { Fits engine.now store.now.slots }
+        requires reduced { IsReduced engine.now.trail marks.old asserting }
+        requires marking { IsMarking engine.now marks.old met.old }
+        ensures reduces { Reduces store.now.slots engine.now.trail marks.old marks.new asserting }
+        ensures marking { IsMarking engine.now marks.new met.new }
+    {
+        while let Some(settled) = self.settled.pop() {
+            let variable = settled.min(engine.variables());
+            let idea = self.idea_of(variable);
+            note(&mut self.ideas, variable, Idea::Unknown);
+            if idea == Idea::Redundant
+                && marks[variable as usize] == Mark::Kept
+                && variable != asserting.variable()
+                && let Some(reason) = engine.reason(variable)
+            {
+                let _ = resolve_one(engine, store, variable, reason, marks, met, marked);
+            }
+        }
+    }
+
+    /// Takes in what was not met of a clause and stands above level 0.
+    fn take_in(&mut self, engine: &Engine, lits: &[Lit], marks: &[Mark], beside: &mut Vec<u32>)
+        requires { HasMarks engine.now marks.now lits.now }
+    {
+        for lit in lits {
+            let variable = lit.variable();
+            if marks[variable as usize] == Mark::Clear
+                && self.idea_of(variable) == Idea::Unknown
+                && level_of(engine, variable) > 0
+            {
+                settle(&mut self.ideas, beside, variable, Idea::Needed);
+            }
+        }
+    }
 }

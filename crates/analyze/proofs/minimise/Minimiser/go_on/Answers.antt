@@ -1,6 +1,6 @@
 use Rattle.std.proofs.Common.{sym, ◌∙◌}
 use Rattle.analyze.proofs.Fitting.{reason_live, reason_marked}
-use Rattle.analyze.proofs.minimise.go_on.Goals as goal
+use Rattle.analyze.proofs.minimise.Minimiser.go_on.Goals as goal
 
 pub lits-requires : goal.lits-requires
 lits-requires c =

@@ -1,6 +1,6 @@
 use Rattle.std.proofs.Common.{sym, ◌∙◌}
 use Rattle.analyze.proofs.Fitting.{reason_live, reason_marked}
-use Rattle.analyze.proofs.minimise.meet_reasons.Goals as goal
+use Rattle.analyze.proofs.minimise.Minimiser.meet_reasons.Goals as goal
 
 pub lits-lits-requires : goal.lits-lits-requires
 lits-lits-requires c =
