@@ -245,11 +245,10 @@ fn define<S: Sink>(
         (stage_of (vars + 1) store.new.slots names.new (S.lines sink.new)) }
 {
     sink.is_short();
-    let alloc = store.allocator();
     let variable = vars + 1;
     let fresh = Lit::new(variable, false);
-    let lits = Vec::from_slice(alloc, &[fresh.negation(), left, right])?;
-    let whole = add(store, names, sink, Kind::Definition, lits, Vec::new(alloc))?;
+    let lits = [fresh.negation(), left, right];
+    let whole = add(store, names, sink, Kind::Definition, &lits, &[])?;
     let left_side = add_side(store, names, sink, variable, left, whole)?;
     let right_side = add_side(store, names, sink, variable, right, whole)?;
     Ok(Fresh {
@@ -287,10 +286,9 @@ fn add_side<S: Sink>(
         ≡ S.lines sink.old ++ side_line variable lit (name_at names.old.names whole) ∷ []) }
     ensures err { OnErr result (S.lines sink.new ≡ S.lines sink.old) }
 {
-    let alloc = store.allocator();
-    let lits = Vec::from_slice(alloc, &[Lit::new(variable, false), lit.negation()])?;
-    let hints = Vec::from_slice(alloc, &[Hint::Group(names.get(whole))])?;
-    add(store, names, sink, Kind::Definition, lits, hints)
+    let lits = [Lit::new(variable, false), lit.negation()];
+    let hint = Hint::Group(names.get(whole));
+    add(store, names, sink, Kind::Definition, &lits, &[hint])
 }
 
 /// Puts the variable of a definition into a clause in the place of its pair: a clause with the
@@ -316,14 +314,13 @@ fn replace<S: Sink>(
         (stage_of definition.now.variable store.new.slots names.new (S.lines sink.new)) }
 {
     sink.is_short();
-    let alloc = store.allocator();
-    let lits = replaced_lits(alloc, store.lits(reference), definition)?;
+    let lits = replaced_lits(store.allocator(), store.lits(reference), definition)?;
     let left_side = plain(names, definition.left_side);
     let right_side = plain(names, definition.right_side);
     let clause = plain(names, reference);
-    let hints = Vec::from_slice(alloc, &[left_side, right_side, clause])?;
-    let new = add(store, names, sink, Kind::Resolvent, lits, hints)?;
-    delete(store, names, sink, alloc, reference)?;
+    let hints = [left_side, right_side, clause];
+    let new = add(store, names, sink, Kind::Resolvent, &lits, &hints)?;
+    delete(store, names, sink, reference)?;
     Ok(new)
 }
 

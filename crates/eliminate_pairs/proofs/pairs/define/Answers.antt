@@ -32,11 +32,10 @@ whole_stage : (g : Over) (c : In_ok-whole g)
 whole_stage g c =
     whole_is c.args.vars c.args.store.now.slots c.add.new.store.slots c.args.names.now
     c.add.new.names (g.S.Sink.lines c.args.sink.now) (g.S.Sink.lines c.add.new.sink)
-    c.in_ok-lits.lits.items c.new.result.items c.negation.result c.args.left c.args.right
-    c.requires.fit.counted
+    (c.negation.result ∷ c.args.left ∷ c.args.right ∷ []) [] c.negation.result c.args.left
+    c.args.right c.requires.fit.counted
     c.in_ok-whole.ensures.slots c.in_ok-whole.ensures.names c.in_ok-whole.ensures.lines
-    c.in_ok-lits.ensures.items (c.negation.ensures ∙ ap negation c.new-fresh.ensures)
-    c.new.ensures.items
+    refl (c.negation.ensures ∙ ap negation c.new-fresh.ensures) refl
 
 -- and those of the side of the left literal
 left_fits : (g : Over) (c : In_ok-left_side g)
@@ -115,20 +114,12 @@ returns-in_err-right_side-clause-moves g c =
 
 pub returns-in_err-whole-clause-moves : goal.returns-in_err-whole-clause-moves
 returns-in_err-whole-clause-moves g c =
-    MatchResult-from_err _ _ _ c.from_residual-in_err-whole.ensures.0 (λ _.
+    MatchResult-from_err _ _ _ c.from_residual.ensures.0 (λ _.
     let s : Stage =
     stage_of c.args.vars c.args.store.now.slots c.args.names.now
     (g.S.Sink.lines c.args.sink.now) in
     breaks_at s (g.S.Sink.lines c.add.new.sink) c.in_err-whole.ensures.err
     (kept_log s s (g.S.Sink.lines c.add.new.sink) c.in_err-whole.ensures.err (λ ground k. k)))
-
-pub returns-in_err-lits-clause-moves : goal.returns-in_err-lits-clause-moves
-returns-in_err-lits-clause-moves g c =
-    MatchResult-from_err _ _ _ c.from_residual.ensures.0 (λ _.
-    let s : Stage =
-    stage_of c.args.vars c.args.store.now.slots c.args.names.now
-    (g.S.Sink.lines c.args.sink.now) in
-    breaks_at s s.lines refl (kept_log s s s.lines refl (λ ground k. k)))
 
 pub returns-clause-defined : goal.returns-clause-defined
 returns-clause-defined g c =
@@ -136,8 +127,8 @@ returns-clause-defined g c =
     let a = c.args.left in
     let b = c.args.right in
     let slots : Slots = c.args.store.now.slots in
-    let is : c.in_ok-lits.lits.items ≡ whole_clause (v + 1) a b = c.in_ok-lits.ensures.items
-    ∙ ap (λ x. x ∷ a ∷ b ∷ []) (c.negation.ensures ∙ ap negation c.new-fresh.ensures) in
+    let is : c.negation.result ∷ a ∷ b ∷ [] ≡ whole_clause (v + 1) a b =
+    ap (λ x. x ∷ a ∷ b ∷ []) (c.negation.ensures ∙ ap negation c.new-fresh.ensures) in
     let d =
     defined_is slots c.add.new.store.slots c.add_side.new.store.slots c.add_side-2.new.store.slots
     (v + 1) a b c.in_ok-whole.whole c.in_ok-left_side.left_side c.in_ok-right_side.right_side

@@ -1,6 +1,6 @@
 -- A clause with the variable comes, and the clause with the pair goes.
-use Rattle.std.proofs.Common.{◌≡◌, ◌+◌, ◌<◌, ◌^◌, length, Some, None, slice_set, refl, sym, ◌∙◌, ap}
-use Rattle.std.proofs.Common.{inr, subst, arith}
+use Rattle.std.proofs.Common.{◌≡◌, ◌+◌, ◌<◌, ◌^◌, [], ◌∷◌, length, Some, None, slice_set, refl, sym}
+use Rattle.std.proofs.Common.{◌∙◌, ap, inr, subst, arith}
 use Rattle.std.proofs.lemmas.Result.{MatchResult-from_err}
 use Rattle.clauses.specs.Slots.{Slots, clause_at}
 use Rattle.lrat_log.specs.Steps.{added_count}
@@ -24,14 +24,14 @@ within g c = live_within c.args.store.now.slots c.args.reference c.lits.result.n
 stays : (g : Over) (c : In_ok-new g) → clause_at c.add.new.store.slots c.args.reference
     ≡ Some c.lits.result.now
 stays g c = ap (λ (x : Slots). clause_at x c.args.reference) c.in_ok-new.ensures.slots
-    ∙ clause_kept c.args.store.now.slots c.in_ok-lits.lits.items c.lits.result.now c.args.reference
+    ∙ clause_kept c.args.store.now.slots c.deref.result.now c.lits.result.now c.args.reference
     c.lits.ensures
 
 fits : (g : Over) (c : In_ok-new g)
     → FitNames c.add.new.names c.add.new.store.slots (g.S.Sink.lines c.add.new.sink)
 fits g c =
     fit_added c.args.names.now c.add.new.names c.args.store.now.slots c.add.new.store.slots
-    (g.S.Sink.lines c.args.sink.now) (g.S.Sink.lines c.add.new.sink) c.in_ok-lits.lits.items _
+    (g.S.Sink.lines c.args.sink.now) (g.S.Sink.lines c.add.new.sink) c.deref.result.now _
     c.requires.fit c.in_ok-new.ensures.slots c.in_ok-new.ensures.names c.in_ok-new.ensures.lines
     refl
 
@@ -43,21 +43,22 @@ stage : (g : Over) (c : In_ok-new g)
     (g.S.Sink.lines c.args.sink.now)) c.args.definition.now c.args.reference c.lits.result.now
 stage g c =
     replaced_is c.args.store.now.slots c.add.new.store.slots c.args.names.now c.add.new.names
-    (g.S.Sink.lines c.args.sink.now) (g.S.Sink.lines c.add.new.sink) c.in_ok-lits.lits.items
-    c.lits.result.now c.in_ok-hints.hints.items c.args.definition.now c.args.reference
+    (g.S.Sink.lines c.args.sink.now) (g.S.Sink.lines c.add.new.sink) c.deref.result.now
+    c.lits.result.now
+    (c.plain-left_side.result ∷ c.plain-right_side.result ∷ c.plain-clause.result ∷ [])
+    c.args.definition.now c.args.reference
     c.plain-left_side.result c.plain-right_side.result c.plain-clause.result c.requires.fit.counted
     c.in_ok-new.ensures.slots c.in_ok-new.ensures.names c.in_ok-new.ensures.lines
-    c.in_ok-lits.ensures c.in_ok-hints.ensures.items
+    (c.deref.ensures.value ∙ c.in_ok-lits.ensures) refl
     c.plain-left_side.ensures.hint c.plain-right_side.ensures.hint c.plain-clause.ensures.hint
 
 pub add-requires-clause-line : goal.add-requires-clause-line
 add-requires-clause-line g c =
     let d = c.args.definition.now in
-    let lits : c.in_ok-lits.lits.items ≡ replaced d.variable d.left d.right c.lits.result.now =
-    c.in_ok-lits.ensures in
+    let lits : c.deref.result.now ≡ replaced d.variable d.left d.right c.lits.result.now =
+    c.deref.ensures.value ∙ c.in_ok-lits.ensures in
     rw (
       lits,
-      c.in_ok-hints.ensures.items,
       c.plain-left_side.ensures.hint,
       c.plain-right_side.ensures.hint,
       c.plain-clause.ensures.hint,
@@ -101,13 +102,6 @@ returns-in_err-lits-clause-moves g c =
     (g.S.Sink.lines c.args.sink.now) in
     breaks_at s s.lines refl (kept_log s s s.lines refl (λ ground k. k)))
 
-pub returns-in_err-hints-clause-moves : goal.returns-in_err-hints-clause-moves
-returns-in_err-hints-clause-moves g c =
-    MatchResult-from_err _ _ _ c.from_residual-in_err-hints.ensures.0 (λ _.
-    let s : Stage = stage_of c.args.definition.now.variable c.args.store.now.slots c.args.names.now
-    (g.S.Sink.lines c.args.sink.now) in
-    breaks_at s s.lines refl (kept_log s s s.lines refl (λ ground k. k)))
-
 pub returns-in_err-delete-clause-moves : goal.returns-in_err-delete-clause-moves
 returns-in_err-delete-clause-moves g c =
     MatchResult-from_err _ _ _ c.from_residual-in_err-delete.ensures.0 (λ _.
@@ -133,7 +127,7 @@ returns-clause-defined g c =
     subst (λ (x : Slots). IsDefined x d)
     (sym (c.in_ok-delete.ensures.slots
     ∙ ap (λ (x : Slots). slice_set x r None) c.in_ok-new.ensures.slots))
-    (defined_after c.args.store.now.slots d r clause c.in_ok-lits.lits.items c.requires.defined
+    (defined_after c.args.store.now.slots d r clause c.deref.result.now c.requires.defined
     c.lits.ensures (c.requires.pair clause c.lits.ensures))
 
 pub returns-clause-fit : goal.returns-clause-fit
