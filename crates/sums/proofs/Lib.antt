@@ -11,6 +11,7 @@ mod Costs
 mod Cheaper
 mod Sorting
 mod Making
+mod Makes
 mod OnTheWay
 mod Descending
 mod Short

@@ -118,19 +118,22 @@ module _ (whole : Node) (before : Clauses) (lists : List (List AtLeast)) (now : 
       (digits_of (n - 1) (without_lowest xs)) (rest_of (n - 1) (without_lowest xs)) list next new
       fresh (group_way (n - 1) (omega arith) f) a b c d)
 
+  pub rest_last : n ≡ 0 → own ≡ counted xs
+      → IsOnTheWay whole before lists now (with_carries most v carry [] (Members own))
+  rest_last e f =
+      subst (λ o. IsOnTheWay whole before lists now (with_carries most v carry [] (Members o)))
+      (sym f)
+      (subst (λ k. IsOnTheWay whole before lists now
+      (with_carries most v carry (digits_of k xs) (rest_of k xs))) e w)
+
   pub rest_many : n ≡ 0 → own ≡ counted xs
       → length now + length (rest_made v (Members own) carry).clauses
       ≤ length before + length whole.clauses
   rest_many e f =
-      let last : IsOnTheWay whole before lists now (with_carries most v carry [] (Members own)) =
-      subst (λ o. IsOnTheWay whole before lists now (with_carries most v carry [] (Members o)))
-      (sym f)
-      (subst (λ k. IsOnTheWay whole before lists now
-      (with_carries most v carry (digits_of k xs) (rest_of k xs))) e w) in
       omega (
         arith,
         same_lengths now (rest_made v (Members own) carry).clauses before whole.clauses
-            last.clauses,
+            (rest_last e f).clauses,
       )
 
 -- a halt says what a stronger one says

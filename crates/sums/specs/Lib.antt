@@ -1,5 +1,6 @@
 pub mod Sums
 pub mod Halts
 pub mod Parts
+pub mod Making
 pub mod Vectors
 pub mod Stepping

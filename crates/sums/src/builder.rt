@@ -1,8 +1,7 @@
 // Lists that are made of others. Their clauses come behind those that are there, unless there would
 // be too many: then nothing is begun.
-ghost use Rattle.std.specs.Prelude.{◌≡◌, ◌+◌, ◌<◌, ◌≤◌, ◌^◌, ◌++◌, ◌↔◌, length, OnOk, IfOk};
-ghost use Rattle.std.specs.Prelude.{IsTrue};
-ghost use Rattle.sums.specs.Halts.{IfTooMany};
+ghost use Rattle.std.specs.Prelude.{◌+◌, ◌<◌, ◌≤◌, ◌^◌, ◌↔◌, length, IsTrue};
+ghost use Rattle.sums.specs.Making.{Makes};
 ghost use Rattle.sums.specs.Sums.{grouped, group_list, joined, join};
 
 use crate::halts::Halt;
@@ -25,15 +24,7 @@ pub(crate) struct Builder {
 impl Builder {
     /// The list of members of a group of which at most one is given up.
     pub fn group(&mut self, members: Vec<AtLeast>) -> Result<Vec<AtLeast>, Halt>
-        ensures list { IfOk result
-            (λ l. l.items ≡ (group_list self.old.fresh members.items).list) }
-        ensures clauses { OnOk result (self.new.clauses
-            ≡ self.old.clauses ++ (group_list self.old.fresh members.items).clauses) }
-        ensures fresh { OnOk result
-            (self.new.fresh ≡ (group_list self.old.fresh members.items).fresh) }
-        ensures many { IfTooMany result (2 ^ 17
-            < length self.old.clauses
-            + length (group_list self.old.fresh members.items).clauses) }
+        ensures { Makes self.old self.new result (group_list self.old.fresh members.items) }
     {
         if members.len() < 2 {
             return Ok(members);
@@ -44,13 +35,7 @@ impl Builder {
     /// The list of two members or more.
     fn group_many(&mut self, members: &[AtLeast]) -> Result<Vec<AtLeast>, Halt>
         requires { 0 < length members.now }
-        ensures list { IfOk result (λ l. l.items ≡ (grouped self.old.fresh members.now).list) }
-        ensures clauses { OnOk result (self.new.clauses
-            ≡ self.old.clauses ++ (grouped self.old.fresh members.now).clauses) }
-        ensures fresh { OnOk result
-            (self.new.fresh ≡ (grouped self.old.fresh members.now).fresh) }
-        ensures many { IfTooMany result (2 ^ 17
-            < length self.old.clauses + length (grouped self.old.fresh members.now).clauses) }
+        ensures { Makes self.old self.new result (grouped self.old.fresh members.now) }
     {
         if !self.has_room(members.len()) {
             return Err(Halt::TooMany);
@@ -69,15 +54,7 @@ impl Builder {
 
     /// The list of the sums of two lists.
     pub fn join(&mut self, left: Vec<AtLeast>, right: Vec<AtLeast>) -> Result<Vec<AtLeast>, Halt>
-        ensures list { IfOk result
-            (λ l. l.items ≡ (join self.old.fresh left.items right.items).list) }
-        ensures clauses { OnOk result (self.new.clauses
-            ≡ self.old.clauses ++ (join self.old.fresh left.items right.items).clauses) }
-        ensures fresh { OnOk result
-            (self.new.fresh ≡ (join self.old.fresh left.items right.items).fresh) }
-        ensures many { IfTooMany result (2 ^ 17
-            < length self.old.clauses
-            + length (join self.old.fresh left.items right.items).clauses) }
+        ensures { Makes self.old self.new result (join self.old.fresh left.items right.items) }
     {
         if left.is_empty() {
             return Ok(right);
@@ -91,15 +68,7 @@ impl Builder {
     /// The list of the sums of two lists that are not empty.
     fn join_both(&mut self, left: &[AtLeast], right: &[AtLeast]) -> Result<Vec<AtLeast>, Halt>
         requires { 0 < length left.now }
-        ensures list { IfOk result
-            (λ l. l.items ≡ (joined self.old.fresh left.now right.now).list) }
-        ensures clauses { OnOk result (self.new.clauses
-            ≡ self.old.clauses ++ (joined self.old.fresh left.now right.now).clauses) }
-        ensures fresh { OnOk result
-            (self.new.fresh ≡ (joined self.old.fresh left.now right.now).fresh) }
-        ensures many { IfTooMany result (2 ^ 17
-            < length self.old.clauses
-            + length (joined self.old.fresh left.now right.now).clauses) }
+        ensures { Makes self.old self.new result (joined self.old.fresh left.now right.now) }
     {
         if !self.has_room(left.len()) {
             return Err(Halt::TooMany);

@@ -1,6 +1,5 @@
 // A digit's list takes what the digit below it has carried, and carries what is too much.
-ghost use Rattle.std.specs.Prelude.{◌≡◌, ◌+◌, ◌<◌, ◌^◌, ◌++◌, length, OnOk, IfOk};
-ghost use Rattle.sums.specs.Halts.{IfTooMany};
+ghost use Rattle.sums.specs.Making.{Makes, MakesSplit};
 ghost use Rattle.sums.specs.Parts.{carried, digit_made, rest_made};
 ghost use Rattle.sums.specs.Sums.{Members, Both};
 
@@ -16,18 +15,8 @@ pub(crate) fn carry_on(
     own: Vec<AtLeast>,
     carry: Vec<AtLeast>,
 ) -> Result<Halves, Halt>
-    ensures list { IfOk result
-        (λ h. h.list.items ≡ (carried most builder.old.fresh own.items carry.items).list) }
-    ensures carry { IfOk result
-        (λ h. h.carry.items ≡ (carried most builder.old.fresh own.items carry.items).carry) }
-    ensures clauses { OnOk result (builder.new.clauses
-        ≡ builder.old.clauses
-        ++ (carried most builder.old.fresh own.items carry.items).clauses) }
-    ensures fresh { OnOk result (builder.new.fresh
-        ≡ (carried most builder.old.fresh own.items carry.items).fresh) }
-    ensures many { IfTooMany result (2 ^ 17
-        < length builder.old.clauses
-        + length (carried most builder.old.fresh own.items carry.items).clauses) }
+    ensures { MakesSplit builder.old builder.new result
+        (carried most builder.old.fresh own.items carry.items) }
 {
     let sum = builder.join(own, carry)?;
     split_list(builder, most, sum)
@@ -40,18 +29,8 @@ pub(crate) fn group_digit(
     members: Vec<AtLeast>,
     carry: Vec<AtLeast>,
 ) -> Result<Halves, Halt>
-    ensures list { IfOk result (λ h. h.list.items
-        ≡ (digit_made most builder.old.fresh (Members members.items) carry.items).list) }
-    ensures carry { IfOk result (λ h. h.carry.items
-        ≡ (digit_made most builder.old.fresh (Members members.items) carry.items).carry) }
-    ensures clauses { OnOk result (builder.new.clauses
-        ≡ builder.old.clauses
-        ++ (digit_made most builder.old.fresh (Members members.items) carry.items).clauses) }
-    ensures fresh { OnOk result (builder.new.fresh
-        ≡ (digit_made most builder.old.fresh (Members members.items) carry.items).fresh) }
-    ensures many { IfTooMany result (2 ^ 17
-        < length builder.old.clauses
-        + length (digit_made most builder.old.fresh (Members members.items) carry.items).clauses) }
+    ensures { MakesSplit builder.old builder.new result
+        (digit_made most builder.old.fresh (Members members.items) carry.items) }
 {
     let own = builder.group(members)?;
     carry_on(builder, most, own, carry)
@@ -65,19 +44,8 @@ pub(crate) fn join_digit(
     right: Vec<AtLeast>,
     carry: Vec<AtLeast>,
 ) -> Result<Halves, Halt>
-    ensures list { IfOk result (λ h. h.list.items
-        ≡ (digit_made most builder.old.fresh (Both left.items right.items) carry.items).list) }
-    ensures carry { IfOk result (λ h. h.carry.items
-        ≡ (digit_made most builder.old.fresh (Both left.items right.items) carry.items).carry) }
-    ensures clauses { OnOk result (builder.new.clauses
-        ≡ builder.old.clauses
-        ++ (digit_made most builder.old.fresh (Both left.items right.items) carry.items).clauses) }
-    ensures fresh { OnOk result (builder.new.fresh
-        ≡ (digit_made most builder.old.fresh (Both left.items right.items) carry.items).fresh) }
-    ensures many { IfTooMany result (2 ^ 17
-        < length builder.old.clauses
-        + length
-        (digit_made most builder.old.fresh (Both left.items right.items) carry.items).clauses) }
+    ensures { MakesSplit builder.old builder.new result
+        (digit_made most builder.old.fresh (Both left.items right.items) carry.items) }
 {
     let own = builder.join(left, right)?;
     carry_on(builder, most, own, carry)
@@ -89,16 +57,8 @@ pub(crate) fn group_rest(
     members: Vec<AtLeast>,
     carry: Vec<AtLeast>,
 ) -> Result<Vec<AtLeast>, Halt>
-    ensures list { IfOk result (λ l. l.items
-        ≡ (rest_made builder.old.fresh (Members members.items) carry.items).list) }
-    ensures clauses { OnOk result (builder.new.clauses
-        ≡ builder.old.clauses
-        ++ (rest_made builder.old.fresh (Members members.items) carry.items).clauses) }
-    ensures fresh { OnOk result (builder.new.fresh
-        ≡ (rest_made builder.old.fresh (Members members.items) carry.items).fresh) }
-    ensures many { IfTooMany result (2 ^ 17
-        < length builder.old.clauses
-        + length (rest_made builder.old.fresh (Members members.items) carry.items).clauses) }
+    ensures { Makes builder.old builder.new result
+        (rest_made builder.old.fresh (Members members.items) carry.items) }
 {
     let own = builder.group(members)?;
     builder.join(own, carry)
@@ -111,16 +71,8 @@ pub(crate) fn join_rest(
     right: Vec<AtLeast>,
     carry: Vec<AtLeast>,
 ) -> Result<Vec<AtLeast>, Halt>
-    ensures list { IfOk result (λ l. l.items
-        ≡ (rest_made builder.old.fresh (Both left.items right.items) carry.items).list) }
-    ensures clauses { OnOk result (builder.new.clauses
-        ≡ builder.old.clauses
-        ++ (rest_made builder.old.fresh (Both left.items right.items) carry.items).clauses) }
-    ensures fresh { OnOk result (builder.new.fresh
-        ≡ (rest_made builder.old.fresh (Both left.items right.items) carry.items).fresh) }
-    ensures many { IfTooMany result (2 ^ 17
-        < length builder.old.clauses
-        + length (rest_made builder.old.fresh (Both left.items right.items) carry.items).clauses) }
+    ensures { Makes builder.old builder.new result
+        (rest_made builder.old.fresh (Both left.items right.items) carry.items) }
 {
     let own = builder.join(left, right)?;
     builder.join(own, carry)

@@ -1,6 +1,6 @@
 // A digit's list that is too long becomes its odd one and its half.
-ghost use Rattle.std.specs.Prelude.{◌≡◌, ◌+◌, ◌<◌, ◌≤◌, ◌^◌, ◌++◌, [], ◌∷◌, length, OnOk, IfOk};
-ghost use Rattle.sums.specs.Halts.{IfTooMany};
+ghost use Rattle.std.specs.Prelude.{◌≡◌, ◌++◌, [], ◌∷◌, OnOk, IfOk};
+ghost use Rattle.sums.specs.Making.{MakesSplit};
 ghost use Rattle.sums.specs.Sums.{halved, halves, odd_clauses, split};
 
 use crate::builder::Builder;
@@ -25,17 +25,7 @@ pub(crate) fn split_list(
     most: usize,
     list: Vec<AtLeast>,
 ) -> Result<Halves, Halt>
-    ensures list { IfOk result
-        (λ h. h.list.items ≡ (split most builder.old.fresh list.items).list) }
-    ensures carry { IfOk result
-        (λ h. h.carry.items ≡ (split most builder.old.fresh list.items).carry) }
-    ensures clauses { OnOk result (builder.new.clauses
-        ≡ builder.old.clauses ++ (split most builder.old.fresh list.items).clauses) }
-    ensures fresh { OnOk result
-        (builder.new.fresh ≡ (split most builder.old.fresh list.items).fresh) }
-    ensures many { IfTooMany result (2 ^ 17
-        < length builder.old.clauses
-        + length (split most builder.old.fresh list.items).clauses) }
+    ensures { MakesSplit builder.old builder.new result (split most builder.old.fresh list.items) }
 {
     if most < list.len() {
         return halve_list(builder, &list);
@@ -46,15 +36,7 @@ pub(crate) fn split_list(
 
 /// The odd one and the half.
 fn halve_list(builder: &mut Builder, list: &[AtLeast]) -> Result<Halves, Halt>
-    ensures list { IfOk result
-        (λ h. h.list.items ≡ (halved builder.old.fresh list.now).list) }
-    ensures carry { IfOk result
-        (λ h. h.carry.items ≡ (halved builder.old.fresh list.now).carry) }
-    ensures clauses { OnOk result (builder.new.clauses
-        ≡ builder.old.clauses ++ (halved builder.old.fresh list.now).clauses) }
-    ensures fresh { OnOk result (builder.new.fresh ≡ (halved builder.old.fresh list.now).fresh) }
-    ensures many { IfTooMany result (2 ^ 17
-        < length builder.old.clauses + length (halved builder.old.fresh list.now).clauses) }
+    ensures { MakesSplit builder.old builder.new result (halved builder.old.fresh list.now) }
 {
     if !builder.has_room(list.len() / 2 + list.len() % 2) {
         return Err(Halt::TooMany);

@@ -1,6 +1,6 @@
 // The lists of a group, and of two parts.
-ghost use Rattle.std.specs.Prelude.{◌≡◌, ◌+◌, ◌<◌, ◌^◌, [], ◌∷◌, ◌++◌, length, OnOk, IfOk};
-ghost use Rattle.sums.specs.Halts.{IfTooMany};
+ghost use Rattle.std.specs.Prelude.{◌≡◌, [], ◌∷◌, ◌++◌, OnOk, IfOk};
+ghost use Rattle.sums.specs.Making.{MakesNode};
 ghost use Rattle.sums.specs.Parts.{group_node, joined_node};
 ghost use Rattle.sums.specs.Sums.{counted, lowest, without_lowest};
 
@@ -73,18 +73,8 @@ pub(crate) fn take_group(
     digits: u32,
     members: Vec<AtLeast>,
 ) -> Result<Lists, Halt>
-    ensures digits { IfOk result (λ l. l.digits.items
-        ≡ (group_node most digits members.items builder.old.fresh).digits) }
-    ensures top { IfOk result
-        (λ l. l.top ≡ (group_node most digits members.items builder.old.fresh).top) }
-    ensures clauses { OnOk result (builder.new.clauses
-        ≡ builder.old.clauses
-        ++ (group_node most digits members.items builder.old.fresh).clauses) }
-    ensures fresh { OnOk result (builder.new.fresh
-        ≡ (group_node most digits members.items builder.old.fresh).fresh) }
-    ensures many { IfTooMany result (2 ^ 17
-        < length builder.old.clauses
-        + length (group_node most digits members.items builder.old.fresh).clauses) }
+    ensures { MakesNode builder.old builder.new result
+        (group_node most digits members.items builder.old.fresh) }
 {
     let alloc = builder.clauses.allocator();
     let mut lists = Vec::new(alloc);
@@ -113,24 +103,9 @@ pub(crate) fn join_lists(
     left: Lists,
     right: Lists,
 ) -> Result<Lists, Halt>
-    ensures digits { IfOk result (λ l. l.digits.items
-        ≡ (joined_node most left.digits.items left.top right.digits.items right.top
-        builder.old.fresh).digits) }
-    ensures top { IfOk result (λ l. l.top
-        ≡ (joined_node most left.digits.items left.top right.digits.items right.top
-        builder.old.fresh).top) }
-    ensures clauses { OnOk result (builder.new.clauses
-        ≡ builder.old.clauses
-        ++ (joined_node most left.digits.items left.top right.digits.items right.top
-        builder.old.fresh).clauses) }
-    ensures fresh { OnOk result (builder.new.fresh
-        ≡ (joined_node most left.digits.items left.top right.digits.items right.top
-        builder.old.fresh).fresh) }
-    ensures many { IfTooMany result (2 ^ 17
-        < length builder.old.clauses
-        + length
+    ensures { MakesNode builder.old builder.new result
         (joined_node most left.digits.items left.top right.digits.items right.top
-        builder.old.fresh).clauses) }
+        builder.old.fresh) }
 {
     let alloc = builder.clauses.allocator();
     let mut lists = Vec::new(alloc);

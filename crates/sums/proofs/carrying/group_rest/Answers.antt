@@ -1,31 +1,10 @@
-use Rattle.std.proofs.Common.{◌≡◌, ◌<◌, ◌++◌, OnOk, append_assoc, subst, ◌∙◌}
-use Rattle.sums.specs.Halts.{IfTooMany}
-use Rattle.sums.specs.Sums.{join, group_list}
-use Rattle.sums.proofs.Making.{same_lengths}
+use Rattle.sums.specs.Sums.{group_list, join}
+use Rattle.sums.proofs.Makes.{then_makes}
 use Rattle.sums.proofs.carrying.group_rest.Goals as goal
 
--- the clauses of both steps
-steps : (c : goal.After-join)
-    → c.group.new.self.clauses ++ (join c.group.new.self.fresh c.in_ok-own.own.items
-    c.args.carry.items).clauses
-    ≡ c.args.builder.now.clauses ++ ((group_list c.args.builder.now.fresh
-    c.args.members.items).clauses
-    ++ (join (group_list c.args.builder.now.fresh c.args.members.items).fresh (group_list
-    c.args.builder.now.fresh c.args.members.items).list c.args.carry.items).clauses)
-steps c =
-    (λ i. c.in_ok-own.ensures.clauses i
-    ++ (join (c.in_ok-own.ensures.fresh i) (c.in_ok-own.ensures.list i) c.args.carry.items).clauses)
-    ∙ append_assoc c.args.builder.now.clauses (group_list c.args.builder.now.fresh
-    c.args.members.items).clauses
-    (join (group_list c.args.builder.now.fresh c.args.members.items).fresh (group_list
-    c.args.builder.now.fresh c.args.members.items).list c.args.carry.items).clauses
-
-pub returns-clause-clauses : goal.returns-clause-clauses
-returns-clause-clauses c =
-    subst (λ cs. OnOk c.join.result (c.join.new.self.clauses ≡ cs)) (steps c)
-    c.join.ensures.clauses
-
-pub returns-clause-many : goal.returns-clause-many
-returns-clause-many c =
-    subst (λ n. IfTooMany c.join.result (131072 < n)) (same_lengths _ _ _ _ (steps c))
-    c.join.ensures.many
+pub returns : goal.returns
+returns c =
+    let e = c.in_ok-own.ensures in
+    then_makes c.args.builder.now c.group.new.self c.join.new.self
+    (group_list c.args.builder.now.fresh c.args.members.items)
+    e.0 e.1.0 e.1.1 c.join.result (λ v xs. join v xs c.args.carry.items) c.join.ensures

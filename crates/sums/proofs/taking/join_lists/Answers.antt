@@ -12,8 +12,8 @@ use Rattle.sums.proofs.taking.join_lists.Goals as goal
 below : {a b : ℕ} → a ≤ b → 131072 < a → 131072 < b
 below le lt = omega arith
 
-pub returns-in_err-halves-clause-many : goal.returns-in_err-halves-clause-many
-returns-in_err-halves-clause-many c =
+pub returns-in_err-halves : goal.returns-in_err-halves
+returns-in_err-halves c =
     let p =
     err_from_is_err_and c.from_residual-in_err-halves.result
     c.from_residual-in_err-halves.ensures.1 in
@@ -25,15 +25,23 @@ returns-in_err-halves-clause-many c =
     let j = c.loop-j.j in
     let left : j < length xs = first_of (omega arith, search rules) in
     let right : j < length ys = first_of (omega arith, search rules) in
-    rw (p.1, p.2) (is_too_many_weaker _ _ _
-    (below (parts_many whole c.args.builder.now.clauses c.loop-j.lists.items
-    c.loop-j.builder.clauses c.args.most c.loop-j.builder.fresh c.loop-j.carry.items j xs ys us vs
-    c.in_ok-a.a.items c.in_ok-b.b.items c.loop-j.invariant.way left right
-    (c.in_ok-a.ensures ∙ c.each.ensures
-    ∙ get_or_read xs j c.index.result.now left c.index.ensures c.in_ok-a.a.items)
-    (c.in_ok-b.ensures ∙ c.each-in-loop-j.ensures
-    ∙ get_or_read ys j c.index-in-loop-j.result.now right c.index-in-loop-j.ensures
-    c.in_ok-b.b.items))) c.in_err-halves.ensures.many)
+    rw (p.1, p.2) (
+      tt,
+      tt,
+      (
+        tt,
+        tt,
+        is_too_many_weaker _ _ _
+            (below (parts_many whole c.args.builder.now.clauses c.loop-j.lists.items
+            c.loop-j.builder.clauses c.args.most c.loop-j.builder.fresh c.loop-j.carry.items j xs ys us vs
+            c.in_ok-a.a.items c.in_ok-b.b.items c.loop-j.invariant.way left right
+            (c.in_ok-a.ensures ∙ c.each.ensures
+            ∙ get_or_read xs j c.index.result.now left c.index.ensures c.in_ok-a.a.items)
+            (c.in_ok-b.ensures ∙ c.each-in-loop-j.ensures
+            ∙ get_or_read ys j c.index-in-loop-j.result.now right c.index-in-loop-j.ensures
+            c.in_ok-b.b.items))) c.in_err-halves.ensures.2.2,
+      ),
+    )
 
 pub loop-j-preserved : goal.loop-j-preserved
 loop-j-preserved c =
@@ -63,12 +71,11 @@ loop-j-preserved c =
           ∙ get_or_read ys j c.index-in-loop-j.result.now right c.index-in-loop-j.ensures
           c.in_ok-b.b.items)
           c.in_ok-halves.halves.list.items c.in_ok-halves.halves.carry.items
-          c.join_digit.new.builder.clauses c.join_digit.new.builder.fresh e.list e.carry e.clauses
-          e.fresh);
+          c.join_digit.new.builder.clauses c.join_digit.new.builder.fresh e.0 e.1 e.2.0 e.2.1);
     }
 
-pub returns-in_err-rest-clause-many : goal.returns-in_err-rest-clause-many
-returns-in_err-rest-clause-many c =
+pub returns-in_err-rest : goal.returns-in_err-rest
+returns-in_err-rest c =
     let p =
     err_from_is_err_and c.from_residual-in_err-rest.result c.from_residual-in_err-rest.ensures.1
     in
@@ -88,51 +95,25 @@ returns-in_err-rest-clause-many c =
     λ i. rest_made c.loop-j.builder.fresh
     (Both (c.into_each-top_left.ensures i) (c.into_each-top_right.ensures i)) c.loop-j.carry.items
     in
-    rw (p.1, p.2) (is_too_many_weaker _ _ _
-    (below (omega (
-      arith,
-      ap (λ (m : Made). length m.clauses) same,
-      same_lengths c.loop-j.builder.clauses
-          (rest_made c.loop-j.builder.fresh (Both us vs) c.loop-j.carry.items).clauses
-          c.args.builder.now.clauses whole.clauses last.clauses,
-    ))) c.in_err-rest.ensures.many)
+    rw (p.1, p.2) (
+      tt,
+      tt,
+      (
+        tt,
+        tt,
+        is_too_many_weaker _ _ _
+            (below (omega (
+              arith,
+              ap (λ (m : Made). length m.clauses) same,
+              same_lengths c.loop-j.builder.clauses
+                  (rest_made c.loop-j.builder.fresh (Both us vs) c.loop-j.carry.items).clauses
+                  c.args.builder.now.clauses whole.clauses last.clauses,
+            ))) c.in_err-rest.ensures.1.2,
+      ),
+    )
 
-pub returns-clause-digits : goal.returns-clause-digits
-returns-clause-digits c =
-    let xs = c.args.left.digits.items in
-    let ys = c.args.right.digits.items in
-    let us = c.args.left.top in
-    let vs = c.args.right.top in
-    let whole = joined_node c.args.most xs us ys vs c.args.builder.now.fresh in
-    let past : min (length xs) (length ys) ≤ c.loop-j.j = first_of (omega arith, search rules) in
-    let last =
-    parts_last whole c.args.builder.now.clauses c.loop-j.lists.items c.loop-j.builder.clauses
-    c.args.most c.loop-j.builder.fresh c.loop-j.carry.items c.loop-j.j xs ys us vs
-    c.loop-j.invariant.way past in
-    sym (append-nil c.loop-j.lists.items) ∙ last.digits
-
-pub returns-clause-top : goal.returns-clause-top
-returns-clause-top c =
-    let xs = c.args.left.digits.items in
-    let ys = c.args.right.digits.items in
-    let us = c.args.left.top in
-    let vs = c.args.right.top in
-    let whole = joined_node c.args.most xs us ys vs c.args.builder.now.fresh in
-    let past : min (length xs) (length ys) ≤ c.loop-j.j = first_of (omega arith, search rules) in
-    let last =
-    parts_last whole c.args.builder.now.clauses c.loop-j.lists.items c.loop-j.builder.clauses
-    c.args.most c.loop-j.builder.fresh c.loop-j.carry.items c.loop-j.j xs ys us vs
-    c.loop-j.invariant.way past in
-    let same : rest_made c.loop-j.builder.fresh (Both c.into_each-top_left.result.items
-    c.into_each-top_right.result.items) c.loop-j.carry.items
-    ≡ rest_made c.loop-j.builder.fresh (Both us vs) c.loop-j.carry.items =
-    λ i. rest_made c.loop-j.builder.fresh
-    (Both (c.into_each-top_left.ensures i) (c.into_each-top_right.ensures i)) c.loop-j.carry.items
-    in
-    c.in_ok-rest.ensures.list ∙ ap (λ (m : Made). m.list) same ∙ last.top
-
-pub returns-clause-clauses : goal.returns-clause-clauses
-returns-clause-clauses c =
+pub returns : goal.returns
+returns c =
     let xs = c.args.left.digits.items in
     let ys = c.args.right.digits.items in
     let us = c.args.left.top in
@@ -149,25 +130,12 @@ returns-clause-clauses c =
     λ i. rest_made c.loop-j.builder.fresh
     (Both (c.into_each-top_left.ensures i) (c.into_each-top_right.ensures i)) c.loop-j.carry.items
     in
-    c.in_ok-rest.ensures.clauses ∙ ap (λ (m : Made). c.loop-j.builder.clauses ++ m.clauses) same
-    ∙ last.clauses
-
-pub returns-clause-fresh : goal.returns-clause-fresh
-returns-clause-fresh c =
-    let xs = c.args.left.digits.items in
-    let ys = c.args.right.digits.items in
-    let us = c.args.left.top in
-    let vs = c.args.right.top in
-    let whole = joined_node c.args.most xs us ys vs c.args.builder.now.fresh in
-    let past : min (length xs) (length ys) ≤ c.loop-j.j = first_of (omega arith, search rules) in
-    let last =
-    parts_last whole c.args.builder.now.clauses c.loop-j.lists.items c.loop-j.builder.clauses
-    c.args.most c.loop-j.builder.fresh c.loop-j.carry.items c.loop-j.j xs ys us vs
-    c.loop-j.invariant.way past in
-    let same : rest_made c.loop-j.builder.fresh (Both c.into_each-top_left.result.items
-    c.into_each-top_right.result.items) c.loop-j.carry.items
-    ≡ rest_made c.loop-j.builder.fresh (Both us vs) c.loop-j.carry.items =
-    λ i. rest_made c.loop-j.builder.fresh
-    (Both (c.into_each-top_left.ensures i) (c.into_each-top_right.ensures i)) c.loop-j.carry.items
-    in
-    c.in_ok-rest.ensures.fresh ∙ ap (λ (m : Made). m.fresh) same ∙ last.fresh
+    let e = c.in_ok-rest.ensures in (
+      sym (append-nil c.loop-j.lists.items) ∙ last.digits,
+      e.0 ∙ ap (λ (m : Made). m.list) same ∙ last.top,
+      (
+        e.1.0 ∙ ap (λ (m : Made). c.loop-j.builder.clauses ++ m.clauses) same ∙ last.clauses,
+        e.1.1 ∙ ap (λ (m : Made). m.fresh) same ∙ last.fresh,
+        tt,
+      ),
+    )

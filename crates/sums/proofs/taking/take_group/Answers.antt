@@ -1,43 +1,59 @@
-use Rattle.std.proofs.Common.{◌≡◌, ◌+◌, ◌-◌, ◌<◌, ◌≤◌, ◌∷◌, [], ◌++◌, length, ap, arith, sym, subst}
-use Rattle.std.proofs.Common.{◌∙◌}
+use Rattle.std.proofs.Common.{ℕ, ◌-◌, ◌<◌, ◌≤◌, ap, arith, sym, subst, append-nil, ◌∙◌}
 use Rattle.std.proofs.lemmas.Result.{err_from_is_err_and}
 use Rattle.sums.specs.Sums.{with_carries, digits_of, rest_of, lowest, counted}
 use Rattle.sums.specs.Sums.{without_lowest}
 use Rattle.sums.specs.Parts.{IsOnTheWay, group_node}
-use Rattle.sums.proofs.OnTheWay.{group_many, group_step, rest_many, is_too_many_weaker}
+use Rattle.sums.proofs.OnTheWay.{group_many, group_step, rest_many, rest_last}
+use Rattle.sums.proofs.OnTheWay.{is_too_many_weaker}
 use Rattle.sums.proofs.taking.take_group.Goals as goal
 
-below : {a b : Rattle.std.proofs.Common.ℕ} → a ≤ b → 131072 < a → 131072 < b
+below : {a b : ℕ} → a ≤ b → 131072 < a → 131072 < b
 below le lt = omega arith
 
-pub returns-in_err-halves-clause-many : goal.returns-in_err-halves-clause-many
-returns-in_err-halves-clause-many c =
+pub returns-in_err-halves : goal.returns-in_err-halves
+returns-in_err-halves c =
     let p =
     err_from_is_err_and c.from_residual-in_err-halves.result
     c.from_residual-in_err-halves.ensures.1 in
     let whole =
     group_node c.args.most c.args.digits c.args.members.items c.args.builder.now.fresh in
-    rw (p.1, p.2) (is_too_many_weaker _ _ _
-    (below (group_many whole c.args.builder.now.clauses c.loop-left.lists.items
-    c.loop-left.builder.clauses c.args.most c.loop-left.builder.fresh c.loop-left.carry.items
-    c.loop-left.left c.loop-left.members.items c.in_ok-own.own.items c.loop-left.invariant.way
-    (omega arith) (c.in_ok-own.ensures ∙ ap (λ xs. counted (lowest xs)) c.deref.ensures.value)))
-    c.in_err-halves.ensures.many)
+    rw (p.1, p.2) (
+      tt,
+      tt,
+      (
+        tt,
+        tt,
+        is_too_many_weaker _ _ _
+            (below (group_many whole c.args.builder.now.clauses c.loop-left.lists.items
+            c.loop-left.builder.clauses c.args.most c.loop-left.builder.fresh c.loop-left.carry.items
+            c.loop-left.left c.loop-left.members.items c.in_ok-own.own.items c.loop-left.invariant.way
+            (omega arith) (c.in_ok-own.ensures ∙ ap (λ xs. counted (lowest xs)) c.deref.ensures.value)))
+            c.in_err-halves.ensures.2.2,
+      ),
+    )
 
-pub returns-in_err-rest-clause-many : goal.returns-in_err-rest-clause-many
-returns-in_err-rest-clause-many c =
+pub returns-in_err-rest : goal.returns-in_err-rest
+returns-in_err-rest c =
     let p =
     err_from_is_err_and c.from_residual-in_err-rest.result
     c.from_residual-in_err-rest.ensures.1 in
     let whole =
     group_node c.args.most c.args.digits c.args.members.items c.args.builder.now.fresh in
-    rw (p.1, p.2) (is_too_many_weaker _ _ _
-    (below (rest_many whole c.args.builder.now.clauses c.loop-left.lists.items
-    c.loop-left.builder.clauses c.args.most c.loop-left.builder.fresh c.loop-left.carry.items
-    c.loop-left.left c.loop-left.members.items c.in_ok-above_zero.field-0.items
-    c.loop-left.invariant.way (omega arith)
-    (c.in_ok-above_zero.ensures ∙ ap counted c.deref-2.ensures.value)))
-    c.in_err-rest.ensures.many)
+    rw (p.1, p.2) (
+      tt,
+      tt,
+      (
+        tt,
+        tt,
+        is_too_many_weaker _ _ _
+            (below (rest_many whole c.args.builder.now.clauses c.loop-left.lists.items
+            c.loop-left.builder.clauses c.args.most c.loop-left.builder.fresh c.loop-left.carry.items
+            c.loop-left.left c.loop-left.members.items c.in_ok-above_zero.field-0.items
+            c.loop-left.invariant.way (omega arith)
+            (c.in_ok-above_zero.ensures ∙ ap counted c.deref-2.ensures.value)))
+            c.in_err-rest.ensures.1.2,
+      ),
+    )
 
 pub loop-left-preserved : goal.loop-left-preserved
 loop-left-preserved c =
@@ -60,6 +76,21 @@ loop-left-preserved c =
           (c.in_ok-own.ensures ∙ ap (λ xs. counted (lowest xs)) c.deref.ensures.value)
           c.in_ok-halves.halves.list.items c.in_ok-halves.halves.carry.items
           c.in_ok-members.members.items c.group_digit.new.builder.clauses
-          c.group_digit.new.builder.fresh e.list e.carry e.clauses e.fresh
+          c.group_digit.new.builder.fresh e.0 e.1 e.2.0 e.2.1
           (c.in_ok-members.ensures ∙ ap without_lowest c.deref-in-loop-left.ensures.value));
     }
+
+pub returns : goal.returns
+returns c =
+    let whole =
+    group_node c.args.most c.args.digits c.args.members.items c.args.builder.now.fresh in
+    let last =
+    rest_last whole c.args.builder.now.clauses c.loop-left.lists.items c.loop-left.builder.clauses
+    c.args.most c.loop-left.builder.fresh c.loop-left.carry.items c.loop-left.left
+    c.loop-left.members.items c.in_ok-above_zero.field-0.items c.loop-left.invariant.way
+    (omega arith) (c.in_ok-above_zero.ensures ∙ ap counted c.deref-2.ensures.value) in
+    let e = c.in_ok-rest.ensures in (
+      sym (append-nil c.loop-left.lists.items) ∙ last.digits,
+      e.0 ∙ last.top,
+      (e.1.0 ∙ last.clauses, e.1.1 ∙ last.fresh, tt),
+    )

@@ -1,6 +1,6 @@
-use Rattle.std.proofs.Common.{◌≡◌, ◌+◌, ◌<◌, ◌++◌, length, OnOk, subst, rules}
-use Rattle.sums.specs.Halts.{IfTooMany}
-use Rattle.sums.specs.Sums.{Made, joined, join}
+use Rattle.std.proofs.Common.{◌≡◌, ◌<◌, length, subst, rules}
+use Rattle.sums.specs.Making.{Makes}
+use Rattle.sums.specs.Sums.{joined, join}
 use Rattle.sums.proofs.Making.{join_as}
 use Rattle.sums.proofs.builder.Builder.join.Goals as goal
 
@@ -13,13 +13,7 @@ both c =
     join_as c.args.self.now.fresh c.args.left.items c.args.right.items c.deref.result.now
     c.deref-2.result.now c.deref.ensures.value c.deref-2.ensures.value left right
 
-pub returns-clause-clauses : goal.returns-clause-clauses
-returns-clause-clauses c =
-    subst (λ (m : Made). OnOk c.join_both.result
-    (c.join_both.new.self.clauses ≡ c.args.self.now.clauses ++ m.clauses)) (both c)
-    c.join_both.ensures.clauses
-
-pub returns-clause-many : goal.returns-clause-many
-returns-clause-many c =
-    subst (λ (m : Made). IfTooMany c.join_both.result
-    (131072 < length c.args.self.now.clauses + length m.clauses)) (both c) c.join_both.ensures.many
+pub returns : goal.returns
+returns c =
+    subst (Makes c.args.self.now c.join_both.new.self c.join_both.result) (both c)
+    c.join_both.ensures

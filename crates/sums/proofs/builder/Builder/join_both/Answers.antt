@@ -22,17 +22,19 @@ push_both-requires-clause-named c =
     _ _ c.new-all.ensures.items c.in_ok-push_numbers.ensures c.in_ok-push_numbers-2.ensures
     c.in_ok-push_sums.ensures.sums c.in_ok-list.ensures.list).sums
 
-pub returns-then-not-has_room-3-clause-many : goal.returns-then-not-has_room-3-clause-many
-returns-then-not-has_room-3-clause-many c =
+pub returns-then-not-has_room-3 : goal.returns-then-not-has_room-3
+returns-then-not-has_room-3 c =
     let v = c.args.self.now.fresh in
     let xs = c.args.left.now in
     let ys = c.args.right.now in
+    let over =
     too_many (length c.args.self.now.clauses) _ (length (joined v xs ys).clauses)
     c.has_room-3.result c.has_room-3.ensures c.if-not-has_room-3.true
-    (omega (arith, joined_length v xs ys))
+    (omega (arith, joined_length v xs ys)) in
+    (tt, (tt, tt, over))
 
-pub returns-then-not-has_room-4-clause-many : goal.returns-then-not-has_room-4-clause-many
-returns-then-not-has_room-4-clause-many c =
+pub returns-then-not-has_room-4 : goal.returns-then-not-has_room-4
+returns-then-not-has_room-4 c =
     let v = c.args.self.now.fresh in
     let xs = c.args.left.now in
     let ys = c.args.right.now in
@@ -42,6 +44,8 @@ returns-then-not-has_room-4-clause-many c =
     ∙ ap (λ ns. ns ++ sums_with xs ys) (c.in_ok-push_numbers-2.ensures
     ∙ ap (λ ns. ns ++ numbers ys) (c.in_ok-push_numbers.ensures
     ∙ ap (λ ns. ns ++ numbers xs) c.new-all.ensures.items))) in
+    let over =
     too_many (length c.args.self.now.clauses) _ (length (joined v xs ys).clauses)
     c.has_room-4.result c.has_room-4.ensures c.if-not-has_room-4.true
     (omega (arith, joined_length v xs ys, ap length list, c.len.ensures, c.saturating_sub.ensures))
+    in (tt, (tt, tt, over))
