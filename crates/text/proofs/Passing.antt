@@ -1,10 +1,11 @@
 -- Texts that go to a writer by way of a block, one after another.
 use Rattle.std.proofs.Common.{◌≡◌, ℕ, List, [], ◌∷◌, ◌++◌, Option, Result, Ok, Err}
-use Rattle.std.proofs.Common.{refl, sym}
-use Rattle.std.proofs.Common.{◌∙◌, ap, subst, append_assoc, append-nil}
-use Rattle.std.specs.Io.KnownBytes.{Appends}
-use Rattle.std.proofs.KnownBytes.{Appends-nil, Appends-trans}
+use Rattle.std.proofs.Common.{OnOk, OnErr, refl, sym, ◌∙◌, ap, subst, append_assoc, append-nil}
+use Rattle.std.specs.Io.KnownBytes.{Appends, Keeps}
+use Rattle.std.proofs.KnownBytes.{Appends-kept, Appends-nil, Appends-trans}
+use Rattle.std.proofs.lemmas.Bool.{false≢true}
 use Rattle.std.specs.List.{flat_map}
+use Rattle.std.specs.Prelude.{is_ok}
 use Rattle.text.specs.Writing.{spaced, AppendsPart, PassesOn, Writes, Puts}
 
 pub passed-nil : (a : Option (List ℕ)) (held : List ℕ) → PassesOn a held [] a held
@@ -52,6 +53,44 @@ pub puts_directly : {T E : Type 0} (r : Result T E) (a b c : Option (List ℕ)) 
     → Appends a b h → Writes r b x c → Puts r a h x c []
 puts_directly (Ok v) a b c h x p q = passed_directly a b c h x p q
 puts_directly (Err e) a b c h x p q = part-after a b c h x p q
+
+-- one text after another, both straight to the writer
+pub writes_next : {T E : Type 0} (r : Result T E) (a b c : Option (List ℕ)) (w x : List ℕ)
+    → Appends a b w → Writes r b x c → Writes r a (w ++ x) c
+writes_next (Ok v) a b c w x p q = Appends-trans a b c w x p q
+writes_next (Err e) a b c w x p q = part-after a b c w x p q
+
+-- whatever comes of a flush, the writer has what was written before it
+pub writes_kept : {T E : Type 0} (r : Result T E) (a b c : Option (List ℕ)) (x : List ℕ)
+    → Appends a b x → Keeps b c → Writes r a x c
+writes_kept (Ok v) a b c x p k = Appends-kept a b c x p k
+writes_kept (Err e) a b c x p k = (x, ([], sym (append-nil x)), Appends-kept a b c x p k)
+
+pub part-kept : (a b c : Option (List ℕ)) (x : List ℕ) → AppendsPart a b x → Keeps b c
+    → AppendsPart a c x
+part-kept a b c x p k = (p.0, p.1, Appends-kept a b c p.0 p.2 k)
+
+pub writes_as : {T E : Type 0} (r : Result T E) (a b : Option (List ℕ)) {x y : List ℕ} → x ≡ y
+    → Writes r a x b → Writes r a y b
+writes_as r a b e p = subst (λ z. Writes r a z b) e p
+
+pub writes-whole : {T E : Type 0} (r : Result T E) (a b : Option (List ℕ)) (x : List ℕ)
+    → Writes r a x b → OnOk r (Appends a b x)
+writes-whole (Ok v) a b x p = p
+writes-whole (Err e) a b x p = tt
+
+pub writes-part : {T E : Type 0} (r : Result T E) (a b : Option (List ℕ)) (x : List ℕ)
+    → Writes r a x b → OnErr r (AppendsPart a b x)
+writes-part (Ok v) a b x p = tt
+writes-part (Err e) a b x p = p
+
+-- results that are Ok together, as after `map_err`
+pub writes_alike : {T E F : Type 0} (r : Result T E) (q : Result T F) (a b : Option (List ℕ))
+    (x : List ℕ) → is_ok q ≡ is_ok r → Writes r a x b → Writes q a x b
+writes_alike (Ok v) (Ok w) a b x e p = p
+writes_alike (Ok v) (Err f) a b x e p = absurd (false≢true e)
+writes_alike (Err d) (Ok w) a b x e p = absurd (false≢true (sym e))
+writes_alike (Err d) (Err f) a b x e p = p
 
 -- a fault while the block was written
 pub passed_part : (a b c : Option (List ℕ)) (h i x : List ℕ) → PassesOn a h x b i
