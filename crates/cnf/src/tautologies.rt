@@ -8,7 +8,7 @@ use crate::types::Lit;
 
 /// Clauses up to this length are searched for complementary literals pair by pair, which takes
 /// fewer steps than marks do.
-const FEW: usize = 8;
+const PAIRWISE_LENGTH: usize = 8;
 
 /// Whether some literal stands with its negation, in time linear in their number.
 pub fn is_tautology_by(marks: &mut Marks, lits: &[Lit]) -> bool
@@ -16,7 +16,7 @@ pub fn is_tautology_by(marks: &mut Marks, lits: &[Lit]) -> bool
     ensures value { result ≡ is_tautology lits.now }
     ensures marks { length marks.new ≡ length marks.old }
 {
-    if lits.len() <= FEW {
+    if lits.len() <= PAIRWISE_LENGTH {
         is_tautology(lits)
     } else {
         meets_negation(marks, lits)

@@ -10,6 +10,7 @@ use Rattle.std.proofs.KnownBytes.{Consumes-nil}
 use Rattle.cnf.specs.Literal.{Literal}
 use Rattle.cnf.specs.Lrat.{Live}
 use Rattle.cnf.specs.Problem.{Problem}
+use Rattle.text.specs.declared.watched.TheConstants.{READ_SIZE}
 use Rattle.text.specs.Text.{IsNoFeed, token_lines}
 use Rattle.lrat_machine.specs.Machine.{MachineState, live_in, verdict_after}
 use Rattle.lrat_machine.specs.declared.verdicts.Verdict.{Verdict}
@@ -114,13 +115,13 @@ two_cuts (x ∷ a) b (y ∷ c) d e =
     cuts_more x y a b c d (ap first e) (two_cuts a b c d (ap others e))
 
 -- parts that leave the verdict open
-over_few : (rest piece : List ℕ) → IsNoFeed rest → length piece ≤ 2 ^ 16
-    → feeds (rest ++ piece) ≤ 2 ^ 16
+over_few : (rest piece : List ℕ) → IsNoFeed rest → length piece ≤ READ_SIZE
+    → feeds (rest ++ piece) ≤ READ_SIZE
 over_few rest piece unfinished small =
     let none = feeds_none rest unfinished in let most = feeds_most piece in
     let two = feeds-append rest piece in omega (arith, none, most, small, two)
 
-goes_further : (verdict : List ℕ → Verdict) (bytes : List ℕ) → GoesOnFor (2 ^ 16) verdict bytes
+goes_further : (verdict : List ℕ → Verdict) (bytes : List ℕ) → GoesOnFor READ_SIZE verdict bytes
     → GoesOnFor (2 ^ 17) verdict bytes
 goes_further verdict bytes h = record {
   done = h.done;
@@ -150,7 +151,7 @@ stops_in_time verdict old new bytes p (inr r) = record {
 
 -- a piece more
 pub piece_on : (r : ReadingState) (formula : List (List Literal)) (before front piece : List ℕ)
-    → IsOpen r formula (before ++ front) → length piece ≤ 2 ^ 16
+    → IsOpen r formula (before ++ front) → length piece ≤ READ_SIZE
     → ReadsOn (proof_verdict formula) before (front ++ piece)
 piece_on r formula before front piece o small = record {
   front = front;
@@ -193,7 +194,7 @@ module _ (p : Problem) (f : HeadEnd → Verdict) (faults : TellsFaults f) where
   told bytes = f (end_of_head p bytes)
 
   -- a piece more of the head
-  pub head_on : (bytes : List ℕ) → EndsInPiece p bytes → GoesOnFor (2 ^ 16) told bytes
+  pub head_on : (bytes : List ℕ) → EndsInPiece p bytes → GoesOnFor READ_SIZE told bytes
   head_on bytes e =
       let o = e.is_open in
       let rest = (e.left).rest in
@@ -224,7 +225,7 @@ module _ (p : Problem) (f : HeadEnd → Verdict) (faults : TellsFaults f) where
   }
 
   pub nothing_behind : (bytes : List ℕ) (known : Option (List ℕ))
-      → GoesOnFor (2 ^ 16) told bytes → StopsBehind told bytes known known
+      → GoesOnFor READ_SIZE told bytes → StopsBehind told bytes known known
   nothing_behind bytes known h = record {
     bytes = [];
     read = Consumes-nil known;
@@ -235,7 +236,7 @@ module _ (p : Problem) (f : HeadEnd → Verdict) (faults : TellsFaults f) where
   module _ (s : HeadState) (after : List ℕ) (formula : List (List Literal)) (before : List ℕ)
       (same : (more : List ℕ)
       → proof_verdict formula (before ++ more) ≡ f (end_at s (token_lines (after ++ more))))
-      (head : List ℕ) (t : IsEndedHead p s after head) (h : GoesOnFor (2 ^ 16) told head) where
+      (head : List ℕ) (t : IsEndedHead p s after head) (h : GoesOnFor READ_SIZE told head) where
     abbrev behind : List ℕ → Verdict
     behind = proof_verdict formula
 
@@ -245,7 +246,7 @@ module _ (p : Problem) (f : HeadEnd → Verdict) (faults : TellsFaults f) where
     -- a line has ended behind the head
     line_behind : (bytes : List ℕ) (k : ReadsOn behind before bytes)
         → Within before k.front k.done k.rest
-        → GoesOnFor (2 ^ 16) told (head ++ bytes)
+        → GoesOnFor READ_SIZE told (head ++ bytes)
     line_behind bytes k (u, f, g) = record {
       done = head ++ u;
       over = k.rest ++ k.piece;

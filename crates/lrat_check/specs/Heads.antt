@@ -6,6 +6,7 @@ use Rattle.cnf.specs.Formula.{Cnf, IsFormula, IsUnsatisfiable}
 use Rattle.cnf.specs.Literal.{Literal}
 use Rattle.cnf.specs.Lrat.{start_of}
 use Rattle.cnf.specs.Problem.{Problem}
+use Rattle.text.specs.declared.watched.TheConstants.{READ_SIZE}
 use Rattle.text.specs.Pieces.{IsCut}
 use Rattle.text.specs.Text.{token_lines}
 use Rattle.lrat_check.specs.Checks.{CostsAtLeast}
@@ -96,7 +97,7 @@ pub record EndsInPiece (p : Problem) (bytes : List ℕ) : Type 0 where
   pub before : List ℕ
   pub piece : List ℕ
   pub split : bytes ≡ before ++ piece
-  pub small : length piece ≤ 2 ^ 16
+  pub small : length piece ≤ READ_SIZE
   pub left : HeadReading
   pub is_open : IsOpenHead p left before
 

@@ -1,8 +1,9 @@
 -- How far the certificate of a reader is read. A line is judged once its line feed is there, and
--- the reader is asked for 65536 bytes at once.
+-- the reader is asked for READ_SIZE bytes at once.
 use Rattle.std.specs.Prelude.{◌≡◌, ℕ, ◌+◌, ◌^◌, ◌≤◌, List, [], ◌∷◌, ◌++◌, length, Option, ◌⊎◌}
 use Rattle.std.specs.Prelude.{◌==◌, if◌then◌else◌}
 use Rattle.std.specs.Io.KnownBytes.{Consumes}
+use Rattle.text.specs.declared.watched.TheConstants.{READ_SIZE}
 use Rattle.text.specs.Text.{IsNoFeed}
 use Rattle.lrat_machine.specs.declared.verdicts.Verdict.{Verdict}
 
@@ -43,7 +44,7 @@ pub record ReadsOn (verdict : List ℕ → Verdict) (before bytes : List ℕ) : 
   pub front : List ℕ
   pub piece : List ℕ
   pub split : bytes ≡ front ++ piece
-  pub small : length piece ≤ 2 ^ 16
+  pub small : length piece ≤ READ_SIZE
   pub done : List ℕ
   pub rest : List ℕ
   pub cut : before ++ front ≡ done ++ rest

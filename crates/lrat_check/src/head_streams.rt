@@ -6,6 +6,7 @@ use crate::heads::{CertificateHead, Taken};
 use crate::verdicts::{Cause, CheckFault};
 use cnf::types::Instance;
 use std::io::Read;
+use text::watched::READ_SIZE;
 
 /// How far a head was read.
 #[derive(Clone, Copy, Drop)]
@@ -33,7 +34,7 @@ pub(crate) fn read_head<R: Read>(
     };
     let mut head = new;
     let mut fed = 0u64;
-    let mut chunk = [0u8; 65536];
+    let mut chunk = [0u8; READ_SIZE];
     'pieces: loop {
         let count = match proof.read(&mut chunk) {
             Ok(0) => return Ok((head, HeadRead::AtEnd)),

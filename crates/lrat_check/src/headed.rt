@@ -2,6 +2,7 @@
 ghost use Rattle.std.specs.Prelude.{◌≡◌, ℕ, ◌+◌, ◌<◌, ◌≤◌, ◌^◌, ◌++◌, List, length, IfOk, IfSome};
 ghost use Rattle.std.specs.Prelude.{OnOk};
 ghost use Rattle.cnf.specs.declared.limits.TheConstants.{NUMBER_LIMIT};
+ghost use Rattle.text.specs.declared.watched.TheConstants.{READ_SIZE};
 ghost use Rattle.text.specs.Text.{token_lines};
 ghost use Rattle.lrat_check.specs.Checks.{CostsAtLeast};
 ghost use Rattle.lrat_check.specs.CoreLines.{IsHeadOf};
@@ -89,7 +90,7 @@ fn judge_rest<R: Read>(
         ≡ verdict_ended instance.now cost head.now.cores (token_lines (head.now.rest ++ more)))) }
     ensures stops { OnOk result ((bytes : List ℕ)
         → IsEndedHead instance.now head.now.cores head.now.rest bytes
-        → GoesOnFor (2 ^ 16) (headed_verdict instance.now cost) bytes
+        → GoesOnFor READ_SIZE (headed_verdict instance.now cost) bytes
         → StopsBehind (headed_verdict instance.now cost) bytes
         (R.remaining proof.old) (R.remaining proof.new)) }
     ensures sound { IfOk result (λ v. v ≡ Verdict.Yes → CostsAtLeast instance.now cost) }

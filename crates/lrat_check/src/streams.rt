@@ -11,6 +11,7 @@ use crate::pieces::Checker;
 use crate::verdicts::{CheckFault, Verdict};
 use cnf::types::Formula;
 use std::io::Read;
+use text::watched::READ_SIZE;
 
 /// As `check_owned`, with the certificate from a reader.
 pub(crate) fn check_stream<R: Read>(formula: Formula, proof: &mut R) -> Result<Verdict, CheckFault>
@@ -35,7 +36,7 @@ pub(crate) fn judge_stream<R: Read>(checker: Checker, proof: &mut R) -> Result<V
         → IsJudged before (R.remaining proof.old) (R.remaining proof.new) formula v) }
 {
     let mut checker = checker;
-    let mut chunk = [0u8; 65536];
+    let mut chunk = [0u8; READ_SIZE];
     'pieces: loop {
         if let Some(refused) = checker.refused() {
             return Ok(refused);

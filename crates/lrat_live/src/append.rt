@@ -4,11 +4,9 @@ ghost use Rattle.lrat_live.specs.Table.{cells_of, keys_of, clauses_in, IsTable, 
 ghost use Rattle.lrat_live.specs.Table.{IsAboveLast};
 
 use crate::entries::{AddedEntry, bucket, grow};
+use crate::spans::MOST;
 use cnf::types::Lit;
 use std::alloc::AllocError;
-
-/// There are at most so many literals and so many entries, that their places fit 32 bits.
-const MOST: usize = 4294967294;
 
 /// Adds a clause under an id above all others; when room is refused the clauses stay as they are.
 pub(crate) fn append(

@@ -26,7 +26,7 @@ pub(crate) struct LiveSpan {
 /// The start of a clause that is not live; no literal has this place.
 pub(crate) const DEAD: u32 = 4_294_967_295;
 
-/// There are at most so many literals, so that each place is below `DEAD`.
+/// There are at most so many literals, and entries, so that each place is below `DEAD`.
 pub(crate) const MOST: usize = 4_294_967_294;
 
 /// The span of no clause.

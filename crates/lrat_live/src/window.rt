@@ -14,7 +14,7 @@ use std::alloc::AllocError;
 const PASSED: u64 = 16;
 
 /// A window of so many spans may be empty.
-const FEW: usize = 65_536;
+const EMPTY_WINDOW: usize = 65_536;
 
 /// The place of an id's span in a window that begins at `head` and with the id `first`, unless it
 /// is far behind the end of the window, or the window is mostly empty.
@@ -31,7 +31,7 @@ pub(crate) fn place_for(
     ensures head { IfSome result (λ p. head ≤ p) }
 {
     let window = spans - head;
-    if id < first || window.saturating_sub(FEW) / 4 > live {
+    if id < first || window.saturating_sub(EMPTY_WINDOW) / 4 > live {
         return None;
     }
     let back = id - first;

@@ -8,6 +8,9 @@ ghost use Rattle.text.specs.Writing.{write_fails};
 use std::io;
 use std::io::{Read, Write};
 
+/// How many bytes a reader is asked for at once.
+pub const READ_SIZE: usize = 65_536;
+
 /// The reader answered an error, or was read 2^64 times already.
 #[derive(Clone, Copy, Debug, PartialEq, Eq, Drop)]
 pub struct ReadFailure;

@@ -1,5 +1,6 @@
 -- The clause that is gathered with its marks, as a literal comes and as room is made for more
 -- variables.
+use Rattle.wcnf.specs.declared.gathering.TheConstants.{UNMARKED_LENGTH}
 use Rattle.std.proofs.Common.{◌≡◌, ℕ, ◌*◌, ◌<◌, ◌≤◌, Bool, false, List, [], ◌∷◌, ◌++◌}
 use Rattle.std.proofs.Common.{refl, ◌∙◌, arith, length}
 use Rattle.std.proofs.lemmas.List.Elements.{All-nil, All-push}
@@ -11,7 +12,7 @@ use Rattle.wcnf.specs.Drafts.{AreMarked}
 
 pub marked-push : (v : ℕ) (marks now : List Bool) (c : List Literal) (l : Literal)
     → AreMarked v marks c → 0 < l.variable → l.variable ≤ v → contains_literal l c ≡ false
-    → length now ≡ length marks → (8 < length (c ++ l ∷ []) → IsMarked now (c ++ l ∷ []))
+    → length now ≡ length marks → (UNMARKED_LENGTH < length (c ++ l ∷ []) → IsMarked now (c ++ l ∷ []))
     → AreMarked v now (c ++ l ∷ [])
 marked-push v marks now c l a p h fresh same marked = record {
   count = same ∙ a.count;

@@ -7,6 +7,7 @@ use Rattle.cnf.specs.Clause.{contains_literal, has_repeat}
 use Rattle.cnf.specs.Marks.{HasPlace, IsMarked}
 use Rattle.cnf.specs.Problem.{Problem, SoftClause}
 use Rattle.cnf.specs.declared.limits.TheConstants.{MOST_LITERALS}
+use Rattle.wcnf.specs.declared.gathering.TheConstants.{UNMARKED_LENGTH}
 use Rattle.wcnf.specs.declared.faults.FaultKind.{FaultKind}
 use Rattle.wcnf.specs.declared.faults.FaultKind.TheVariants.{Literal as LiteralFault, NoZero}
 use Rattle.wcnf.specs.declared.faults.FaultKind.TheVariants.{AfterZero, Variable, TooMany}
@@ -35,7 +36,7 @@ gather g l = record { variables = max g.variables l.variable; literals = with_li
 -- two marks for each variable, and those of the clause's literals are set if it is a long one
 pub record AreMarked (variables : ℕ) (marks : List Bool) (c : List Literal) : Type 0 where
   pub count : length marks ≡ 2 * variables
-  pub marked : 8 < length c → IsMarked marks c
+  pub marked : UNMARKED_LENGTH < length c → IsMarked marks c
   pub places : All (HasPlace (2 * variables)) c
   pub once : has_repeat c ≡ false
 

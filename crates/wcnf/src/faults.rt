@@ -49,3 +49,15 @@ pub struct ReadFault {
     /// The line on which it stands, from 1; 0 for `Memory` and `Read`.
     pub line: u64,
 }
+
+/// A growth was refused. A text of 2^64 lines, which no machine can hand over, counts as one.
+pub(crate) const NO_MEMORY: ReadFault = ReadFault {
+    kind: FaultKind::Memory,
+    line: 0,
+};
+
+/// The reader failed.
+pub(crate) const FAILED: ReadFault = ReadFault {
+    kind: FaultKind::Read,
+    line: 0,
+};

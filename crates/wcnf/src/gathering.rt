@@ -8,6 +8,7 @@ ghost use Rattle.cnf.specs.declared.limits.TheConstants.{MOST_LITERALS};
 ghost use Rattle.cnf.specs.Clause.{contains_literal, has_repeat};
 ghost use Rattle.cnf.specs.Literal.{Literal};
 ghost use Rattle.cnf.specs.Marks.{HasPlace, IsMarked};
+ghost use Rattle.wcnf.specs.declared.gathering.TheConstants.{UNMARKED_LENGTH};
 ghost use Rattle.wcnf.specs.Drafts.{with_literal, emptied, ended_at, gathered_at};
 
 use crate::faults::FaultKind;
@@ -20,7 +21,7 @@ use text::pieces::Tokens;
 use text::words::{Word, read_word};
 
 /// A clause of at most so many literals has no marks.
-const FEW: usize = 8;
+pub(crate) const UNMARKED_LENGTH: usize = 8;
 
 /// The clause that is being read, each literal once, and the greatest variable of the text so far.
 #[derive(Drop)]
@@ -34,6 +35,7 @@ pub(crate) struct Gathering {
 }
 
 impl Model for Gathering {
+    ghost use Rattle.wcnf.specs.declared.gathering.TheConstants.{UNMARKED_LENGTH};
     ghost use Rattle.wcnf.specs.Drafts.{Gathered, AreMarked};
 
     ghost Value = { Gathered };
@@ -97,7 +99,7 @@ impl Gathering {
         requires covered { lit.variable ≤ self.now.variables }
         ensures { result ≡ contains_literal lit self.now.literals }
     {
-        if self.lits.len() > FEW {
+        if self.lits.len() > UNMARKED_LENGTH {
             self.marks.is_marked(lit)
         } else {
             self.lits.contains(&lit)
@@ -179,12 +181,12 @@ fn mark_last(marks: &mut Marks, lits: &[Lit], last: Lit)
     requires place { HasPlace (length marks.old) last }
     ensures len { length marks.new ≡ length marks.old }
     ensures marked { (c : List Literal) → lits.now ≡ c ++ last ∷ []
-        → (8 < length c → IsMarked marks.old c)
-        → 8 < length lits.now → IsMarked marks.new lits.now }
+        → (UNMARKED_LENGTH < length c → IsMarked marks.old c)
+        → UNMARKED_LENGTH < length lits.now → IsMarked marks.new lits.now }
 {
-    if lits.len() > FEW + 1 {
+    if lits.len() > UNMARKED_LENGTH + 1 {
         marks.mark(last);
-    } else if lits.len() > FEW {
+    } else if lits.len() > UNMARKED_LENGTH {
         marks.mark_all(lits);
     }
 }

@@ -7,18 +7,12 @@ ghost use Rattle.wcnf.specs.Reading.{IsFirstFault};
 ghost use Rattle.wcnf.specs.Drafts.{drafted_line};
 ghost use Rattle.wcnf.specs.Parsing.{HasRead, Ends, IsLineFault, Refuses, NoMemory};
 
-use crate::faults::{FaultKind, ReadFault};
+use crate::faults::{FaultKind, NO_MEMORY, ReadFault};
 use crate::rows::Draft;
 use cnf::types::Instance;
 use std::alloc::{AllocError, Global};
 use text::buffer::LineBuffer;
 use text::pieces::split_line;
-
-/// A growth was refused. A text of 2^64 lines, which no machine can hand over, counts as one.
-const NO_MEMORY: ReadFault = ReadFault {
-    kind: FaultKind::Memory,
-    line: 0,
-};
 
 /// What the pieces so far leave.
 #[derive(Drop)]

@@ -2,17 +2,17 @@
 ghost use Rattle.std.specs.Prelude.{◌≡◌, IfOk, IfErr, OnOk, IfSome, Err, is_err, true, false, ◌⊎◌};
 ghost use Rattle.std.specs.Io.KnownBytes.{IsAtEnd};
 ghost use Rattle.cnf.specs.Problem.{Problem};
+ghost use Rattle.wcnf.specs.declared.faults.FaultKind.{FaultKind};
 ghost use Rattle.wcnf.specs.Wcnf.{Reads};
 ghost use Rattle.wcnf.specs.Reading.{IsFirstFault};
 ghost use Rattle.wcnf.specs.Parsing.{IsFaultOf, TellsFailure};
 
-use crate::faults::{FaultKind, ReadFault};
+use crate::faults::{FAILED, ReadFault};
 use crate::parser::Parser;
-use crate::whole::FAILED;
 use cnf::types::Instance;
 use std::alloc::Global;
 use std::io::Read;
-use text::watched::{ReadFailure, WatchedReader};
+use text::watched::{READ_SIZE, ReadFailure, WatchedReader};
 
 /// The instance that a WCNF text reads as, in the form of the MaxSAT Evaluation 2022 or in the
 /// older one with a header.
@@ -98,7 +98,7 @@ pub fn read_watched<R: Read>(
     ensures reader { reader.new.reader.ghost_name ≡ reader.old.reader.ghost_name }
 {
     let mut parser = Parser::new(alloc);
-    let mut chunk = [0u8; 65536];
+    let mut chunk = [0u8; READ_SIZE];
     'pieces: loop {
         let count = match reader.read(&mut chunk) {
             Ok(0) => return parser.finish(),
@@ -120,7 +120,7 @@ fn read_on<R: Read>(reader: &mut WatchedReader<'_, R>) -> Result<(), ReadFault>
     ensures failed { reader.new.has_failed ≡ is_err result }
     ensures reader { reader.new.reader.ghost_name ≡ reader.old.reader.ghost_name }
 {
-    let mut chunk = [0u8; 65536];
+    let mut chunk = [0u8; READ_SIZE];
     'rest: loop {
         match reader.read(&mut chunk) {
             Ok(0) => return Ok(()),

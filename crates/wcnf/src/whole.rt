@@ -2,23 +2,13 @@
 // read from refused memory.
 ghost use Rattle.std.specs.Prelude.{◌≡◌, IfOk, IfErr, IfSome, OnOk, Err, true, false, ◌⊎◌};
 ghost use Rattle.std.specs.Io.KnownBytes.{IsAtEnd};
+ghost use Rattle.wcnf.specs.declared.faults.FaultKind.{FaultKind};
 ghost use Rattle.wcnf.specs.Parsing.{TellsFailure};
 
-use crate::faults::{FaultKind, ReadFault};
+use crate::faults::{FAILED, NO_MEMORY, ReadFault};
 use std::alloc::Global;
 use std::io::Read;
-use text::watched::WatchedReader;
-
-/// The reader failed.
-pub(crate) const FAILED: ReadFault = ReadFault {
-    kind: FaultKind::Read,
-    line: 0,
-};
-
-const NO_MEMORY: ReadFault = ReadFault {
-    kind: FaultKind::Memory,
-    line: 0,
-};
+use text::watched::{READ_SIZE, WatchedReader};
 
 /// The bytes of the reader up to its end.
 ///
@@ -62,7 +52,7 @@ pub fn read_all_watched<R: Read>(
     ensures reader { reader.new.reader.ghost_name ≡ reader.old.reader.ghost_name }
 {
     let mut text = Vec::new(alloc);
-    let mut chunk = [0u8; 65536];
+    let mut chunk = [0u8; READ_SIZE];
     loop {
         let count = match reader.read(&mut chunk) {
             Ok(0) => return Ok(text),

@@ -1,4 +1,5 @@
 -- The clause with one more literal, and its marks.
+use Rattle.wcnf.specs.declared.gathering.TheConstants.{UNMARKED_LENGTH}
 use Rattle.std.proofs.Common.{◌≡◌, ◌<◌, ◌≤◌, ◌∙◌, false, length, ap, sym, subst, arith}
 use Rattle.cnf.specs.Clause.{contains_literal}
 use Rattle.wcnf.specs.Drafts.{Gathered}
@@ -20,4 +21,4 @@ invariant_of-self-2 c =
     rw c.in_ok-push.ensures.items (marked-push s.vars s.marks marks s.lits.items c.args.lit
     c.self.invariant c.requires.from_one small fresh c.mark_last.ensures.len
     (λ h. subst (IsMarked marks) whole (c.mark_last.ensures.marked s.lits.items whole
-    c.self.invariant.marked (subst (λ c. 8 < length c) (sym whole) h))))
+    c.self.invariant.marked (subst (λ c. UNMARKED_LENGTH < length c) (sym whole) h))))
