@@ -1,5 +1,5 @@
-// How often pairs meet, by a table of small counters by a hash (a counting filter, Fan et al. 2000):
-// a counter is never below the number of the clauses with one of its pairs.
+// How often pairs meet, by a table of small counters by a hash (a counting filter, Fan et al.
+// 2000): a counter is never below the number of the clauses with one of its pairs.
 ghost use Rattle.std.specs.Prelude.{◌≤◌};
 
 use std::alloc::{AllocError, Global};
