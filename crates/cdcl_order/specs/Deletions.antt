@@ -20,7 +20,8 @@ pub record Sifted : Type 0 where
   pub standings : StandingsState
   pub rest : List Ranked
 
--- a clause that was used lately loses a use, one of distance KEPT or less stays, another is not spared
+-- a clause that was used lately loses a use, one of distance KEPT or less stays, another is not
+-- spared
 abbrev pub sift_one : Sifted → Candidate → Sifted
 sift_one s c =
     let t = standing_at s.standings c.reference in

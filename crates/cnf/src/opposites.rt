@@ -1,6 +1,6 @@
 // Whether a clause has an opposite pair.
 ghost use Rattle.std.specs.Prelude.{◌≡◌, length, All};
-ghost use Rattle.cnf.specs.Clause.{contains_literal, has_opposites};
+ghost use Rattle.cnf.specs.Clause.{has_opposites};
 ghost use Rattle.cnf.specs.Marks.{HasPlace};
 
 use crate::marks::Marks;
