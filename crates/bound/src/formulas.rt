@@ -33,8 +33,10 @@ pub fn formula(instance: &Instance, k: u64) -> Result<Formula, AllocError>
     requires { k ≤ NUMBER_LIMIT }
     ensures clauses { IfOk result (λ f. f ≡ bound_as Profile.One instance.now k) }
     ensures cheaper { OnOk result (SaysCheaper Profile.One instance.now k) }
-    ensures few { OnOk result (length (bound_as Profile.One instance.now k).clauses < CLAUSE_LIMIT) }
-    ensures without_bound { OnOk result (comparator_for Profile.One instance.now (NUMBER_LIMIT) ≡ []) }
+    ensures few { OnOk result
+        (length (bound_as Profile.One instance.now k).clauses < CLAUSE_LIMIT) }
+    ensures without_bound { OnOk result
+        (comparator_for Profile.One instance.now NUMBER_LIMIT ≡ []) }
 {
     formula_as(instance, k, Profile::One)
 }
@@ -53,7 +55,7 @@ pub fn formula_as(instance: &Instance, k: u64, profile: Profile) -> Result<Formu
     ensures clauses { IfOk result (λ f. f ≡ bound_as profile instance.now k) }
     ensures cheaper { OnOk result (SaysCheaper profile instance.now k) }
     ensures few { OnOk result (length (bound_as profile instance.now k).clauses < CLAUSE_LIMIT) }
-    ensures without_bound { OnOk result (comparator_for profile instance.now (NUMBER_LIMIT) ≡ []) }
+    ensures without_bound { OnOk result (comparator_for profile instance.now NUMBER_LIMIT ≡ []) }
 {
     instance.limits();
     let mut clauses = ClauseList::new(instance.allocator());

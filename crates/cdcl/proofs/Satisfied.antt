@@ -139,7 +139,8 @@ extends_agrees n bits t within ext (suc v) one low =
 
 -- The answers.
 
--- the bits of a quiet trail without open variables, on the way back, satisfy all that was given
+-- the bits of a quiet trail without open variables, after reconstruction, satisfy all that was
+-- given
 pub answer_sat : (e : EngineState) (slots : Slots) (stack : StackState) (t : Tables)
     (frozen : List Bool) (first : ℕ) (given : Given) (ls : List LogLine) (bits : List Bool)
     → IsRunning e slots stack t frozen first given ls → IsQuiet slots (literals_of e.trail)

@@ -18,8 +18,8 @@ use cdcl_search::search::Search;
 use cnf::types::Lit;
 use std::alloc::AllocError;
 
-/// The values of the formula's variables: those of the trail, with the eliminated ones set on the
-/// way back.
+/// The values of the formula's variables: those of the trail, with the eliminated ones set by
+/// reconstruction.
 pub(crate) fn bits(search: &Search, input: &Input) -> Result<Vec<bool>, AllocError>
     requires runs { (ls : List LogLine) × Runs search.now input.now ls }
     requires input { IsInput input.now }
@@ -51,7 +51,7 @@ fn read_values(search: &Search) -> Result<Vec<bool>, AllocError>
     Ok(bits)
 }
 
-/// Sets the eliminated variables on the way back, and keeps those of the formula.
+/// Sets the eliminated variables by reconstruction, and keeps those of the formula.
 fn set_eliminated(input: &Input, bits: &mut Vec<bool>)
     requires { length bits.old.items ≡ input.now.stack.variables }
     ensures { bits.new.items ≡ take (length input.now.frozen.items)

@@ -78,7 +78,7 @@ pub(crate) enum Choice {
 
 /// How far a search under assumptions has come. No answer rests on it.
 #[derive(Drop)]
-pub(crate) struct Progress<'a> {
+pub(crate) struct AssumptionProgress<'a> {
     // The assumptions before this one are true.
     next: usize,
     // By level, that of 1 first, as far as assumptions opened them: which assumption did. It has
@@ -92,14 +92,14 @@ pub(crate) struct Progress<'a> {
     passed: &'a mut Passed,
 }
 
-impl<'a> Progress<'a> {
+impl<'a> AssumptionProgress<'a> {
     fn new(
         alloc: Global,
         count: usize,
         share: Share,
         passed: &'a mut Passed,
     ) -> Result<Self, AllocError> {
-        Ok(Progress {
+        Ok(AssumptionProgress {
             next: 0,
             opened: Vec::with_capacity(alloc, count)?,
             learned: share.learned,
@@ -138,7 +138,11 @@ impl<'a> Progress<'a> {
 }
 
 /// The first assumption from this one on that is not true.
-fn untrue_from(engine: &Engine, assumptions: &[Lit], progress: &mut Progress<'_>) -> Untrue
+fn untrue_from(
+    engine: &Engine,
+    assumptions: &[Lit],
+    progress: &mut AssumptionProgress<'_>,
+) -> Untrue
     requires { All (λ l. l.variable ≤ engine.now.variables) assumptions.now }
     ensures { IsUntrue engine.now.trail assumptions.now result }
 {
@@ -221,7 +225,7 @@ fn descend_assuming<S: Sink, W: Watch>(
     ensures quiet { W.seen watch.new ≡ W.seen watch.old }
 {
     let alloc = search.store.allocator();
-    let mut progress = Progress::new(alloc, assumptions.len(), share, passed)?;
+    let mut progress = AssumptionProgress::new(alloc, assumptions.len(), share, passed)?;
     'rounds: loop {
         match round_assuming(
             search,
@@ -248,7 +252,7 @@ fn round_assuming<S: Sink, W: Watch>(
     watch: &mut W,
     assumptions: &[Lit],
     share: Share,
-    progress: &mut Progress<'_>,
+    progress: &mut AssumptionProgress<'_>,
 ) -> Result<Option<Halt>, AllocError>
     requires runs { Runs search.old input.now (S.lines sink.old) }
     requires known { AreKnown input.now.stack.variables assumptions.now }
@@ -283,7 +287,7 @@ fn learn_assuming<S: Sink, W: Watch>(
     assumptions: &[Lit],
     conflict: CRef,
     share: Share,
-    progress: &mut Progress<'_>,
+    progress: &mut AssumptionProgress<'_>,
 ) -> Result<Option<Halt>, AllocError>
     requires runs { Runs search.old input.now (S.lines sink.old) }
     requires conflict { IsFalseClause search.old.store.slots search.old.engine conflict }
@@ -317,7 +321,7 @@ fn decide_assuming<S: Sink>(
     budget: &mut Budget,
     assumptions: &[Lit],
     share: Share,
-    progress: &mut Progress<'_>,
+    progress: &mut AssumptionProgress<'_>,
 ) -> Result<Option<Halt>, AllocError>
     requires runs { Runs search.old input.now (S.lines sink.old) }
     requires quiet { IsQuiet search.old.store.slots (literals_of search.old.engine.trail) }
@@ -344,7 +348,7 @@ fn pass_and_choose<S: Sink>(
     sink: &mut S,
     budget: &mut Budget,
     assumptions: &[Lit],
-    progress: &mut Progress<'_>,
+    progress: &mut AssumptionProgress<'_>,
 ) -> Result<Option<Halt>, AllocError>
     requires runs { Runs search.old input.now (S.lines sink.old) }
     requires quiet { IsQuiet search.old.store.slots (literals_of search.old.engine.trail) }
@@ -365,7 +369,7 @@ fn choose<S: Sink>(
     sink: &mut S,
     budget: &mut Budget,
     assumptions: &[Lit],
-    progress: &mut Progress<'_>,
+    progress: &mut AssumptionProgress<'_>,
 ) -> Result<Option<Halt>, AllocError>
     requires runs { Runs search.old input.now (S.lines sink.old) }
     requires quiet { IsQuiet search.old.store.slots (literals_of search.old.engine.trail) }
@@ -393,7 +397,11 @@ fn choose<S: Sink>(
 }
 
 /// Decides the next assumption, or a variable beside the assumptions where all are true.
-fn decide_next(search: &mut Search, assumptions: &[Lit], progress: &mut Progress<'_>) -> Choice
+fn decide_next(
+    search: &mut Search,
+    assumptions: &[Lit],
+    progress: &mut AssumptionProgress<'_>,
+) -> Choice
     requires ready { IsReady search.old }
     requires quiet { IsQuiet search.old.store.slots (literals_of search.old.engine.trail) }
     requires noted { length (zero_of search.old.engine.trail) ≤ search.old.noted }
@@ -416,7 +424,11 @@ fn decide_next(search: &mut Search, assumptions: &[Lit], progress: &mut Progress
 }
 
 /// Decides a variable beside the assumptions.
-fn branch_beside(search: &mut Search, assumptions: &[Lit], progress: &mut Progress<'_>) -> Choice
+fn branch_beside(
+    search: &mut Search,
+    assumptions: &[Lit],
+    progress: &mut AssumptionProgress<'_>,
+) -> Choice
     requires ready { IsReady search.old }
     requires quiet { IsQuiet search.old.store.slots (literals_of search.old.engine.trail) }
     requires noted { length (zero_of search.old.engine.trail) ≤ search.old.noted }
@@ -444,7 +456,7 @@ fn branch_beside(search: &mut Search, assumptions: &[Lit], progress: &mut Progre
 fn pass_false(
     search: &mut Search,
     assumptions: &[Lit],
-    progress: &mut Progress<'_>,
+    progress: &mut AssumptionProgress<'_>,
 ) -> Result<(), AllocError>
     requires ready { IsReady search.old }
     requires known { AreKnown search.old.engine.variables assumptions.now }
@@ -463,7 +475,11 @@ fn pass_false(
 }
 
 /// Passes over an assumption that is false.
-fn pass(search: &mut Search, falsified: Lit, progress: &mut Progress<'_>) -> Result<(), AllocError>
+fn pass(
+    search: &mut Search,
+    falsified: Lit,
+    progress: &mut AssumptionProgress<'_>,
+) -> Result<(), AllocError>
     requires ready { IsReady search.old }
     requires small { falsified.variable ≤ search.old.engine.variables }
     requires falsified { value_in search.old.engine.trail falsified ≡ Some false }

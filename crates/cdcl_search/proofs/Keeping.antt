@@ -1,4 +1,4 @@
--- Clauses that stay: the way back to what was given, and the empty clause.
+-- Clauses that stay: reconstruction of what was given, and the empty clause.
 use Rattle.std.proofs.Common.{◌≡◌, ◌≢◌, ℕ, ◌+◌, ◌≤◌, Bool, true, false, List, [], ◌∷◌, ◌++◌, length}
 use Rattle.std.proofs.Common.{set, Option, Some, None, sym, ◌∙◌, ap, arith}
 use Rattle.std.specs.Prelude.{All}
@@ -97,7 +97,7 @@ pub not_kept : (kept additions : ℕ) → kept ≤ additions
     → is_kept_name kept (Added (additions + 1)) ≡ false
 not_kept kept additions h = lt-leb (additions + 1) kept (omega arith)
 
--- one more clause is given, and stays: what satisfies it satisfies it also after the way back
+-- one more clause is given, and stays: what satisfies it satisfies it also after reconstruction
 pub back_given : (slots : Slots) (names : List Name) (n : Name) (c : List Literal) (kept : ℕ)
     (stack : StackState) (given : Given) → length names ≡ length slots → is_kept_name kept n ≡ true
     → ((bits : List Bool) → length bits ≡ stack.variables → Satisfies (assignment_of bits) c

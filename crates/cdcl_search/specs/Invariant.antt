@@ -88,7 +88,7 @@ pub record NotesUnits (slots : Slots) (zero : List Literal) (depth : ℕ) (units
 abbrev pub zero_of : List Assigned → List Literal
 zero_of trail = literals_of (kept_to 0 trail)
 
--- The way back to the clauses given.
+-- Reconstruction of the clauses given.
 
 -- a clause that was given, or that `eliminate` added: it is never deleted later
 abbrev pub is_kept_name : ℕ → Name → Bool

@@ -8,13 +8,11 @@ ghost use Rattle.lrat_log.specs.Log.{clauses_in};
 ghost use Rattle.lrat_log.specs.Steps.{given_of};
 
 use cnf::clause_list::ClauseList;
+use cnf::limits::MOST_PLACES;
 use cnf::types::Lit;
 use lrat_log::lines::{Name, Number};
 use std::alloc::AllocError;
 use std::marker::Model;
-
-/// There are at most so many clauses; one more counts as a refused growth.
-const MOST: usize = 4_294_967_295;
 
 /// A list of clauses with their names, each that of a clause of the formula.
 #[derive(Drop)]
@@ -52,7 +50,7 @@ impl GivenClauses {
         ensures err { IsErr result → 2 ^ 32 ≤ length clauses }
     {
         let first = clauses.len();
-        if first > MOST {
+        if first > MOST_PLACES {
             return Err(AllocError);
         }
         Ok(GivenClauses {
@@ -99,7 +97,7 @@ impl GivenClauses {
         ensures ok { OnOk result (self.new ≡ self.old ++ (Formula number, lits.now) ∷ []) }
         ensures err { OnErr result (self.new ≡ self.old) }
     {
-        if self.clauses.len() >= MOST {
+        if self.clauses.len() >= MOST_PLACES {
             return Err(AllocError);
         }
         // Room comes first, so that a refused growth changes nothing.

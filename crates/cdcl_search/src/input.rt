@@ -2,7 +2,7 @@
 use crate::given::GivenClauses;
 use eliminate::elimination::Stack;
 
-/// The clauses given, and the way back to them from what elimination left. Much of a search is
+/// The clauses given, and their reconstruction from what elimination left. Much of a search is
 /// handed it and reads none of it: contracts speak of it. A ghost value would do for that, but a
 /// generic function that has one leaves its proof no names for what it requires.
 #[derive(Drop)]

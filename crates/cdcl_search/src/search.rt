@@ -166,7 +166,7 @@ impl Search {
         self.policy.start_over();
     }
 
-    /// The policy sees what the last analysis taught, before the way back. It answers how many
+    /// The policy sees what the last analysis taught, before backtracking. It answers how many
     /// levels above 0 the clause's literals stand in.
     pub(crate) fn learn_from(&mut self, learned: &Learned) -> u32
         requires ready { IsReady self.old }

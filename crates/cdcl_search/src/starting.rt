@@ -11,7 +11,6 @@ use analyze::analyzer::Analyzer;
 use cdcl_order::policy::Policy;
 use clauses::store::{MaybeCRef, Store};
 use cnf::clause_list::ClauseList;
-use cnf::types::Formula;
 use eliminate::elimination::Stack;
 use propagate::engine::Engine;
 use std::alloc::AllocError;

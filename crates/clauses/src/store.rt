@@ -12,13 +12,10 @@ ghost use Rattle.clauses.specs.Slots.{IsRenaming};
 use crate::compaction::compact;
 use crate::heads::{ClauseSpan, Heads};
 use crate::words::MaybeWord;
+use cnf::limits::MOST_PLACES;
 use cnf::types::Lit;
 use std::alloc::{AllocError, Global};
 use std::marker::Model;
-
-/// A store has at most so many references and literals; what would go beyond counts as a refused
-/// growth.
-const MOST: usize = 4_294_967_295;
 
 /// Names a clause of a store: its place among all that were added, counted from 0, where a
 /// compaction closes the gaps of those that were deleted. It takes four bytes.
@@ -141,7 +138,7 @@ impl Store {
     {
         let start = self.literals.len();
         let place = self.heads.len();
-        if place >= MOST || lits.len() > MOST - start {
+        if place >= MOST_PLACES || lits.len() > MOST_PLACES - start {
             return Err(AllocError);
         }
         let span = ClauseSpan {
@@ -195,7 +192,7 @@ impl Store {
         ensures live { IfSome result (λ r. (r ≡ place) × IsLive self.now.slots r) }
         ensures none { result ≡ None → clause_at self.now.slots place ≡ None }
     {
-        if place < MOST && self.heads.is_live(place) {
+        if place < MOST_PLACES && self.heads.is_live(place) {
             Some(CRef {
                 place: place as u32,
             })

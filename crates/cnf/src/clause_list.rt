@@ -5,13 +5,10 @@ ghost use Rattle.std.specs.Iterator.{YieldsFirstRef, item_count};
 ghost use Rattle.std.specs.List.{flat_map};
 ghost use Rattle.cnf.specs.Flat.{start_at};
 
+use crate::limits::MOST_PLACES;
 use crate::types::Lit;
 use std::alloc::{AllocError, Global};
 use std::marker::Model;
-
-/// There are at most so many literals, so that their places fit 32 bits; one more counts as a
-/// refused growth.
-const MOST: usize = 4_294_967_295;
 
 /// A list of clauses, which are lists of literals. Their literals stand in one vector, one clause
 /// after another.
@@ -73,7 +70,7 @@ impl ClauseList {
         ensures err { OnErr result (self.new ≡ self.old) }
     {
         let start = self.lits.len();
-        if lits.len() > MOST - start {
+        if lits.len() > MOST_PLACES - start {
             return Err(AllocError);
         }
         // Room comes first, so that a refused growth changes nothing.

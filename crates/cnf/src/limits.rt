@@ -24,3 +24,7 @@ pub const MOST_SOFT: usize = 1 << 18;
 
 /// How many literals a text may have, repeats too.
 pub const MOST_LITERALS: usize = 1 << 26;
+
+/// What lies in flat memory has at most so many places, which take 32 bits each; one more counts as
+/// a refused growth.
+pub const MOST_PLACES: usize = 4_294_967_295;

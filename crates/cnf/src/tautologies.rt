@@ -1,6 +1,6 @@
 // Whether a clause has complementary literals.
 ghost use Rattle.std.specs.Prelude.{◌≡◌, length, All};
-ghost use Rattle.cnf.specs.Clause.{contains_literal, is_tautology};
+ghost use Rattle.cnf.specs.Clause.{is_tautology};
 ghost use Rattle.cnf.specs.Marks.{HasPlace};
 
 use crate::marks::Marks;

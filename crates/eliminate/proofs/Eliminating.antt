@@ -1,5 +1,5 @@
 -- A variable goes: the clauses with it are deleted once their resolvents are there, and those with
--- the variable itself are kept for the way back.
+-- the variable itself are kept for reconstruction.
 use Rattle.std.proofs.Common.{◌≡◌, ℕ, ◌-◌, ◌≤◌, Bool, true, false, ◌||◌, List, [], ◌∷◌, ◌++◌}
 use Rattle.std.proofs.Common.{length, get_or, Some, ◌⊎◌, inl, inr, refl, sym, ◌∙◌, ap, subst, arith}
 use Rattle.std.specs.Prelude.{All, Contains, slice_set, ◌==◌}

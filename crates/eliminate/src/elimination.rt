@@ -1,4 +1,4 @@
-// Elimination, and the way back.
+// Elimination and reconstruction.
 ghost use Rattle.std.specs.Prelude.{◌≡◌, ℕ, ◌+◌, ◌-◌, ◌<◌, ◌≤◌, ◌^◌, false, []};
 ghost use Rattle.std.specs.Prelude.{length, map, Some, slice_get, All, Contains, IfOk, OnOk};
 ghost use Rattle.std.specs.List.{enumerate_from};
@@ -66,7 +66,7 @@ impl Stack {
         &self.names
     }
 
-    /// Takes the names out: the way back needs none.
+    /// Takes the names out: reconstruction needs none.
     pub fn take_names(&mut self) -> Vec<PackedName>
         ensures taken { enumerate_from 0 result.items ≡ self.old.names }
         ensures rest { self.new ≡ record self.old { names = [] } }

@@ -234,8 +234,8 @@ fn add_resolvents_of<S: Sink>(
     Ok(())
 }
 
-/// Takes the variable out, whose resolvents are all there: its clauses are kept for the way back,
-/// and deleted. Only the contract reads `frozen`.
+/// Takes the variable out, whose resolvents are all there: its clauses are kept for
+/// reconstruction, and deleted. Only the contract reads `frozen`.
 fn remove_variable<S: Sink>(
     simplifier: &mut Simplifier,
     store: &mut Store,

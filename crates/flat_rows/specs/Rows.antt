@@ -1,6 +1,7 @@
 -- A list of rows of any entries.
 use Rattle.std.specs.Prelude.{◌≡◌, ℕ, ◌*◌, ◌-◌, ◌^◌, List, [], ◌++◌, length, min, max}
 use Rattle.std.specs.Prelude.{slice_index_or, slice_set, take, drop}
+use Rattle.flat_rows.specs.declared.rows.TheConstants.{FIRST_ROOM}
 
 abbrev pub row_at : {A : Type 0} → List (List A) → ℕ → List A
 row_at rows i = slice_index_or rows i []
@@ -24,6 +25,6 @@ room_at rooms i = slice_index_or rooms i 0
 abbrev pub IsFull : {A : Type 0} → Roomed A → ℕ → Type 0
 IsFull r i = length (row_at r.rows i) ≡ room_at r.rooms i
 
--- the room of a row that is full: four places at first, and at most 2^32 - 1
+-- the room of a row that is full: `FIRST_ROOM` at first, and at most 2^32 - 1
 abbrev pub doubled_room : ℕ → ℕ
-doubled_room room = max (min (room * 2) (2 ^ 32 - 1)) 4
+doubled_room room = max (min (room * 2) (2 ^ 32 - 1)) FIRST_ROOM

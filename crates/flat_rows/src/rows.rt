@@ -32,7 +32,7 @@ const NO_ROW: RowHead = RowHead {
 };
 
 /// The room, in entries, that a row gets with its first entry.
-const FIRST_ROOM: u32 = 4;
+pub const FIRST_ROOM: u32 = 4;
 
 /// A list of entries for each row. A row without room left moves to the end of what is in use,
 /// where it has twice its room; a block without room left is copied to a larger one.

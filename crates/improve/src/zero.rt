@@ -15,7 +15,7 @@ use std::alloc::{AllocError, Global};
 
 /// A log that refutes a formula.
 #[derive(Drop)]
-pub struct Refutation {
+pub struct RefutingLog {
     /// It ends with a line that adds the empty clause.
     pub log: Log,
     /// How many clauses the formula has, fewer than 2^28.
@@ -23,7 +23,7 @@ pub struct Refutation {
 }
 
 /// Refutes the formula for 'cost below 0'.
-pub fn refute_zero(instance: &Instance, profile: Profile) -> Result<Refutation, AllocError>
+pub fn refute_zero(instance: &Instance, profile: Profile) -> Result<RefutingLog, AllocError>
     ensures accepted { IfOk result
         (λ r. IsAcceptedOver (bound_as profile instance.now 0).clauses r.log) }
     ensures counted { IfOk result
@@ -32,7 +32,7 @@ pub fn refute_zero(instance: &Instance, profile: Profile) -> Result<Refutation, 
     let formula = formula_as(instance, 0, profile)?;
     let clauses = formula.clauses().len() as u64;
     let log = repeat_empty(instance.allocator(), clauses)?;
-    Ok(Refutation { log, clauses })
+    Ok(RefutingLog { log, clauses })
 }
 
 /// A log whose one line adds the empty clause, since the formula has it under this number.

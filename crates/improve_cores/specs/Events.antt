@@ -6,8 +6,8 @@ use Rattle.cores.specs.declared.counting.CoreFault.{CoreFault}
 use Rattle.improve_cores.specs.CoreWork.{CoreWork, IsModelOf}
 use Rattle.improve_cores.specs.declared.searching.Event.{Event}
 use Rattle.improve_cores.specs.declared.searching.Event.TheVariants.{Model, Closed, Over}
-use Rattle.improve_cores.specs.declared.searching.Step.{Step}
-use Rattle.improve_cores.specs.declared.searching.Step.TheVariants.{Model as Met, On, Over as Ended}
+use Rattle.improve_cores.specs.declared.searching.SearchStep.{SearchStep}
+use Rattle.improve_cores.specs.declared.searching.SearchStep.TheVariants.{Model as Met, On, Over as Ended}
 use Rattle.improve_cores.specs.declared.counted.Counted.{Counted}
 
 -- a model satisfies the formula
@@ -16,7 +16,7 @@ IsEventOf w (Model bits) = IsModelOf w.formula bits.items
 IsEventOf w Closed = ⊤
 IsEventOf w Over = ⊤
 
-abbrev pub IsStepOf : CoreWork → Step → Type 0
+abbrev pub IsStepOf : CoreWork → SearchStep → Type 0
 IsStepOf w (Met bits) = IsModelOf w.formula bits.items
 IsStepOf w On = ⊤
 IsStepOf w Ended = ⊤

@@ -219,16 +219,20 @@ impl CoreSearch {
                 return Ok(Event::Over);
             }
             match self.step(budget, watch)? {
-                Step::Model(bits) => return Ok(Event::Model(bits)),
-                Step::On => {}
-                Step::Over => return Ok(Event::Over),
+                SearchStep::Model(bits) => return Ok(Event::Model(bits)),
+                SearchStep::On => {}
+                SearchStep::Over => return Ok(Event::Over),
             }
         }
         Ok(Event::Over)
     }
 
     /// One search under the assumptions of the stratum, and what follows from its answer.
-    fn step<W: Watch>(&mut self, budget: &mut Budget, watch: &mut W) -> Result<Step, AllocError>
+    fn step<W: Watch>(
+        &mut self,
+        budget: &mut Budget,
+        watch: &mut W,
+    ) -> Result<SearchStep, AllocError>
         ensures formula { KeepsFormula self.old self.new }
         ensures step { IfOk result (IsStepOf self.new) }
         ensures learned { CountsLearned self.old.lines self.new.lines budget.old budget.new }
@@ -247,25 +251,25 @@ impl CoreSearch {
             Assumed::Sat(bits) => {
                 self.policy.after_model()?;
                 self.give()?;
-                Ok(Step::Model(bits))
+                Ok(SearchStep::Model(bits))
             }
             Assumed::Core(core) => {
                 self.take(&core, budget, watch)?;
                 self.give()?;
-                Ok(Step::On)
+                Ok(SearchStep::On)
             }
             Assumed::Open if passed.clauses.len() > 0 => {
                 self.take_all(&passed.clauses, budget, watch)?;
                 self.give()?;
-                Ok(Step::On)
+                Ok(SearchStep::On)
             }
-            Assumed::Open if self.policy.outlook.until_look() == 0 => Ok(Step::On),
+            Assumed::Open if self.policy.outlook.until_look() == 0 => Ok(SearchStep::On),
             Assumed::Open if self.policy.may_leave() => {
                 self.policy.leave_stratum()?;
                 self.give()?;
-                Ok(Step::On)
+                Ok(SearchStep::On)
             }
-            Assumed::Unsat | Assumed::Open | Assumed::Limit => Ok(Step::Over),
+            Assumed::Unsat | Assumed::Open | Assumed::Limit => Ok(SearchStep::Over),
         }
     }
 
@@ -327,7 +331,7 @@ impl CoreSearch {
 
 /// What one search has led to.
 #[derive(Drop)]
-enum Step {
+enum SearchStep {
     /// Bits that satisfy the hard clauses, and all assumptions of the stratum.
     Model(Vec<bool>),
     /// A core.

@@ -1,7 +1,7 @@
 // The literals that are true, with tables by which a value, a level or a reason is found in one
 // step.
 //
-// A search writes here for each literal that becomes true (`push`) and for each that a way back
+// A search writes here for each literal that becomes true (`push`) and for each that backtracking
 // takes away (`undo`), some 900 times a conflict each. There is room for all variables, so `push`
 // asks for none, and it is inlined where the reason is known. `undo` goes over the end of the trail
 // once, 14 instructions a literal: literals that are popped one by one, each with the count of

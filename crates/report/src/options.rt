@@ -266,39 +266,52 @@ With --profile 5: prints the formula that the lines of CERTIFICATE
 after its core lines refute, if they show that nothing costs less than
 COST";
 
-/// What is found under these names where a command line was read. First the commands.
+/// The command that solves an instance.
 pub const SOLVE: &str = "solve";
 
+/// The command that checks a result and its certificate.
 pub const CHECK: &str = "check";
 
+/// The command that says what a certificate proves by itself.
 pub const LOWER: &str = "lower";
 
+/// The command that says what a result gives up, or how large an instance is.
 pub const EXPLAIN: &str = "explain";
 
+/// The command that prints the formula that a certificate refutes.
 pub const ENCODE: &str = "encode";
 
-/// Their files, and the bound of `encode`.
+/// The instance, which each command reads.
 pub const FILE: &str = "FILE";
 
+/// The result that is checked or explained.
 pub const RESULT: &str = "RESULT";
 
+/// The certificate that is checked, or says how much it proves.
 pub const PROOF: &str = "PROOF";
 
+/// The cost that solutions of the printed formula stay below.
 pub const COST: &str = "COST";
 
-/// Their options.
+/// The greatest effort of a search.
 pub const CONFLICTS_OPTION: &str = "conflicts";
 
+/// The file that the certificate is written to.
 pub const PROOF_OPTION: &str = "proof";
 
+/// The file that keeps the best solution so far, from which the next run goes on.
 pub const BEST_OPTION: &str = "best";
 
+/// The file that keeps what the cores proved so far.
 pub const LOWER_OPTION: &str = "lower";
 
+/// The result that a search begins with.
 pub const FROM_OPTION: &str = "from";
 
+/// Whether the search tells on standard error how far it is.
 pub const PROGRESS_OPTION: &str = "progress";
 
+/// The profile, which says which clauses stand for 'cheaper'.
 pub const PROFILE_OPTION: &str = "profile";
 
 /// A file that has to be named.
