@@ -1,7 +1,7 @@
 -- The lines of a log that lies flat in memory.
 use Rattle.std.proofs.Common.{◌≡◌, ℕ, zero, suc, ◌+◌, ◌-◌, ◌<◌, ◌≤◌, ◌^◌, List, [], ◌∷◌, ◌++◌}
 use Rattle.std.proofs.Common.{length, get_or, refl, sym, ◌∙◌, ap, subst, arith, add-one}
-use Rattle.std.proofs.Common.{length-append}
+use Rattle.std.proofs.Common.{length-append, length-drop, length-take-le, drop}
 use Rattle.std.specs.Prelude.{Some, slice_get, slice_range}
 use Rattle.std.proofs.lemmas.List.Elements.{All-append, All-cons, All-nil}
 use Rattle.std.proofs.lemmas.Option.{get_or_from_slice_get}
@@ -11,7 +11,7 @@ use Rattle.lrat_log.specs.declared.lines.Hint.{Hint}
 use Rattle.lrat_log.specs.declared.heads.LineHead.{LineHead}
 use Rattle.lrat_log.specs.Log.{LogLine, IsLine, IsLog, line_at}
 use Rattle.lrat_log.specs.Flat.{lines_from, lines_in, AreEndsFrom, IsFlat, lits_before}
-use Rattle.lrat_log.specs.Flat.{hints_before}
+use Rattle.lrat_log.specs.Flat.{hints_before, lits_on, hints_on}
 
 pub length-lines_from : (i j : ℕ) (hs : List LineHead) (lits : List Literal) (hints : List Hint)
     → length (lines_from i j hs lits hints) ≡ length hs
@@ -99,6 +99,72 @@ module _ (hs : List LineHead) (lits : List Literal) (hints : List Hint) (k s e :
   pub hints-line_at : s ≡ hints_before 0 hs k → e ≡ hints_before 0 hs (k + 1)
       → Placed hints s e (line_at (lines_from 0 0 hs lits hints) k).hints
   hints-line_at p q = rw (p, q, add-one) (hints_placed 0 0 hs lits hints k ends lt)
+
+-- as many as the lines have
+length-range : {X : Type 0} (xs : List X) (i n : ℕ) → i ≤ n → n ≤ length xs
+    → length (slice_range xs i n) ≡ n - i
+length-range xs i n le within =
+    length-take-le (n - i) (drop i xs) (omega (arith, length-drop i xs))
+
+lits_on-before : (i j : ℕ) (hs : List LineHead) (lits : List Literal) (hints : List Hint) (k : ℕ)
+    → AreEndsFrom i j hs lits hints → k ≤ length hs
+    → i + lits_on (lines_from i j hs lits hints) k ≡ lits_before i hs k
+lits_on-before i j hs lits hints zero ends le = omega arith
+lits_on-before i j [] lits hints (suc k) ends le = absurd (omega arith)
+lits_on-before i j (h ∷ hs) lits hints (suc k) ends le =
+    let len = length-range lits i h.lits_end ends.0 ends.1 in
+    let rest = lits_on-before h.lits_end h.hints_end hs lits hints k ends.4 (omega arith) in
+    omega (arith, ends.0)
+
+hints_on-before : (i j : ℕ) (hs : List LineHead) (lits : List Literal) (hints : List Hint) (k : ℕ)
+    → AreEndsFrom i j hs lits hints → k ≤ length hs
+    → j + hints_on (lines_from i j hs lits hints) k ≡ hints_before j hs k
+hints_on-before i j hs lits hints zero ends le = omega arith
+hints_on-before i j [] lits hints (suc k) ends le = absurd (omega arith)
+hints_on-before i j (h ∷ hs) lits hints (suc k) ends le =
+    let len = length-range hints j h.hints_end ends.2 ends.3 in
+    let rest = hints_on-before h.lits_end h.hints_end hs lits hints k ends.4 (omega arith) in
+    omega (arith, ends.2)
+
+-- a line whose literals and hints begin where those before end
+module _ (hs : List LineHead) (lits : List Literal) (hints : List Hint) (k : ℕ) (h : LineHead)
+    (ends : AreEndsFrom 0 0 hs lits hints) (lt : k < length hs)
+    (is : slice_get hs k ≡ Some h) where
+  abbrev all : List LogLine
+  all = lines_from 0 0 hs lits hints
+
+  head : get_or hs k h ≡ h
+  head = get_or_from_slice_get hs k h h is
+
+  lits_end_is : h.lits_end ≡ lits_before 0 hs (k + 1)
+  lits_end_is =
+      rw add-one (ap (λ (x : LineHead). x.lits_end) (sym head) ∙ lits_before-suc 0 hs k h lt)
+
+  hints_end_is : h.hints_end ≡ hints_before 0 hs (k + 1)
+  hints_end_is =
+      rw add-one (ap (λ (x : LineHead). x.hints_end) (sym head) ∙ hints_before-suc 0 hs k h lt)
+
+  pub lits_from : (s : ℕ) → s ≡ lits_on (lines_from 0 0 hs lits hints) k
+      → Placed lits s h.lits_end (line_at (lines_from 0 0 hs lits hints) k).clause
+  lits_from s p =
+      let before = lits_on-before 0 0 hs lits hints k ends (omega arith) in
+      clause-line_at hs lits hints k s h.lits_end ends lt (omega arith) lits_end_is
+
+  pub hints_from : (s : ℕ) → s ≡ hints_on (lines_from 0 0 hs lits hints) k
+      → Placed hints s h.hints_end (line_at (lines_from 0 0 hs lits hints) k).hints
+  hints_from s p =
+      let before = hints_on-before 0 0 hs lits hints k ends (omega arith) in
+      hints-line_at hs lits hints k s h.hints_end ends lt (omega arith) hints_end_is
+
+  pub lits_to : h.lits_end ≡ lits_on (lines_from 0 0 hs lits hints) (k + 1)
+  lits_to =
+      let after = lits_on-before 0 0 hs lits hints (k + 1) ends (omega arith) in
+      omega (arith, lits_end_is)
+
+  pub hints_to : h.hints_end ≡ hints_on (lines_from 0 0 hs lits hints) (k + 1)
+  hints_to =
+      let after = hints_on-before 0 0 hs lits hints (k + 1) ends (omega arith) in
+      omega (arith, hints_end_is)
 
 -- a line more
 pub lines_from-push : (i j : ℕ) (hs : List LineHead) (lits more_lits : List Literal)

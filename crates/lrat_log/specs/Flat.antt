@@ -1,6 +1,6 @@
 -- How a log lies in memory: the literals of all lines in one list, their hints in another, and for
 -- each line where its own end.
-use Rattle.std.specs.Prelude.{◌≡◌, ℕ, zero, suc, ◌≤◌, List, [], ◌∷◌, length, slice_range}
+use Rattle.std.specs.Prelude.{◌≡◌, ℕ, zero, suc, ◌+◌, ◌≤◌, List, [], ◌∷◌, length, slice_range}
 use Rattle.cnf.specs.Literal.{Literal}
 use Rattle.lrat_log.specs.declared.lines.Hint.{Hint}
 use Rattle.lrat_log.specs.declared.heads.LineHead.{LineHead}
@@ -41,3 +41,14 @@ abbrev pub hints_before : ℕ → List LineHead → ℕ → ℕ
 hints_before j hs zero = j
 hints_before j [] (suc k) = j
 hints_before j (h ∷ hs) (suc k) = hints_before h.hints_end hs k
+
+-- how many literals, and hints, the first k lines of a log have
+abbrev pub lits_on : List LogLine → ℕ → ℕ
+lits_on ls zero = 0
+lits_on [] (suc k) = 0
+lits_on (l ∷ ls) (suc k) = length l.clause + lits_on ls k
+
+abbrev pub hints_on : List LogLine → ℕ → ℕ
+hints_on ls zero = 0
+hints_on [] (suc k) = 0
+hints_on (l ∷ ls) (suc k) = length l.hints + hints_on ls k

@@ -13,9 +13,9 @@ ghost use Rattle.text.specs.LratText.{IsTextOf};
 ghost use Rattle.text.specs.Writing.{AppendsPart, PassesOn};
 ghost use Rattle.lrat_log.specs.Steps.{HoldsAtEachBase, added_count};
 ghost use Rattle.lrat_log.specs.Log.{LogLine, IsLine, IsLog, HasSmallIds, line_at, numbered_lines};
-ghost use Rattle.lrat_log.specs.Log.{text_of};
+ghost use Rattle.lrat_log.specs.Log.{text_of, id_of, name_of};
 ghost use Rattle.lrat_log.specs.Texts.{line_text, numbered_after, last_after};
-ghost use Rattle.lrat_log.specs.Flat.{lits_before, hints_before};
+ghost use Rattle.lrat_log.specs.Flat.{lits_before, hints_before, lits_on, hints_on};
 
 use crate::heads::{HeadList, LineHead};
 use crate::hints::{HintList, HintSlice};
@@ -134,6 +134,55 @@ impl Log {
         let (_, end) = find_ends(&self.heads, line + 1);
         self.hints.part(start, end)
     }
+
+    /// The line in this place, whose literals and hints begin where those of the line before end;
+    /// and where its own end.
+    fn line_from(&self, line: usize, start: Ends) -> (LineSlice<'_>, Ends)
+        requires line { line < length self.now }
+        requires lits { start.lits ≡ lits_on self.now line }
+        requires hints { start.hints ≡ hints_on self.now line }
+        ensures line { result.0 ≡ line_at self.now line }
+        ensures is_line { IsLine (line_at self.now line) }
+        ensures lits { (result.1).lits ≡ lits_on self.now (line + 1) }
+        ensures hints { (result.1).hints ≡ hints_on self.now (line + 1) }
+    {
+        let head = self.heads.get(line);
+        let end = Ends {
+            lits: head.lits_end as usize,
+            hints: head.hints_end as usize,
+        };
+        let slice = LineSlice {
+            kind: head.kind,
+            lits: cut_out(&self.lits, start.lits, end.lits),
+            hints: self.hints.part(start.hints, end.hints),
+        };
+        (slice, end)
+    }
+}
+
+/// Where the literals and the hints of a line end.
+#[derive(Clone, Copy, Drop)]
+struct Ends {
+    // The place behind the last literal.
+    lits: usize,
+    // The place behind the last hint.
+    hints: usize,
+}
+
+/// A line as it lies in the log.
+#[derive(Drop)]
+struct LineSlice<'a> {
+    kind: Kind,
+    lits: &'a [Lit],
+    hints: HintSlice<'a>,
+}
+
+impl<'a> Model for LineSlice<'a> {
+    ghost use Rattle.lrat_log.specs.Log.{LogLine};
+
+    ghost Value = { LogLine };
+
+    ghost view = { λ l. record { kind = l.kind; clause = l.lits.now; hints = l.hints } };
 }
 
 impl Sink for Log {
@@ -233,38 +282,37 @@ pub fn write_to<W: Write>(log: &Log, base: u64, writer: &mut W) -> Result<(), Wr
 {
     let mut block = Block::new();
     let mut last = base;
+    let mut ends = Ends { lits: 0, hints: 0 };
     for line in 0..log.len() {
-        last = put_line(&mut block, writer, log, base, line, last)?;
+        let (slice, next) = log.line_from(line, ends);
+        last = put_line(&mut block, writer, base, last, &slice)?;
+        ends = next;
     }
     block.flush(writer)
 }
 
-/// Puts the line in this place, where `last` is the last id that was given before; answers the last
-/// one after it.
+/// Puts the line, where `last` is the last id that was given before; answers the last one after it.
 fn put_line<W: Write>(
     block: &mut Block,
     writer: &mut W,
-    log: &Log,
     base: u64,
-    line: usize,
     last: u64,
+    line: &LineSlice<'_>,
 ) -> Result<u64, WriteFault>
-    requires line { line < length log.now }
+    requires line { IsLine line.now }
     requires last { last < NUMBER_LIMIT }
-    requires ids { HasSmallIds base log.now }
+    requires ids { All (λ h. id_of base (name_of h) < NUMBER_LIMIT) line.now.hints }
     ensures ok { OnOk result (PassesOn (W.contents writer.old) block.old
-        (line_text (numbered_after base last (line_at log.now line)))
-        (W.contents writer.new) block.new) }
+        (line_text (numbered_after base last line.now)) (W.contents writer.new) block.new) }
     ensures fault { OnErr result (AppendsPart (W.contents writer.old) (W.contents writer.new)
-        (block.old ++ line_text (numbered_after base last (line_at log.now line)))) }
-    ensures last { IfOk result (λ next. next ≡ last_after last (line_at log.now line)) }
+        (block.old ++ line_text (numbered_after base last line.now))) }
+    ensures last { IfOk result (λ next. next ≡ last_after last line.now) }
 {
-    let hints = log.packed_hints(line);
-    if log.kind(line).is_delete() {
-        put_deletion(block, writer, base, last, &hints)?;
+    if line.kind.is_delete() {
+        put_deletion(block, writer, base, last, &line.hints)?;
         Ok(last)
     } else {
-        put_addition(block, writer, base, last + 1, log.lits(line), &hints)?;
+        put_addition(block, writer, base, last + 1, line.lits, &line.hints)?;
         Ok(last + 1)
     }
 }

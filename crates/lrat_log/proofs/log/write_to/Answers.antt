@@ -21,7 +21,8 @@ returns-in_err-last-clause-fault g c =
     line_fault (g.W.Write.contents c.args.writer.now) (g.W.Write.contents c.loop-line.writer)
     (g.W.Write.contents c.put_line.new.writer) c.loop-line.block [] c.args.base c.loop-line.last
     c.args.log.now c.loop-line.line
-    here c.loop-line.invariant.0 c.loop-line.invariant.1 c.in_err-last.ensures.fault in
+    here c.loop-line.invariant.0 c.loop-line.invariant.1
+    (rw (← c.line_from-slice.ensures.line) c.in_err-last.ensures.fault) in
     rw (p.1) q
 
 pub returns-in_err-last-clause-lines : goal.returns-in_err-last-clause-lines
@@ -33,9 +34,11 @@ pub loop-line-preserved : goal.loop-line-preserved
 loop-line-preserved g c =
     let here : c.loop-line.line < length c.args.log.now = omega arith in (
       last_next c.args.base c.loop-line.last c.in_ok-last.last c.args.log.now c.loop-line.line here
-          c.loop-line.invariant.0 c.in_ok-last.ensures.last,
+          c.loop-line.invariant.0 (rw (← c.line_from-slice.ensures.line) c.in_ok-last.ensures.last),
       lines_more _ _ _ _ _ c.args.base c.loop-line.last c.args.log.now c.loop-line.line here
-          c.loop-line.invariant.0 c.loop-line.invariant.1 c.in_ok-last.ensures.ok,
+          c.loop-line.invariant.0 c.loop-line.invariant.1
+          (rw (← c.line_from-slice.ensures.line) c.in_ok-last.ensures.ok),
+      (c.line_from-slice.ensures.lits, c.line_from-slice.ensures.hints),
     )
 
 pub returns-clause-ok : goal.returns-clause-ok
