@@ -8,8 +8,8 @@ pub use Rattle.text.proofs.Numbers.{decimal-number_of, decimal_numerals, digit_b
 pub use Rattle.text.proofs.Numbers.{digit_is_no_blank, is_number, is_number-decimal}
 pub use Rattle.text.proofs.Numbers.{literal_of-text, number_of-decimal, number_of-is}
 pub use Rattle.text.proofs.Numbers.{text-literal_of}
-pub use Rattle.text.proofs.Passing.{first_fault, part-after, part-more, passed-more, passed-nil}
+pub use Rattle.text.proofs.Passing.{first_fault, part-more, passed-more, passed-nil}
 pub use Rattle.text.proofs.Passing.{passed_fault, passed_part, passed_part-more, passed_whole}
 pub use Rattle.text.proofs.Passing.{part-kept, puts_after, spaced-last, writes-part}
-pub use Rattle.text.proofs.Passing.{writes-whole, writes_after, writes_alike, writes_as}
+pub use Rattle.text.proofs.Passing.{writes_after, writes_alike, writes_as}
 pub use Rattle.text.proofs.Passing.{writes_kept, writes_next}

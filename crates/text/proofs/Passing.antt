@@ -1,6 +1,6 @@
 -- Texts that go to a writer by way of a block, one after another.
 use Rattle.std.proofs.Common.{◌≡◌, ℕ, List, [], ◌∷◌, ◌++◌, Option, Result, Ok, Err}
-use Rattle.std.proofs.Common.{OnOk, OnErr, refl, sym, ◌∙◌, ap, subst, append_assoc, append-nil}
+use Rattle.std.proofs.Common.{OnErr, refl, sym, ◌∙◌, ap, subst, append_assoc, append-nil}
 use Rattle.std.specs.Io.KnownBytes.{Appends, Keeps}
 use Rattle.std.proofs.KnownBytes.{Appends-kept, Appends-nil, Appends-trans}
 use Rattle.std.proofs.lemmas.Bool.{false≢true}
@@ -27,15 +27,6 @@ pub passed_whole : (a b c : Option (List ℕ)) (h i x : List ℕ) → PassesOn a
 passed_whole a b c h i x p q =
     subst (Appends a c) (sym p.split) (Appends-trans a b c p.written i p.appended q)
 
-pub passed_directly : (a b c : Option (List ℕ)) (h x : List ℕ) → Appends a b h → Appends b c x
-    → PassesOn a h x c []
-passed_directly a b c h x p q =
-    record {
-      written = h ++ x;
-      appended = Appends-trans a b c h x p q;
-      split = sym (append-nil (h ++ x));
-    }
-
 -- a beginning of a text is one of a longer text
 pub part-more : (a b : Option (List ℕ)) (x y : List ℕ) → AppendsPart a b x
     → AppendsPart a b (x ++ y)
@@ -51,7 +42,12 @@ part-after a b c w x p q = (
 
 pub puts_directly : {T E : Type 0} (r : Result T E) (a b c : Option (List ℕ)) (h x : List ℕ)
     → Appends a b h → Writes r b x c → Puts r a h x c []
-puts_directly (Ok v) a b c h x p q = passed_directly a b c h x p q
+puts_directly (Ok v) a b c h x p q =
+    record {
+      written = h ++ x;
+      appended = Appends-trans a b c h x p q;
+      split = sym (append-nil (h ++ x));
+    }
 puts_directly (Err e) a b c h x p q = part-after a b c h x p q
 
 -- one text after another, both straight to the writer
@@ -73,11 +69,6 @@ part-kept a b c x p k = (p.0, p.1, Appends-kept a b c p.0 p.2 k)
 pub writes_as : {T E : Type 0} (r : Result T E) (a b : Option (List ℕ)) {x y : List ℕ} → x ≡ y
     → Writes r a x b → Writes r a y b
 writes_as r a b e p = subst (λ z. Writes r a z b) e p
-
-pub writes-whole : {T E : Type 0} (r : Result T E) (a b : Option (List ℕ)) (x : List ℕ)
-    → Writes r a x b → OnOk r (Appends a b x)
-writes-whole (Ok v) a b x p = p
-writes-whole (Err e) a b x p = tt
 
 pub writes-part : {T E : Type 0} (r : Result T E) (a b : Option (List ℕ)) (x : List ℕ)
     → Writes r a x b → OnErr r (AppendsPart a b x)
