@@ -1,12 +1,12 @@
-// The loop of a search under assumptions: that of `searching`, but for its decisions. It decides
-// the assumptions first, in their order, one level each, and passes over those that are true
-// already. Where one is false, what it rests on is a core. Clauses are learned from conflicts as
-// ever, and a restart keeps the levels of assumptions. Which assumptions are known to be true is
-// kept by level, so that a conflict costs a look at those alone that it made open. No answer rests
-// on that: all are looked at once more before an answer with bits.
-// A caller that looks for many cores at once has false assumptions passed over, and is told why
-// each is false. To decide ten thousand assumptions takes longer than most conflicts: where each
-// core took a search of its own, nearly all the time went into deciding the same ones again.
+// The loop of a search under assumptions: that of `searching`, except for its decisions. It decides
+// the assumptions first, in their order, one level each, and skips those that are true already.
+// Where one is false, it and those that imply this are a core. Clauses are learned from conflicts
+// as usual, and a restart keeps the levels of assumptions. Which assumptions are known to be true
+// is kept by level, so that a conflict costs a look only at those that it made open. No answer
+// depends on that: all are looked at once more before an answer with bits.
+// For a caller that looks for many cores at once, false assumptions are skipped, and each gives a
+// core. To decide ten thousand assumptions takes longer than most conflicts: where each core took a
+// search of its own, nearly all the time went into deciding the same ones again.
 ghost use Rattle.std.specs.Prelude.{◌≡◌, ◌+◌, ◌<◌, ◌≤◌, true, length, All, Contains, IfOk, IfSome};
 ghost use Rattle.std.specs.Prelude.{Some, None, false};
 ghost use Rattle.propagate.specs.Trail.{literals_of, value_in};

@@ -1,5 +1,5 @@
-// Which variables stay: those that the clauses of a bound may name. With sums all stay that are not
-// of the instance: what is learned of a part of the tree is said in them.
+// Which variables are frozen: those that the clauses of a bound may name. With sums, all beyond
+// those of the instance: clauses learned about a part of the tree are over them.
 ghost use Rattle.std.specs.Prelude.{◌≡◌, ◌<◌, true, length, Some, slice_get, All};
 ghost use Rattle.std.specs.Prelude.{IfOk};
 ghost use Rattle.improve.specs.Frozen.{AreFrozen, IsFrozenFor, IsOutputWithin, IsWithin};

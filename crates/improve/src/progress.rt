@@ -1,4 +1,4 @@
-// Who is told of each better solution.
+// Where a search reports the cost of each better solution.
 ghost use Rattle.std.specs.Prelude.{◌≡◌, ◌<◌, ◌^◌, OnOk, OnErr};
 ghost use Rattle.improve.specs.Progress.{Telling, with_told, with_failed};
 

@@ -2,8 +2,8 @@
 //! count: each has a positive literal of a variable that the formula does not have. An assignment
 //! that satisfies the formula satisfies them too where all these variables are true, so they refute
 //! nothing: a search over an instance that has a solution never adds the empty clause, whatever
-//! cores are found. All that has to be known of the search is known here; a clause or an assumption
-//! that is not as it has to be is found at run time, and is not used.
+//! cores are found. No proof needs to know more of the search: clauses and assumptions are tested
+//! at run time, and one that does not fit is not used.
 ghost use Rattle.std.specs.Prelude.{◌≡◌, ℕ, [], ◌++◌, All, Contains, IfOk, IsTrue};
 ghost use Rattle.cnf.specs.Literal.{positive};
 ghost use Rattle.cnf.specs.Clause.{has_repeat};

@@ -1,5 +1,5 @@
-//! Which variables no elimination takes away: all that are not of the instance. Assumptions and
-//! clauses that come later are said in them.
+//! Which variables are frozen, so that elimination keeps them: all beyond those of the instance.
+//! Later assumptions and clauses are over them.
 ghost use Rattle.std.specs.Prelude.{◌≡◌, false, length, replicate, IfOk};
 ghost use Rattle.improve_cores.specs.Counting.{IsFrozenAfter, IsFreeUpTo};
 

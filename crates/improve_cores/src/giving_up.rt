@@ -2,14 +2,14 @@
 // the cores after 2,500 learned clauses, 5,000, 10,000, and so on: with each doubling they gain
 // about as much as with the one before, or less. So it gives up where more is missing at the best
 // solution's cost than they gained since the last look, if that is more than a quarter of the cost
-// at 5,000, a sixth at 10,000, a tenth at 20,000, and so on. Bounds then have their proof in fewer
-// clauses, if any way has one; where less is missing, the cores mostly come to their end.
+// at 5,000, a sixth at 10,000, a tenth at 20,000, and so on. Bounds then reach a proof in fewer
+// learned clauses, if either way reaches one. Where less is missing, cores mostly close the gap.
 //
 // Cores that are worth less than half of the cost are no sign at first: the best solution may be
 // poor, and a model of the next stratum far cheaper, as on rosters. With thousands of soft clauses
 // all comes later, as there are more cores to be found, and bounds are of little use.
 //
-// docs/EXPERIMENTS.md, under 'The search for cores', has what this was measured on.
+// docs/EXPERIMENTS.md, under 'The search for cores', says what this was measured on.
 
 /// The first look comes after so many learned clauses,
 const FIRST: u64 = 2500;

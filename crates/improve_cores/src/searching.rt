@@ -12,14 +12,15 @@
 //! it costs just what the cores are worth.
 //!
 //! One search of a stratum finds many cores: it passes over each assumption that is false where
-//! those before it hold, and what explains it is a core. They are shortened and taken in turn, but
-//! for those that one before them has left too little of.
+//! those before it hold, and what explains it is a core. They are shortened and taken in turn,
+//! except those with an input that an earlier one has left below the threshold.
 //!
-//! docs/EXPERIMENTS.md, under 'The search for cores', has how many instances this closes, after how
-//! many conflicts, and how many disjoint cores without totalizers do. Assumed in windows of the
-//! list, which double once they stand, cores were found sooner and were worse.
+//! docs/EXPERIMENTS.md, under 'The search for cores', says how many instances this closes, after
+//! how many conflicts, and how many disjoint cores without totalizers close. Where only a window of
+//! the list was assumed, which doubled once it held, cores were found sooner and were worse.
 //!
-//! What is told of the search does not rest on its policy: see `counting_solver` and `counted`.
+//! What is promised of the search does not depend on its policy: see `counting_solver` and
+//! `counted`.
 ghost use Rattle.std.specs.Prelude.{◌≡◌, ◌≤◌, ◌^◌, IfOk, IfSome};
 ghost use Rattle.cnf.specs.Literal.{Assignment};
 ghost use Rattle.cnf.specs.Problem.{IsFeasible};
@@ -273,8 +274,8 @@ impl CoreSearch {
         }
     }
 
-    /// Takes the cores of assumptions that were passed over, in their order, but for those that one
-    /// before them has left too little of.
+    /// Takes the cores of assumptions that were skipped, in their order, except those with an input
+    /// that an earlier one has left below the threshold.
     fn take_all<W: Watch>(
         &mut self,
         cores: &ClauseList,

@@ -1,8 +1,8 @@
-// A core is shortened: it is searched again under itself while it shrinks, and then each literal in
-// turn is left out and the rest searched again for a few conflicts (as in deletion-based
-// extraction of minimal cores). Without shortening the refutation took more conflicts; with
-// propagation alone, without conflicts, cores were longer. docs/EXPERIMENTS.md, under 'The search
-// for cores', has what decisions beside the assumptions (`DECISIONS`) are good for.
+// A core is shortened: the search is repeated with the core as its assumptions while it shrinks.
+// Then each literal in turn is left out, and the others are assumed for a few conflicts (as in
+// deletion-based extraction of minimal cores). Without shortening the refutation took more
+// conflicts; with propagation alone, without conflicts, cores were longer. docs/EXPERIMENTS.md,
+// under 'The search for cores', says what decisions besides the assumptions (`DECISIONS`) gain.
 ghost use Rattle.std.specs.Prelude.{◌≡◌};
 ghost use Rattle.improve_cores.specs.CoreWork.{CountsLearned, KeepsClauses};
 

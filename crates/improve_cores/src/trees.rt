@@ -1,8 +1,9 @@
 // Totalizers that grow output by output (Bailleux and Boufkhad 2003; grown as in Martins, Joshi,
 // Manquinho and Lynce 2014): a node counts the inputs below it, and has as many outputs as were
 // asked for: a core rarely needs more than a few. New variables are taken from those that were
-// reserved. Where an output is made, the clauses come with it that say that it is true where the
-// outputs of the halves are; none says more, as nothing else is assumed.
+// reserved. An output comes with the clauses by which the outputs of the halves imply it, and with
+// the one by which it implies the output before it. What it implies of the halves is left out,
+// since outputs are only assumed false.
 use crate::checked::{at, narrow};
 use cnf::clause_list::ClauseList;
 use cnf::limits::VARIABLE_LIMIT;

@@ -1,6 +1,5 @@
 // The best bits that a search met. Bits that are better take the place of these by the flips that
-// led to them: where each better solution of 200,000 variables was copied, 42 of them took all
-// visits.
+// led to them: if each better solution of 200,000 variables is copied, 42 copies use up all visits.
 use crate::checked::{at, set};
 use std::alloc::{AllocError, Global};
 

@@ -2,11 +2,12 @@
 // become heavier (after Lei and Cai, "Solving (Weighted) Partial MaxSAT by Dynamic Local Search for
 // SAT", IJCAI 2018, where soft ones become heavier too).
 //
-// A step flips the best of some variables whose flip betters more weight than it worsens. Where
-// there is none, false hard clauses become heavier, or some hard clauses lighter where none is
-// false, and a variable of a false clause is flipped. So the search goes to and fro between
+// A step flips the best of a few variables whose flip satisfies more weight than it falsifies.
+// Where there is none, false hard clauses become heavier, or some hard clauses lighter where none
+// is false, and a variable of a false clause is flipped. So the search goes to and fro between
 // solutions and cheap bits that miss a few hard clauses. What it finds counts only where it is
-// judged to be a solution that costs no more, so nothing has to be known of the search itself.
+// judged to be a solution that costs no more, so no proof needs to know anything of the search
+// itself.
 ghost use Rattle.std.specs.Prelude.{◌≡◌, ◌≤◌, IsTrue, length};
 ghost use Rattle.cnf.specs.Literal.{Assignment};
 ghost use Rattle.cnf.specs.Bits.{Extends};

@@ -1,12 +1,12 @@
-// What the search knows of its bits: which clauses they make false, and what a flip of each
-// variable would better.
+// What the search knows of its bits: which clauses they make false, and how much weight a flip of
+// each variable would gain.
 //
 // All of it is policy: nothing is known of it but that no step of it can fail. A place outside its
 // table has no effect, and sums stop at the ends of their range.
 //
 // Soft clauses weigh what they cost, and hard ones become heavier and lighter. A start of half of
-// the mean weight of a soft clause is as good on small texts. On one with 500,000 variables it
-// lets the search leave the solutions for good, as far as its visits last.
+// the mean weight of a soft clause is as good on small texts. On one with 500,000 variables the
+// search then leaves the solutions, and does not come back before its visits are used up.
 use crate::checked::{at, fill, narrow, set};
 use crate::clauses::{Occurrences, count, lits, price};
 use crate::group::Group;

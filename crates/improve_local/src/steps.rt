@@ -2,9 +2,9 @@
 //
 // Tried: soft clauses that become heavier too, up to twenty times their price, with hard ones that
 // never become lighter. The search then comes to the right weights once and goes past them, and it
-// found the optimum less often. One round in place of two, with as many visits, is no worse but
-// where hard clauses are few. A sample of 20 is no better than one of 10. docs/EXPERIMENTS.md has
-// the numbers.
+// found the optimum less often. One round in place of two, with as many visits, is worse only where
+// hard clauses are few. A sample of 20 is no better than one of 10. docs/EXPERIMENTS.md has the
+// numbers.
 use crate::best::Best;
 use crate::checked::{at, set};
 use crate::clauses::{Occurrences, lits};

@@ -2,8 +2,8 @@
 //!
 //! Each line is judged once its line feed is there, and only what follows the last line feed is
 //! kept. Where no line has begun, the lines that come next are read many at a time and then judged
-//! in turn, up to the first fault: a whole check takes one tenth less time so, as measured. A line
-//! that cannot be read with others is read alone, and lines without a token are passed over.
+//! in turn, up to the first fault: this takes a tenth off the time of a whole check. A line that
+//! cannot be read with others is read by itself, and lines without a token are skipped.
 ghost use Rattle.std.specs.Prelude.{◌≡◌, ℕ, ◌+◌, ◌<◌, ◌≤◌, ◌^◌, true, false, List, [], ◌∷◌, ◌++◌};
 ghost use Rattle.std.specs.Prelude.{length, take, replicate, None, Err, IfOk, OnOk, IfSome, IsErr};
 ghost use Rattle.std.specs.Prelude.{IsOk, IsSome, ◌↔◌};

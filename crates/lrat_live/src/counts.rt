@@ -1,5 +1,5 @@
-// How often each literal stands in the live clauses. Candidates that a RAT line names are all that
-// there are if they have the literal in as many places, so they need not be looked for.
+// How often each literal occurs in the live clauses. The candidates that a RAT line names are
+// complete if together they contain the literal as often as it is counted, so no search is needed.
 ghost use Rattle.std.specs.Prelude.{◌≡◌, ℕ, ◌<◌, ◌++◌, ◌∷◌, [], List, true, length, OnOk};
 ghost use Rattle.cnf.specs.Literal.{Literal, index_of};
 ghost use Rattle.lrat_live.specs.Counts.{times_in, is_next, AreCounts, AreRaised};

@@ -1,10 +1,10 @@
 // The entries of the live clauses, and the chains by which an id is found among them.
 //
 // An id is looked for first at the place that it has if no id between it and the last one is
-// missing, which spares the reading of a chain's head. Counted from the last id, and not from the
-// first, since what is taken back leaves gaps among the older ids: so it is found there for two of
-// three hints on added clauses of a certificate of pigeons (from the first id for one of 160), and
-// for each where nothing was taken back.
+// missing, which saves reading the head of a chain. The place is counted from the last id, since
+// deletions leave gaps among the older ids. So it is found there for two of three hints on added
+// clauses of a certificate of pigeons (from the first id for one of 160), and for each where
+// nothing was deleted.
 ghost use Rattle.std.specs.Prelude.{◌≡◌, ℕ, ◌+◌, ◌-◌, ◌<◌, ◌≤◌, ◌^◌, length, MatchOption, OnOk};
 ghost use Rattle.std.specs.Prelude.{IsTrue, ◌↔◌, IfSome};
 ghost use Rattle.cnf.specs.Numbers.{RisesFrom};

@@ -1,10 +1,10 @@
 // Where the literals of long candidates stand. A line may name a clause of n literals as its
 // candidate, and n lines may, so that to go over the clause for each takes n^2 steps. Hence a long
 // clause is sorted once, when it is first named, and a literal is then looked for by halving. What
-// is found is looked up in the clause itself: so nothing has to be known of what is kept here.
+// is found is looked up in the clause itself: so no proof needs to know what is kept here.
 //
-// A long candidate takes 8 bytes more for each of its literals, until it is deleted. The place
-// found last, in place of all, would be beaten by lines that ask for two literals in turn.
+// A long candidate takes 8 bytes more for each of its literals, until it is deleted. To remember
+// only the place found last would not help with lines that ask for two literals in turn.
 // Still slow: a clause of the formula that has the literal itself more than once is gone over.
 ghost use Rattle.std.specs.Prelude.{◌≡◌, ◌≤◌, true, IfOk};
 ghost use Rattle.cnf.specs.Clause.{contains_literal};

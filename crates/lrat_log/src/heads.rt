@@ -1,11 +1,12 @@
-// What the log keeps of each line. A log has millions of lines of a few literals and hints, so that
-// their heads count. Two ends in words of 8 bytes and the kind took 24; three words of 4 bytes took
-// 12. Here a line takes one word, and each 32 lines 16 bytes more: a block of 32 lines has the
-// places where its first one ends, and the word of a line says how far behind these it ends.
-// Lengths in place of that would be as small, but a line would be found by a walk over those before
-// it. Where a block has 2^14 literals or 2^15 hints its lines are so long that heads do not count:
-// from the first line on that does not fit each takes three words, with places up to 2^46. To build
-// and write a log of long lines takes 0.2 % more instructions than with three words for each.
+// What the log keeps of each line. A log has millions of lines of a few literals and hints, so the
+// size of their heads matters. Two ends in words of 8 bytes and the kind took 24; three words of 4
+// bytes took 12. Here a line takes one word, and each 32 lines 16 bytes more: a block of 32 lines
+// has the places where its first one ends, and the word of a line says how far behind these it
+// ends. Lengths in place of that would be as small, but a line would be found by a walk over those
+// before it. Where a block has 2^14 literals or 2^15 hints its lines are so long that heads do not
+// matter: from the first line on that does not fit each takes three words, with places up to 2^46.
+// To build and write a log of long lines takes 0.2 % more instructions than with three words for
+// each.
 ghost use Rattle.std.specs.Prelude.{◌≡◌, ◌*◌, ◌<◌, ◌≤◌, ◌^◌, [], ◌∷◌, ◌++◌, length, slice_get};
 ghost use Rattle.std.specs.Prelude.{IfOk, IfSome, OnOk, OnErr, Some, if◌then◌else◌};
 ghost use Rattle.lrat_log.specs.Heads.{kind_at, number_of, near_head, near_heads, far_head};

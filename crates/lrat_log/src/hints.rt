@@ -1,10 +1,10 @@
-// The hints of a log. Where search learns, it has many more of them than of all else. A hint takes
-// four bytes as long as every number is below 2^30, and eight from the first line on that has a
-// greater one. No log that fits in memory comes so far, but for one over clauses with such numbers.
-// So a hint is one load behind a comparison that always goes the same way: to build and write a log
-// of 20 literals and 50 hints a line takes 2 % more instructions than with eight bytes for each.
-// Whether a line fits is asked hint by hint while it is put there, since a pass before that would
-// read each hint twice; the first part of a line that does not fit is taken away again.
+// The hints of a log. Where a search learns, they are most of the log. A hint takes four bytes as
+// long as every number is below 2^30, and eight from the first line on that has a greater one. No
+// log that fits in memory gets that far, unless the clauses given have such numbers. So a hint is
+// one load behind a comparison that always goes the same way: to build and write a log of 20
+// literals and 50 hints a line takes 2 % more instructions than with eight bytes for each. Whether
+// a line fits is asked hint by hint while it is put there, since a pass before that would read each
+// hint twice; the first part of a line that does not fit is taken away again.
 ghost use Rattle.std.specs.Prelude.{◌≡◌, ◌<◌, ◌≤◌, ◌^◌, [], ◌++◌, Some, true, length, slice_get};
 ghost use Rattle.std.specs.Prelude.{slice_range, IfOk, OnOk, OnErr, take, if◌then◌else◌, All};
 ghost use Rattle.lrat_log.specs.Packed.{hint_code};

@@ -1,8 +1,9 @@
 // The log in memory, and its text. A log has millions of lines of a few literals and hints each,
 // so it keeps them in three lists: the literals of all lines, the hints of all lines, and for each
-// line what it is for and where its own end. Preprocessing of 100,000 planning-like clauses gives
-// 372,000 lines of 3.7 literals and 1.6 hints: 25.7 bytes a line. With hints of 8 bytes and heads
-// of 12 they were 39.8. The view is that of three plain lists, so no other proof knows how they
+// line its kind, and where its literals and hints end. Preprocessing of 100,000 planning-like
+// clauses gives 372,000 lines of 3.7 literals and 1.6 hints: 25.7 bytes a line. With hints of 8
+// bytes and heads of 12 they were 39.8. The view is that of three plain lists, so no other proof
+// knows how they
 // are packed.
 // What is left is mostly literals, whose slices are lent as they lie.
 ghost use Rattle.std.specs.Prelude.{◌≡◌, ℕ, ◌+◌, ◌<◌, ◌≤◌, ◌^◌, ◌++◌, List, [], Some, length, All};

@@ -1,4 +1,4 @@
-// Additions: a clause that its hints refute to the contrary (RUP), or whose resolvents on its first
+// Additions: a clause whose negation its hints refute (RUP), or one whose resolvents on its first
 // literal are refuted each by hints of their own (RAT).
 ghost use Rattle.std.specs.Prelude.{◌≡◌, ℕ, ◌<◌, ◌≤◌, true, false, not, ◌||◌, [], Some, None, IfOk};
 ghost use Rattle.std.specs.Prelude.{map, if◌then◌else◌};

@@ -1,8 +1,8 @@
 // Hints: what one does to the literals that are assumed true, and what several do in turn.
 //
 // A hint's clause is gone over whole: its false literals are counted and the last other one is
-// kept, with no choice on the way. Counted so, a pair of literals takes 17 instructions; it took 23
-// while the others were counted and the last one was an `Option`.
+// kept, with no choice on the way. So a pair of literals takes 17 instructions; it takes 23 if the
+// others are counted and the last one is an `Option`.
 // Tried: a table that marks the false literals, so that no negation is computed. The compiler then
 // unrolls by four in place of two: 1.4 % fewer to 0.9 % more instructions, and no less time.
 ghost use Rattle.std.specs.Prelude.{◌≡◌, ℕ, ◌+◌, ◌<◌, ◌≤◌, true, false, List, Some, IfOk};

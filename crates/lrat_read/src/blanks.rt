@@ -1,6 +1,5 @@
-// Lines without a token. A certificate may be full of them: passed over here they cost half of what
-// they cost a plain C checker, where each that was read and judged as any line cost four times as
-// much as there.
+// Lines without a token. A certificate may be full of them: skipped here, they take half the time
+// of a plain C checker; read and judged like other lines, they take four times as long as there.
 ghost use Rattle.std.specs.Prelude.{◌≤◌, ◌<◌, length, take, drop, replicate, IfSome};
 ghost use Rattle.lrat_read.specs.Batch.{AreRead, IsFirstRead};
 ghost use Rattle.lrat_read.specs.Blanks.{no_tokens};

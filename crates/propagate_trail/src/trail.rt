@@ -1,14 +1,14 @@
 // The literals that are true, with tables by which a value, a level or a reason is found in one
 // step.
 //
-// A search writes here for each literal that becomes true (`push`) and for each that backtracking
-// takes away (`undo`), some 900 times a conflict each. There is room for all variables, so `push`
-// asks for none, and it is inlined where the reason is known. `undo` goes over the end of the trail
-// once, 14 instructions a literal: literals that are popped one by one, each with the count of
-// decisions, take 28. A level that stays behind where a value is taken away saves five of these and
-// a write, but then who asks for a level has to look at the value first: in all 0.5 % more
-// instructions, and 1 % fewer misses of a cache of 32 KB, more of which are reads (package choice
-// 400 2, profile 4, 3000 conflicts).
+// A search writes here for each literal that becomes true (`push`) and each that a backtrack undoes
+// (`undo`), some 900 times a conflict each. There is room for all variables, so `push` asks for
+// none, and it is inlined where the reason is known. `undo` goes over the end of the trail once, 14
+// instructions a literal: literals that are popped one by one, each with the count of decisions,
+// take 28. A level that stays behind where a value is taken away saves five of these and a write,
+// but then who asks for a level has to look at the value first: in all 0.5 % more instructions, and
+// 1 % fewer misses of a cache of 32 KB, more of which are reads (package choice 400 2, profile 4,
+// 3000 conflicts).
 ghost use Rattle.std.specs.Prelude.{◌≡◌, ◌+◌, ◌<◌, ◌≤◌, ◌*◌, not, true, false, IsTrue, ◌↔◌, []};
 ghost use Rattle.std.specs.Prelude.{◌∷◌, ◌++◌, Some, None, length, take, All, IfOk, slice_set};
 ghost use Rattle.std.specs.Option.{option_map};

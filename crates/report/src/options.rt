@@ -62,7 +62,7 @@ Faults:
   error: line N: Literal     a word that is no literal: x, +1, 01
   error: line N: NoZero      the clause on line N has no 0 at its end
   error: line N: AfterZero   something follows the 0 of the clause
-  error: line N: OldForm     a line 'p' behind a clause or another one
+  error: line N: OldForm     a line 'p' after a clause or another 'p'
   error: Read                FILE, RESULT or PATH cannot be opened or read
   error: Memory              memory ran out
   error: Output              standard output cannot be written
@@ -109,12 +109,13 @@ const LOWER_NOTES: &str = "\
 Prints 'at least L' if PROOF begins with core lines and checks: no solution of
 FILE costs less than the cores are worth together. So the certificate of an
 optimum proved by cores gives that optimum. Prints 'no solution' if PROOF has no
-core lines and refutes the hard clauses, as one of UNSATISFIABLE does. Any other
-certificate proves nothing without its RESULT: NO, the first fault and its line.
+core lines and refutes the hard clauses, as that of an UNSATISFIABLE result
+does. Any other certificate proves nothing without its RESULT: NO, the first
+fault and its line.
 
 Statuses:
    0  at least L, or no solution
-   1  NO, the first fault, and the line of FILE or PROOF that it stands on
+   1  NO, the first fault, and the line of FILE or PROOF that has it
    2  the command line is faulty
    3  a file cannot be read, the answer not be written, or memory ran out
 
@@ -137,7 +138,7 @@ first, with its line, the comment above it, and the sum so far; each hard clause
 that they break; and the names of true variables. Without RESULT: the numbers of
 variables, hard and soft clauses in FILE, and the sum of the weights. If FILE is
 faulty: the line, the word, and how to correct it. With PROOF, if RESULT is
-right: also what wmax lower says of it, and as gap by how much RESULT is above.
+right: also what wmax lower prints, and the gap: its cost minus that bound.
 
 Statuses:
    0  the bits are a solution of the cost that RESULT states, or it has no bits
@@ -219,8 +220,7 @@ read again for each, so it cannot be a pipe then";
 
 const CONFLICTS_HELP: &str = "\
 The effort: at most N learned clauses and solutions together. Time and
-memory grow with it. The same N always gives
-the same answer";
+memory grow with it. The same N always gives the same answer";
 
 const PROOF_HELP: &str = "\
 Where the LRAT certificate goes. PATH is created or emptied before the
@@ -250,8 +250,8 @@ cost or a lower one is the first o line, which takes one unit of the
 effort. The search below that tries its values first. If RESULT is not
 right for FILE, the fault that check would report is printed, and
 there is no search. A RESULT without a solution (UNKNOWN,
-UNSATISFIABLE) is passed over. If --best has a cheaper solution, the
-search begins with that one";
+UNSATISFIABLE) is accepted, and the search begins without it. If
+--best has a cheaper solution, the search begins with that one";
 
 const PROGRESS_HELP: &str = "\
 Shows on standard error how far the search is: a line at each better

@@ -1,4 +1,5 @@
-// A digit's list takes what the digit below it has carried, and carries what is too much.
+// A digit's list is joined with the carry of the digit below it, and half of it is carried on where
+// it is too long. The list of the rest takes the last carry.
 ghost use Rattle.sums.specs.Making.{Makes, MakesSplit};
 ghost use Rattle.sums.specs.Parts.{carried, digit_made, rest_made};
 ghost use Rattle.sums.specs.Sums.{Members, Both};

@@ -1,6 +1,6 @@
 // How a soft clause looks for the clauses that it excludes, by the literals that cannot be false
-// together with its own, and for the first group all of whose members it excludes. No group is
-// asked but those whose last member is seen.
+// together with its own, and for the first group all of whose members it excludes. Only groups
+// whose last member is seen are looked at.
 ghost use Rattle.std.specs.Prelude.{◌≡◌, ◌+◌, ◌-◌, ◌<◌, ◌≤◌, ◌^◌, min, All, length, sum_by, OnOk};
 ghost use Rattle.std.specs.List.{flat_map, position_or_len};
 ghost use Rattle.cnf.specs.Marks.{HasPlace};

@@ -1,4 +1,4 @@
-//! Who looks on while a run goes, for `--best`, `--lower` and `--progress`.
+//! What observes a run, for `--best`, `--lower` and `--progress`.
 ghost use Rattle.std.specs.Prelude.{None};
 
 use crate::bounding::Bounder;

@@ -7,11 +7,11 @@
 // Where there is none, the clause leaves no choice on the other watch, or is false. Entries that
 // stay are written over those that left, by two places `read` and `write`, and the gap between
 // these is taken out at the end, also after a conflict or a refused growth: so each return leaves a
-// whole row. Nothing is allocated but where another row grows.
+// whole row. Memory is allocated only where another row grows.
 //
 // Most blockers are true: 85 % in a search on sums. So the front of a row, up to the first entry
-// that its blocker does not settle, is passed over by `skip_true`, a loop that writes nothing, and
-// so reads but once where the row lies. The same at each later place, with a second loop that moves
+// that its blocker does not settle, is skipped by `skip_true`, a loop that writes nothing, and so
+// reads the place of the row only once. The same at each later place, with a second loop that moves
 // true entries down, takes eighteen instructions more for each entry that is not settled, as much
 // as it saves. Where the row ends by itself its end is cut off, and `close_row` stays out of the
 // loop.
