@@ -14,7 +14,7 @@ use Rattle.cdcl_order.specs.Budgets.{BudgetState}
 use Rattle.cdcl_order.specs.Orders.{IsOpenVariable}
 use Rattle.cdcl_search.specs.declared.input.Input.{Input}
 use Rattle.cdcl_search.specs.declared.search.Search.{Search}
-use Rattle.cdcl.specs.declared.assuming.Halt.{Halt}
+use Rattle.cdcl.specs.declared.assuming.SearchEnd.{SearchEnd}
 use Rattle.propagate.proofs.Laws.{within_all}
 use Rattle.cdcl_search.specs.Giving.{IsFrozen}
 use Rattle.cdcl.specs.Assuming.{IsTrueUnder}
@@ -29,7 +29,7 @@ pub known_there : (s : Search) (p : Input) (ls : List LogLine) (asked : List Lit
 known_there s p ls asked r k =
     subst (λ n. AreKnown n asked) (sym r.running.variables) k
 
-pub halt_fails : {E : Type 0} (result : Result Halt E) (new : Search) (p : Input)
+pub halt_fails : {E : Type 0} (result : Result SearchEnd E) (new : Search) (p : Input)
     (asked : List Literal) (before after : List LogLine) (had left : BudgetState) → IsErr result
     → StaysOpen p after → Pays p.given before after had left
     → Halts result new p asked before after had left
@@ -40,7 +40,7 @@ halt_fails result new p asked before after had left fails log pays = record {
 }
 
 pub turn_halts : {E : Type 0} (old new : Search) (p : Input) (asked : List Literal)
-    (before after : List LogLine) (had left : BudgetState) (halt : Halt)
+    (before after : List LogLine) (had left : BudgetState) (halt : SearchEnd)
     → IsHaltOf new p after left asked halt → Pays p.given before after had left
     → TurnsOrHalts {E = E} (Ok (Some halt)) old new p asked before after had left
 turn_halts old new p asked before after had left halt is pays =
@@ -53,7 +53,7 @@ pub turn_goes_on : {E : Type 0} (old new : Search) (p : Input) (asked : List Lit
 turn_goes_on old new p asked before after budget goes w =
     record { ends = tt; goes = goes; pays = pays_none p.given before after budget w; err = tt }
 
-pub turn_breaks : {E : Type 0} (result : Result (Option Halt) E) (old new : Search) (p : Input)
+pub turn_breaks : {E : Type 0} (result : Result (Option SearchEnd) E) (old new : Search) (p : Input)
     (asked : List Literal) (before after : List LogLine) (had left : BudgetState) → IsErr result
     → StaysOpen p after → Pays p.given before after had left
     → TurnsOrHalts result old new p asked before after had left
@@ -66,7 +66,7 @@ turn_breaks result old new p asked before after had left fails log pays = record
 
 goes_after : (old mid new : Search) (p : Input) (after : List LogLine) (had left : BudgetState)
     → (mid.engine).variables ≡ (old.engine).variables → mid.policy ≡ old.policy
-    → length (old.engine).trail ≤ length (mid.engine).trail → (next : Option Halt)
+    → length (old.engine).trail ≤ length (mid.engine).trail → (next : Option SearchEnd)
     → IfNone next (GoesOn mid new p after had left) → IfNone next (GoesOn old new p after had left)
 goes_after old mid new p after had left variables policy longer (Some halt) goes = tt
 goes_after old mid new p after had left variables policy longer None goes = record {
@@ -75,7 +75,7 @@ goes_after old mid new p after had left variables policy longer None goes = reco
 }
 
 -- before the turn literals became true, and lines were written
-pub turn_after : {E : Type 0} (result : Result (Option Halt) E) (old mid new : Search)
+pub turn_after : {E : Type 0} (result : Result (Option SearchEnd) E) (old mid new : Search)
     (p : Input) (asked : List Literal) (before between after : List LogLine)
     (had left : BudgetState)
     → (mid.engine).variables ≡ (old.engine).variables → mid.policy ≡ old.policy
@@ -130,7 +130,7 @@ known_frozen p asked i fixed ones =
     record { from_one = ones; small = within_all (p.stack).variables asked (omega arith) }
 
 pub halt_is : (s : Search) (p : Input) (ls : List LogLine) (b : BudgetState)
-    (asked : List Literal) (halt seen : Halt) → halt ≡ seen → IsHaltOf s p ls b asked halt
+    (asked : List Literal) (halt seen : SearchEnd) → halt ≡ seen → IsHaltOf s p ls b asked halt
     → IsHaltOf s p ls b asked seen
 halt_is s p ls b asked halt seen e h = subst (IsHaltOf s p ls b asked) e h
 

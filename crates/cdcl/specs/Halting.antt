@@ -8,8 +8,9 @@ use Rattle.cdcl_order.specs.Budgets.{BudgetState, left_of}
 use Rattle.cdcl_order.specs.Orders.{AreClosed}
 use Rattle.cdcl_search.specs.declared.input.Input.{Input}
 use Rattle.cdcl_search.specs.declared.search.Search.{Search}
-use Rattle.cdcl.specs.declared.assuming.Halt.{Halt}
-use Rattle.cdcl.specs.declared.assuming.Halt.TheVariants.{Satisfied, Refuted, Core, Open, Spent}
+use Rattle.cdcl.specs.declared.assuming.SearchEnd.{SearchEnd}
+use Rattle.cdcl.specs.declared.assuming.SearchEnd.TheVariants.{Satisfied, Refuted, Core, Open}
+use Rattle.cdcl.specs.declared.assuming.SearchEnd.TheVariants.{Spent}
 use Rattle.cdcl.specs.declared.assuming.Choice.{Choice}
 use Rattle.cdcl.specs.declared.assuming.Choice.TheVariants.{Decided, Refuses, Closes, GivesUp}
 use Rattle.cdcl.specs.declared.assuming.Untrue.{Untrue}
@@ -41,7 +42,8 @@ pub record IsAtCore (s : Search) (p : Input) (ls : List LogLine)
   pub runs : Runs s p ls
   pub shown : IsShown (s.store).slots assumptions core
 
-abbrev pub IsHaltOf : Search → Input → List LogLine → BudgetState → List Literal → Halt → Type 0
+abbrev pub IsHaltOf : Search → Input → List LogLine → BudgetState → List Literal → SearchEnd
+    → Type 0
 IsHaltOf s p ls b assumptions Satisfied =
     IsSatisfied s p ls b × AreTrue (s.engine).trail assumptions
 IsHaltOf s p ls b assumptions Refuted = IsEnded p ls
@@ -50,7 +52,7 @@ IsHaltOf s p ls b assumptions Open = Runs s p ls
 IsHaltOf s p ls b assumptions Spent = Runs s p ls × (left_of b ≡ 0)
 
 -- A search ends as it answers, and has paid for each learned line.
-pub record Halts {E : Type 0} (result : Result Halt E) (new : Search) (p : Input)
+pub record Halts {E : Type 0} (result : Result SearchEnd E) (new : Search) (p : Input)
     (assumptions : List Literal) (before after : List LogLine) (had left : BudgetState)
     : Type 0 where
   pub ends : IfOk result (IsHaltOf new p after left assumptions)
@@ -58,7 +60,7 @@ pub record Halts {E : Type 0} (result : Result Halt E) (new : Search) (p : Input
   pub err : OnErr result (StaysOpen p after)
 
 -- So does a turn of it, or it leaves a search that goes on.
-pub record TurnsOrHalts {E : Type 0} (result : Result (Option Halt) E) (old new : Search)
+pub record TurnsOrHalts {E : Type 0} (result : Result (Option SearchEnd) E) (old new : Search)
     (p : Input) (assumptions : List Literal) (before after : List LogLine)
     (had left : BudgetState) : Type 0 where
   pub ends : IfOk result (λ next. IfSome next (IsHaltOf new p after left assumptions))

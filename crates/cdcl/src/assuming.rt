@@ -19,7 +19,7 @@ ghost use Rattle.cdcl.specs.Turns.{IsPlain};
 ghost use Rattle.cdcl_search.specs.Running.{Runs, IsReady, KeepsRunning, EngineMoves};
 ghost use Rattle.cdcl.specs.Halting.{AreKnown, AreTrue, IsUntrue, IsChoice, Halts};
 ghost use Rattle.cdcl.specs.Halting.{TurnsOrHalts};
-ghost use Rattle.cdcl.specs.declared.assuming.Halt.TheVariants.{Refuted};
+ghost use Rattle.cdcl.specs.declared.assuming.SearchEnd.TheVariants.{Refuted};
 
 use crate::budget::Budget;
 use crate::outcome::{Passed, Share};
@@ -39,7 +39,7 @@ use std::alloc::{AllocError, Global};
 
 /// How a search under assumptions ended.
 #[derive(Drop)]
-pub(crate) enum Halt {
+pub(crate) enum SearchEnd {
     /// Each variable has a value, all assumptions are true, and no clause is false.
     Satisfied,
     /// The empty clause was added.
@@ -181,7 +181,7 @@ pub(crate) fn run_assuming<S: Sink, W: Watch>(
     assumptions: &[Lit],
     share: Share,
     passed: &mut Passed,
-) -> Result<Halt, AllocError>
+) -> Result<SearchEnd, AllocError>
     requires runs { Runs search.old input.now (S.lines sink.old) }
     requires known { AreKnown input.now.stack.variables assumptions.now }
     ensures search { Halts result search.new input.now assumptions.now (S.lines sink.old)
@@ -193,7 +193,7 @@ pub(crate) fn run_assuming<S: Sink, W: Watch>(
     ensures quiet { W.seen watch.new ≡ W.seen watch.old }
 {
     if refutes_at_once(search, input, sink)? {
-        return Ok(Halt::Refuted);
+        return Ok(SearchEnd::Refuted);
     }
     descend_assuming(
         search,
@@ -217,7 +217,7 @@ fn descend_assuming<S: Sink, W: Watch>(
     assumptions: &[Lit],
     share: Share,
     passed: &mut Passed,
-) -> Result<Halt, AllocError>
+) -> Result<SearchEnd, AllocError>
     requires runs { Runs search.old input.now (S.lines sink.old) }
     requires known { AreKnown input.now.stack.variables assumptions.now }
     ensures search { Halts result search.new input.now assumptions.now (S.lines sink.old)
@@ -253,7 +253,7 @@ fn round_assuming<S: Sink, W: Watch>(
     assumptions: &[Lit],
     share: Share,
     progress: &mut AssumptionProgress<'_>,
-) -> Result<Option<Halt>, AllocError>
+) -> Result<Option<SearchEnd>, AllocError>
     requires runs { Runs search.old input.now (S.lines sink.old) }
     requires known { AreKnown input.now.stack.variables assumptions.now }
     ensures turns { TurnsOrHalts result search.old search.new input.now assumptions.now
@@ -288,7 +288,7 @@ fn learn_assuming<S: Sink, W: Watch>(
     conflict: CRef,
     share: Share,
     progress: &mut AssumptionProgress<'_>,
-) -> Result<Option<Halt>, AllocError>
+) -> Result<Option<SearchEnd>, AllocError>
     requires runs { Runs search.old input.now (S.lines sink.old) }
     requires conflict { IsFalseClause search.old.store.slots search.old.engine conflict }
     ensures turns { TurnsOrHalts result search.old search.new input.now assumptions.now
@@ -297,13 +297,13 @@ fn learn_assuming<S: Sink, W: Watch>(
 {
     if search.engine.depth() == 0 {
         refute(search, input, sink, conflict)?;
-        return Ok(Some(Halt::Refuted));
+        return Ok(Some(SearchEnd::Refuted));
     }
     if budget.left() == 0 {
-        return Ok(Some(Halt::Spent));
+        return Ok(Some(SearchEnd::Spent));
     }
     if progress.learned == 0 {
-        return Ok(Some(Halt::Open));
+        return Ok(Some(SearchEnd::Open));
     }
     learn(search, input, sink, conflict)?;
     budget.count_learned();
@@ -322,7 +322,7 @@ fn decide_assuming<S: Sink>(
     assumptions: &[Lit],
     share: Share,
     progress: &mut AssumptionProgress<'_>,
-) -> Result<Option<Halt>, AllocError>
+) -> Result<Option<SearchEnd>, AllocError>
     requires runs { Runs search.old input.now (S.lines sink.old) }
     requires quiet { IsQuiet search.old.store.slots (literals_of search.old.engine.trail) }
     requires known { AreKnown input.now.stack.variables assumptions.now }
@@ -330,7 +330,7 @@ fn decide_assuming<S: Sink>(
         (S.lines sink.new) budget.old budget.new }
 {
     if budget.left() == 0 {
-        return Ok(Some(Halt::Spent));
+        return Ok(Some(SearchEnd::Spent));
     }
     if search.policy.is_restart_due() {
         search.start_over(progress.opened.len());
@@ -349,7 +349,7 @@ fn pass_and_choose<S: Sink>(
     budget: &mut Budget,
     assumptions: &[Lit],
     progress: &mut AssumptionProgress<'_>,
-) -> Result<Option<Halt>, AllocError>
+) -> Result<Option<SearchEnd>, AllocError>
     requires runs { Runs search.old input.now (S.lines sink.old) }
     requires quiet { IsQuiet search.old.store.slots (literals_of search.old.engine.trail) }
     requires noted { length (zero_of search.old.engine.trail) ≤ search.old.noted }
@@ -370,7 +370,7 @@ fn choose<S: Sink>(
     budget: &mut Budget,
     assumptions: &[Lit],
     progress: &mut AssumptionProgress<'_>,
-) -> Result<Option<Halt>, AllocError>
+) -> Result<Option<SearchEnd>, AllocError>
     requires runs { Runs search.old input.now (S.lines sink.old) }
     requires quiet { IsQuiet search.old.store.slots (literals_of search.old.engine.trail) }
     requires noted { length (zero_of search.old.engine.trail) ≤ search.old.noted }
@@ -386,13 +386,13 @@ fn choose<S: Sink>(
         }
         Choice::Refuses(lit) => {
             if progress.has_passed() {
-                return Ok(Some(Halt::Open));
+                return Ok(Some(SearchEnd::Open));
             }
             let halt = halt_at(search, input, sink, budget, assumptions, lit)?;
             Ok(Some(halt))
         }
-        Choice::Closes => Ok(Some(Halt::Satisfied)),
-        Choice::GivesUp => Ok(Some(Halt::Open)),
+        Choice::Closes => Ok(Some(SearchEnd::Satisfied)),
+        Choice::GivesUp => Ok(Some(SearchEnd::Open)),
     }
 }
 
@@ -499,7 +499,7 @@ fn halt_at<S: Sink>(
     budget: &mut Budget,
     assumptions: &[Lit],
     falsified: Lit,
-) -> Result<Halt, AllocError>
+) -> Result<SearchEnd, AllocError>
     requires runs { Runs search.old input.now (S.lines sink.old) }
     requires noted { length (zero_of search.old.engine.trail) ≤ search.old.noted }
     requires assumed { Contains assumptions.now falsified }
@@ -510,12 +510,12 @@ fn halt_at<S: Sink>(
         (S.lines sink.new) budget.old budget.new }
 {
     match search.refuse(assumptions, falsified)? {
-        Refusal::Shown(core) => Ok(Halt::Core(core)),
+        Refusal::Shown(core) => Ok(SearchEnd::Core(core)),
         Refusal::Follows(core, clause) => {
             learn_core(search, input, sink, &clause)?;
             budget.count_learned();
-            Ok(Halt::Core(core))
+            Ok(SearchEnd::Core(core))
         }
-        Refusal::Unknown => Ok(Halt::Open),
+        Refusal::Unknown => Ok(SearchEnd::Open),
     }
 }

@@ -14,7 +14,7 @@ ghost use Rattle.cdcl.specs.Assuming.{SolvesAssuming};
 ghost use Rattle.cdcl.specs.Answering.{IsAssumed, is_unsat};
 
 use crate::answers::bits;
-use crate::assuming::{Halt, run_assuming};
+use crate::assuming::{SearchEnd, run_assuming};
 use crate::budget::Budget;
 use crate::outcome::{Assumed, Outcome, Passed, Share, SolveFault};
 use crate::searching::{End, run};
@@ -420,14 +420,14 @@ fn answer_assuming<S: Sink, W: Watch>(
         passed,
     )?;
     match halt {
-        Halt::Satisfied => {
+        SearchEnd::Satisfied => {
             let bits = bits(search, input)?;
             Ok(Assumed::Sat(bits))
         }
-        Halt::Refuted => Ok(Assumed::Unsat),
-        Halt::Core(core) => Ok(Assumed::Core(core)),
-        Halt::Open => Ok(Assumed::Open),
-        Halt::Spent => Ok(Assumed::Limit),
+        SearchEnd::Refuted => Ok(Assumed::Unsat),
+        SearchEnd::Core(core) => Ok(Assumed::Core(core)),
+        SearchEnd::Open => Ok(Assumed::Open),
+        SearchEnd::Spent => Ok(Assumed::Limit),
     }
 }
 

@@ -4,7 +4,7 @@
 ghost use Rattle.std.specs.Prelude.{◌≡◌, ◌≤◌, ◌↔◌, IsTrue, OnOk, IfOk};
 ghost use Rattle.cdcl_order.specs.Deletions.{due_at, sifted, IsWorseHalf, IsChosen};
 
-use crate::standings::{KEPT, Standing, Standings};
+use crate::standings::{ClauseStanding, KEPT, Standings};
 use clauses::store::CRef;
 use std::alloc::{AllocError, Global};
 
@@ -72,7 +72,7 @@ fn sift(
     for candidate in candidates {
         let standing = standings.get(candidate.reference);
         if standing.used > 0 {
-            let less = Standing {
+            let less = ClauseStanding {
                 distance: standing.distance,
                 used: standing.used - 1,
             };

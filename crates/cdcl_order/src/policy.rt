@@ -15,7 +15,7 @@ use crate::levels::Levels;
 use crate::order::Order;
 use crate::phases::Phases;
 use crate::restarts::Pace;
-use crate::standings::{KEPT, Standing, Standings};
+use crate::standings::{ClauseStanding, KEPT, Standings};
 use crate::watch::SearchReport;
 use clauses::store::{CRef, Moves, Store};
 use cnf::types::Lit;
@@ -185,7 +185,8 @@ impl Policy {
         if distance > KEPT {
             distance = distance.min(self.levels.distance(engine, store.lits(reference)));
         }
-        self.standings.set(reference, Standing::fresh(distance));
+        self.standings
+            .set(reference, ClauseStanding::fresh(distance));
     }
 
     /// The learned clause came to the store, with so many literals, and this block distance.
@@ -195,7 +196,8 @@ impl Policy {
         if length > 2 {
             self.long = self.long.saturating_add(1);
         }
-        self.standings.add(reference, Standing::fresh(distance));
+        self.standings
+            .add(reference, ClauseStanding::fresh(distance));
     }
 
     /// Whether it is time to start over.

@@ -8,14 +8,14 @@ use std::marker::Model;
 
 /// What is known of a learned clause, in eight bytes.
 #[derive(Clone, Copy, Debug, PartialEq, Eq, Drop)]
-pub(crate) struct Standing {
+pub(crate) struct ClauseStanding {
     /// Its block distance, the least that was counted; 2^32 - 1 where none is known.
     pub(crate) distance: u32,
     /// How many deletions it outlives by its last use: from 0 to 2.
     pub(crate) used: u8,
 }
 
-const _: () = prove!(size_of::<Standing>() == 8);
+const _: () = prove!(size_of::<ClauseStanding>() == 8);
 
 /// A clause up to this distance outlives two deletions by a use, any other one.
 const NEAR: u32 = 6;
@@ -23,12 +23,12 @@ const NEAR: u32 = 6;
 /// A clause up to this distance is never deleted.
 pub(crate) const KEPT: u32 = 2;
 
-impl Standing {
+impl ClauseStanding {
     /// Nothing is known.
     fn unknown() -> Self
         ensures { result ≡ unknown }
     {
-        Standing {
+        ClauseStanding {
             distance: u32::MAX,
             used: 0,
         }
@@ -38,7 +38,7 @@ impl Standing {
     pub(crate) fn fresh(distance: u32) -> Self
         ensures { result ≡ fresh distance }
     {
-        Standing {
+        ClauseStanding {
             distance,
             used: if distance <= NEAR { 2 } else { 1 },
         }
@@ -59,7 +59,7 @@ pub(crate) struct Standings {
     // The reference of the first clause that has a standing; of no meaning where none has.
     first: usize,
     // By reference from `first` on; such that were not learned are not known.
-    items: Vec<Standing>,
+    items: Vec<ClauseStanding>,
 }
 
 impl Model for Standings {
@@ -82,21 +82,21 @@ impl Standings {
     }
 
     /// The standing of a clause.
-    pub(crate) fn get(&self, reference: CRef) -> Standing
+    pub(crate) fn get(&self, reference: CRef) -> ClauseStanding
         ensures { result ≡ standing_at self.now reference }
     {
         let place = reference.index();
         if place < self.first {
-            return Standing::unknown();
+            return ClauseStanding::unknown();
         }
         match self.items.get(place - self.first) {
             Some(standing) => *standing,
-            None => Standing::unknown(),
+            None => ClauseStanding::unknown(),
         }
     }
 
     /// Changes the standing of a clause that has one.
-    pub(crate) fn set(&mut self, reference: CRef, standing: Standing)
+    pub(crate) fn set(&mut self, reference: CRef, standing: ClauseStanding)
         ensures { self.new ≡ with_standing self.old reference standing }
     {
         let place = reference.index();
@@ -107,7 +107,7 @@ impl Standings {
 
     /// Gives a standing to a clause, whose reference is mostly above all others. Where memory is
     /// refused nothing is known of it.
-    pub(crate) fn add(&mut self, reference: CRef, standing: Standing) {
+    pub(crate) fn add(&mut self, reference: CRef, standing: ClauseStanding) {
         let place = reference.index();
         if self.items.is_empty() {
             self.first = place;
@@ -121,7 +121,7 @@ impl Standings {
             return;
         }
         for _ in self.items.len()..at {
-            if self.items.push(Standing::unknown()).is_err() {
+            if self.items.push(ClauseStanding::unknown()).is_err() {
                 return;
             }
         }

@@ -9,7 +9,7 @@ use Rattle.lrat_log.specs.declared.lines.Hint.{Hint}
 use Rattle.lrat_log.specs.declared.lines.Hint.TheVariants.{Plain}
 use Rattle.lrat_log.specs.declared.lines.Kind.TheVariants.{Definition, Resolvent}
 use Rattle.lrat_log.specs.Log.{LogLine, is_delete}
-use Rattle.eliminate_pairs.specs.declared.pairs.Fresh.{Fresh}
+use Rattle.eliminate_pairs.specs.declared.pairs.PairDefinition.{PairDefinition}
 use Rattle.lrat_log.specs.Steps.{added_count}
 use Rattle.eliminate_names.specs.Work.{NamesState, name_at, added_line, delete_line}
 use Rattle.eliminate_pairs.specs.Pairs.{Ground, stage_of, positive, whole_clause, side_clause}
@@ -167,7 +167,7 @@ name_stays n n' r q within = ap (λ (x : NamesState). name_at x.names r) q
 
 -- a clause with the variable of a definition
 pub replaced_is : (slots slots' : Slots) (n n' : NamesState) (lines lines' : List LogLine)
-    (lits c : List Literal) (hints : List Hint) (d : Fresh) (r : ℕ) (x y w : Hint)
+    (lits c : List Literal) (hints : List Hint) (d : PairDefinition) (r : ℕ) (x y w : Hint)
     → n.additions ≡ added_count lines
     → slots' ≡ slots ++ Some lits ∷ [] → n' ≡ more_names n
     → lines' ≡ lines ++ record { kind = Resolvent; clause = lits; hints = hints } ∷ []
@@ -197,7 +197,7 @@ replaced_is slots slots' n n' lines lines' lits c hints d r x y w counted p q k 
     } ∷ []) is)
 
 -- what was right at a stage is so with the variable of a definition that stands
-pub record Defines (s : Stage) (v : ℕ) (d : Fresh) (slots : Slots) (n : NamesState)
+pub record Defines (s : Stage) (v : ℕ) (d : PairDefinition) (slots : Slots) (n : NamesState)
     (lines : List LogLine) : Type 0 where
   pub variable : d.variable ≡ v + 1
   pub defined : IsDefined slots d
@@ -205,7 +205,8 @@ pub record Defines (s : Stage) (v : ℕ) (d : Fresh) (slots : Slots) (n : NamesS
   pub keeps : Keeps s (stage_of d.variable slots n lines)
   pub moves : LeadsTo s (stage_of d.variable slots n lines)
 
-pub defines_same : (s : Stage) (v : ℕ) (d : Fresh) (slots slots' : Slots) (n n' : NamesState)
+pub defines_same : (s : Stage) (v : ℕ) (d : PairDefinition) (slots slots' : Slots)
+    (n n' : NamesState)
     (lines lines' : List LogLine) → slots' ≡ slots → n' ≡ n → lines' ≡ lines
     → Defines s v d slots n lines → Defines s v d slots' n' lines'
 defines_same s v d slots slots' n n' lines lines' p q r h =

@@ -6,7 +6,7 @@ use Rattle.cnf.specs.Literal.{Literal}
 use Rattle.lrat_log.specs.declared.lines.Name.TheVariants.{Formula}
 use Rattle.lrat_log.specs.Log.{LogLine}
 use Rattle.eliminate_names.specs.Work.{name_at, delete_line}
-use Rattle.eliminate_pairs.specs.declared.pairs.Fresh.{Fresh}
+use Rattle.eliminate_pairs.specs.declared.pairs.PairDefinition.{PairDefinition}
 use Rattle.eliminate_pairs.specs.Pairs.{Stage, StandOften, DefinesOften, DefinesNone}
 use Rattle.eliminate_pairs.specs.Pairs.{IsMove, AreMoves, LeadsTo, is_definition, whole_line}
 use Rattle.eliminate_pairs.specs.Pairs.{side_line, DefineNothing, BreaksOff, LeadsOff, KeepsLog}
@@ -55,7 +55,7 @@ defines_often s a b f g often =
     }
 
 -- a clause that is replaced, and that goes
-pub defines_none : (s : Stage) (d : Fresh) (r : ℕ) (c : List Literal)
+pub defines_none : (s : Stage) (d : PairDefinition) (r : ℕ) (c : List Literal)
     → DefinesNone s (deleted_stage (with_replaced s d r c) r)
 defines_none s d r c =
     let one : Stage = with_replaced s d r c in

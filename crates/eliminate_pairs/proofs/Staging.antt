@@ -23,7 +23,7 @@ use Rattle.lrat_log.specs.declared.lines.Kind.TheVariants.{Resolvent}
 use Rattle.lrat_log.specs.Log.{HasNumber, LogLine, IsLine, IsPlain, number_in, is_delete}
 use Rattle.lrat_log.specs.Log.{is_learned}
 use Rattle.lrat_log.specs.Steps.{StaysLogOver, IsOwnGroup, adds_empty_clause}
-use Rattle.eliminate_pairs.specs.declared.pairs.Fresh.{Fresh}
+use Rattle.eliminate_pairs.specs.declared.pairs.PairDefinition.{PairDefinition}
 use Rattle.lrat_log.specs.Steps.{added_count}
 use Rattle.eliminate_names.specs.Work.{name_at, added_line, delete_line}
 use Rattle.eliminate_pairs.specs.Pairs.{Ground, positive, whole_clause, side_clause, whole_line}
@@ -390,7 +390,7 @@ right_right ground s a b w few small k =
     (whole-has_fresh two.variables a b) (whole-has_right two.variables a b) h.only
 
 -- a clause with the pair becomes one with the variable
-abbrev pub replaced_line_of : Stage → Fresh → ℕ → List Literal → LogLine
+abbrev pub replaced_line_of : Stage → PairDefinition → ℕ → List Literal → LogLine
 replaced_line_of s d r c = record {
   kind = Resolvent;
   clause = replaced d.variable d.left d.right c;
@@ -398,10 +398,10 @@ replaced_line_of s d r c = record {
       (name_at s.names r) ∷ [];
 }
 
-abbrev pub with_replaced : Stage → Fresh → ℕ → List Literal → Stage
+abbrev pub with_replaced : Stage → PairDefinition → ℕ → List Literal → Stage
 with_replaced s d r c = added_stage s s.variables (replaced_line_of s d r c)
 
-has_pair : (d : Fresh) (c : List Literal) → literal_eq d.left d.right ≡ false
+has_pair : (d : PairDefinition) (c : List Literal) → literal_eq d.left d.right ≡ false
     → is_tautology c ≡ false → HasPairOf d.variable d.left d.right c
     → HasPair d.variable d.left d.right c
 has_pair d c two plain h =
@@ -444,7 +444,7 @@ three_plain : (l m n : Name) → All IsOwnGroup (Plain l ∷ Plain m ∷ Plain n
 three_plain l m n =
     All-from_recursion IsOwnGroup (Plain l ∷ Plain m ∷ Plain n ∷ []) (tt, (tt, (tt, tt)))
 
-pub replaced_right : (ground : Ground) (s : Stage) (d : Fresh) (r : ℕ) (c : List Literal)
+pub replaced_right : (ground : Ground) (s : Stage) (d : PairDefinition) (r : ℕ) (c : List Literal)
     → IsDefined s.slots d → clause_at s.slots r ≡ Some c → HasPairOf d.variable d.left d.right c
     → s.variables < 2 ^ 27 → added_count s.lines + 1 < 2 ^ 62 → IsStage ground s
     → IsStage ground (with_replaced s d r c)
@@ -499,7 +499,8 @@ apart slots q r l c d at_q at_r has lacks e =
     ∙ at_r)) has)
 
 -- and the definition stands on, once the clause is gone
-pub defined_after : (slots : Slots) (d : Fresh) (r : ℕ) (c more : List Literal) → IsDefined slots d
+pub defined_after : (slots : Slots) (d : PairDefinition) (r : ℕ) (c more : List Literal)
+    → IsDefined slots d
     → clause_at slots r ≡ Some c → HasPairOf d.variable d.left d.right c
     → IsDefined (slice_set (slots ++ Some more ∷ []) r None) d
 defined_after slots d r c more h live pair =
@@ -524,7 +525,7 @@ defined_after slots d r c more h live pair =
       two = h.two;
     }
 
-pub gone_right : (ground : Ground) (s : Stage) (d : Fresh) (r : ℕ) (c : List Literal)
+pub gone_right : (ground : Ground) (s : Stage) (d : PairDefinition) (r : ℕ) (c : List Literal)
     → IsDefined s.slots d → clause_at s.slots r ≡ Some c → HasPairOf d.variable d.left d.right c
     → s.variables < 2 ^ 27 → added_count s.lines + 1 < 2 ^ 62 → IsStage ground s
     → IsStage ground (deleted_stage (with_replaced s d r c) r)

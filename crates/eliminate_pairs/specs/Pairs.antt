@@ -16,7 +16,7 @@ use Rattle.lrat_log.specs.Log.{LogLine, Given}
 use Rattle.lrat_log.specs.Steps.{StaysLogOver, AddsNoEmptyClause, learned_count, added_count}
 use Rattle.eliminate_names.specs.Work.{IsWork, NamesState}
 use Rattle.eliminate_pairs.specs.declared.frequencies.TheConstants.{FEWEST, SHORTEST}
-use Rattle.eliminate_pairs.specs.declared.pairs.Fresh.{Fresh}
+use Rattle.eliminate_pairs.specs.declared.pairs.PairDefinition.{PairDefinition}
 
 -- not z, or a or b
 abbrev pub whole_clause : ℕ → Literal → Literal → List Literal
@@ -78,7 +78,7 @@ pub record HasPairOf (z : ℕ) (a b : Literal) (c : List Literal) : Type 0 where
   pub others : AllByRecursion (IsOnOther z) c
 
 -- the three clauses of a definition stand in the store
-pub record IsDefined (slots : Slots) (d : Fresh) : Type 0 where
+pub record IsDefined (slots : Slots) (d : PairDefinition) : Type 0 where
   pub whole : clause_at slots d.whole ≡ Some (whole_clause d.variable d.left d.right)
   pub left_side : clause_at slots d.left_side ≡ Some (side_clause d.variable d.left)
   pub right_side : clause_at slots d.right_side ≡ Some (side_clause d.variable d.right)

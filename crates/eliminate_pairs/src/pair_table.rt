@@ -13,7 +13,7 @@ use std::alloc::AllocError;
 
 /// A pair that may be worth a variable.
 #[derive(Drop)]
-pub(crate) struct Candidate {
+pub(crate) struct PairCandidate {
     /// The one of lower index.
     pub(crate) left: Lit,
     /// The one of higher index.
@@ -25,7 +25,7 @@ pub(crate) struct Candidate {
     least: usize,
 }
 
-impl Candidate {
+impl PairCandidate {
     /// In how many clauses it must still stand.
     pub(crate) fn fewest(&self) -> usize {
         self.least.max(self.end.saturating_sub(self.start) / 2)
@@ -76,11 +76,11 @@ impl PairTable {
     }
 
     /// The pair with this number, from 0.
-    pub(crate) fn candidate(&self, k: usize) -> Option<Candidate> {
+    pub(crate) fn candidate(&self, k: usize) -> Option<PairCandidate> {
         let run = self.runs.get(k)?;
         let start = run.start as usize;
         let meeting = self.meetings.get(start)?;
-        Some(Candidate {
+        Some(PairCandidate {
             left: literal_at(run.left)?,
             right: literal_at(right_of(*meeting))?,
             start,
@@ -91,7 +91,11 @@ impl PairTable {
 
     /// Finds the clauses in which the pair still stands, in rising reference; fewer than all where
     /// they are fewer than it must still stand in.
-    pub(crate) fn find(&mut self, store: &Store, candidate: &Candidate) -> Result<(), AllocError> {
+    pub(crate) fn find(
+        &mut self,
+        store: &Store,
+        candidate: &PairCandidate,
+    ) -> Result<(), AllocError> {
         self.found.clear();
         let fewest = candidate.fewest();
         let mut is_moved = false;
@@ -141,7 +145,7 @@ impl PairTable {
 }
 
 /// Whether a clause at this place has both literals and enough others.
-fn stands_in(store: &Store, place: u32, candidate: &Candidate) -> bool {
+fn stands_in(store: &Store, place: u32, candidate: &PairCandidate) -> bool {
     let Some(reference) = store.live_at(place as usize) else {
         return false;
     };

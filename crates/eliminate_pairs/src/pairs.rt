@@ -23,7 +23,7 @@ ghost use Rattle.eliminate_pairs.specs.Pairs.{IsOnOther, StandAt, StandOften, Ha
 ghost use Rattle.eliminate_pairs.specs.Pairs.{stage_of, FitNames, Moves, Passes};
 
 use crate::frequencies::{FEWEST, SHORTEST, first_looked_at};
-use crate::pair_table::{Candidate, PairTable};
+use crate::pair_table::{PairCandidate, PairTable};
 use clauses::store::{CRef, Store};
 use cnf::types::Lit;
 use eliminate_names::names::{Names, add, delete, move_together};
@@ -36,7 +36,7 @@ const MOST_ROUNDS: u32 = 6;
 
 /// A fresh variable that means 'left or right', and the three clauses that say so.
 #[derive(Drop)]
-pub(crate) struct Fresh {
+pub(crate) struct PairDefinition {
     // Above the variables of all clauses before it, below 2^27.
     variable: u32,
     // The literal of the pair with the lower index.
@@ -129,7 +129,7 @@ fn define_found<S: Sink>(
     names: &mut Names,
     sink: &mut S,
     vars: u32,
-    candidate: &Candidate,
+    candidate: &PairCandidate,
     table: &mut PairTable,
 ) -> Result<u32, AllocError>
     requires room { vars + 1 < VARIABLE_LIMIT }
@@ -155,7 +155,7 @@ fn define_found<S: Sink>(
 }
 
 /// Whether the pair stands together in `FEWEST` clauses, by those that were found.
-fn stand_often(store: &Store, candidate: &Candidate, found: &[(u32, u32)]) -> bool
+fn stand_often(store: &Store, candidate: &PairCandidate, found: &[(u32, u32)]) -> bool
     ensures { IsTrue result → StandOften store.now.slots candidate.now.left candidate.now.right }
 {
     if candidate.left == candidate.right {
@@ -179,7 +179,7 @@ fn stand_often(store: &Store, candidate: &Candidate, found: &[(u32, u32)]) -> bo
 }
 
 /// Whether a live clause with the pair and another literal stands at this place.
-fn stand_at(store: &Store, candidate: &Candidate, place: usize) -> bool
+fn stand_at(store: &Store, candidate: &PairCandidate, place: usize) -> bool
     ensures { IsTrue result
         → StandAt store.now.slots candidate.now.left candidate.now.right place }
 {
@@ -207,7 +207,7 @@ fn has(lits: &[Lit], lit: Lit) -> bool
 }
 
 /// Whether both literals are among these, and the variable is not.
-fn has_pair(lits: &[Lit], definition: &Fresh) -> bool
+fn has_pair(lits: &[Lit], definition: &PairDefinition) -> bool
     ensures { IsTrue result
         → HasPairOf definition.now.variable definition.now.left definition.now.right lits.now }
 {
@@ -234,7 +234,7 @@ fn define<S: Sink>(
     vars: u32,
     left: Lit,
     right: Lit,
-) -> Result<Fresh, AllocError>
+) -> Result<PairDefinition, AllocError>
     requires room { vars + 1 < VARIABLE_LIMIT }
     requires often { StandOften store.old.slots left right }
     requires fit { FitNames names.old store.old.slots (S.lines sink.old) }
@@ -251,7 +251,7 @@ fn define<S: Sink>(
     let whole = add(store, names, sink, Kind::Definition, &lits, &[])?;
     let left_side = add_side(store, names, sink, variable, left, whole)?;
     let right_side = add_side(store, names, sink, variable, right, whole)?;
-    Ok(Fresh {
+    Ok(PairDefinition {
         variable,
         left,
         right,
@@ -297,7 +297,7 @@ fn replace<S: Sink>(
     store: &mut Store,
     names: &mut Names,
     sink: &mut S,
-    definition: &Fresh,
+    definition: &PairDefinition,
     reference: CRef,
 ) -> Result<CRef, AllocError>
     requires from_one { 0 < definition.now.variable }
@@ -334,7 +334,11 @@ fn plain(names: &Names, reference: CRef) -> Hint
 }
 
 /// The variable, and then the literals without the pair.
-fn replaced_lits(alloc: Global, lits: &[Lit], definition: &Fresh) -> Result<Vec<Lit>, AllocError>
+fn replaced_lits(
+    alloc: Global,
+    lits: &[Lit],
+    definition: &PairDefinition,
+) -> Result<Vec<Lit>, AllocError>
     requires from_one { 0 < definition.now.variable }
     requires small { definition.now.variable < VARIABLE_LIMIT }
     ensures { IfOk result (λ v. v.items

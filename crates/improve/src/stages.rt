@@ -60,7 +60,7 @@ pub(crate) const FOR_BOUNDS: Plan = Plan {
 
 /// How far the stages have come.
 #[derive(Drop)]
-struct Stage {
+struct StageState {
     // How they go.
     plan: Plan,
     // So many clauses more the search for cores may learn.
@@ -105,7 +105,7 @@ pub(crate) fn run_stages<T: Progress, W: Watch>(
         (T.state progress.old) (T.state progress.new)
         budget.old budget.new standing.old) }
 {
-    let mut stage = Stage {
+    let mut stage = StageState {
         plan,
         more: plan.first,
         tried: 0,
@@ -133,7 +133,7 @@ fn run_stage<T: Progress, W: Watch>(
     standing: &mut Standing,
     work: &mut Work,
     search: &mut CoreSearch,
-    stage: &mut Stage,
+    stage: &mut StageState,
 ) -> Result<Option<ByCores>, ImproveFault>
     requires failures { (T.state progress.old).failures < 2 ^ 62 }
     requires standing { IsStanding instance.now standing.old }

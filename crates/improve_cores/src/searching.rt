@@ -71,14 +71,14 @@ pub struct CoreSearch {
     // The clauses, and what was learned of them.
     solver: CountingSolver,
     // How it goes on.
-    policy: Policy,
+    policy: KnownCores,
     // What was assumed last; kept for its memory.
     assumptions: Vec<Lit>,
 }
 
 /// What the search knows of its cores.
 #[derive(Drop)]
-struct Policy {
+struct KnownCores {
     // What may be assumed false.
     items: Items,
     // The totalizers of cores.
@@ -132,7 +132,7 @@ impl CoreSearch {
         let greatest = items.greatest_below(u64::MAX);
         Ok(CoreSearch {
             solver,
-            policy: Policy {
+            policy: KnownCores {
                 items,
                 trees,
                 cores: Vec::new(alloc),
@@ -341,7 +341,7 @@ enum SearchStep {
     Over,
 }
 
-impl Policy {
+impl KnownCores {
     /// What the stratum assumes, in place of what was assumed before.
     fn assume_stratum(&mut self, assumptions: &mut Vec<Lit>) -> Result<(), AllocError> {
         if self.is_stale {

@@ -17,7 +17,7 @@ const DEPTH: u32 = 40;
 #[derive(Drop)]
 struct Node {
     // The nodes that count each half of the inputs; none where there is one input.
-    halves: Option<Halves>,
+    halves: Option<NodeHalves>,
     // How many inputs are below it, from 1.
     inputs: usize,
     // The j-th is true where at least j of the inputs are; at most as many as the inputs.
@@ -26,7 +26,7 @@ struct Node {
 
 /// The places of two nodes.
 #[derive(Clone, Copy, Drop)]
-struct Halves {
+struct NodeHalves {
     left: u32,
     right: u32,
 }
@@ -78,7 +78,7 @@ impl Trees {
             let half = inputs.len() / 2;
             let left = self.plant_within(depth - 1, &inputs[..half])?;
             let right = self.plant_within(depth - 1, &inputs[half..])?;
-            halves = Some(Halves { left, right });
+            halves = Some(NodeHalves { left, right });
         } else {
             outputs.extend_from_slice(inputs)?;
         }
@@ -127,7 +127,7 @@ impl Trees {
     fn add_outputs(
         &mut self,
         node: u32,
-        halves: Halves,
+        halves: NodeHalves,
         most: usize,
     ) -> Result<Growth, AllocError> {
         let alloc = self.clauses.allocator();
@@ -151,7 +151,7 @@ impl Trees {
     }
 
     /// The clauses of the sums above `old`: i of the left half and j of the right one are i + j.
-    fn link(&mut self, halves: Halves, sums: &[u32], old: usize) -> Result<(), AllocError> {
+    fn link(&mut self, halves: NodeHalves, sums: &[u32], old: usize) -> Result<(), AllocError> {
         let left = outputs_of(&self.nodes, halves.left);
         let right = outputs_of(&self.nodes, halves.right);
         for i in 0..=left.len() {

@@ -14,7 +14,7 @@ use crate::added::Added;
 use crate::counts::{count_last, count_of, is_next, lower, times_in};
 use crate::near::Near;
 use crate::pages::Counts;
-use crate::places::Places;
+use crate::places::KnownPlaces;
 use cnf::types::{Formula, Lit};
 use std::alloc::AllocError;
 use std::marker::Model;
@@ -32,7 +32,7 @@ pub struct LiveClauses {
     /// By a literal's index, how often it stands in the live clauses, if they are counted.
     counts: Counts,
     /// Where the literals of long candidates stand.
-    places: Places,
+    places: KnownPlaces,
 }
 
 impl Model for LiveClauses {
@@ -125,7 +125,7 @@ fn count_out(is_counted: bool, counts: &mut Counts, near: &Near, far: &Added, id
 fn take_shown(
     near: &Near,
     far: &Added,
-    places: &mut Places,
+    places: &mut KnownPlaces,
     lit: Lit,
     total: usize,
     ids: &[u64],
@@ -162,7 +162,7 @@ impl LiveClauses {
             far: Added::new(alloc),
             is_counted: false,
             counts: Counts::new(alloc),
-            places: Places::new(alloc),
+            places: KnownPlaces::new(alloc),
         })
     }
 

@@ -20,7 +20,7 @@ const SHORT: usize = 64;
 
 /// Where the literals of the long clauses that were named stand, as far as it is known.
 #[derive(Drop)]
-pub(crate) struct Places {
+pub(crate) struct KnownPlaces {
     /// By a clause's id, its literals' indices with their places behind them, in rising order.
     by_id: BTreeMap<u64, Vec<u64>>,
     /// Where memory comes from.
@@ -45,10 +45,10 @@ fn stands_at(clause: &[Lit], place: usize, lit: Lit) -> bool
     true
 }
 
-impl Places {
+impl KnownPlaces {
     /// None so far.
     pub(crate) fn new(alloc: Global) -> Self {
-        Places {
+        KnownPlaces {
             by_id: BTreeMap::new(alloc),
             alloc,
         }

@@ -9,7 +9,7 @@ ghost use Rattle.lrat_machine.specs.Steps.{IsBase, live_of, IsFaultOf};
 ghost use Rattle.lrat_machine.specs.Verdict.{clause_fault, walk as walk_of};
 ghost use Rattle.lrat_read.specs.Form.{leading as leading_of, groups_of};
 
-use crate::assumed::Assumed;
+use crate::assumed::AssumedLits;
 use crate::hints::{Walked, leading, walk};
 use crate::rat::rat_fault;
 use crate::state::{ClauseBase, Scratch};
@@ -20,7 +20,10 @@ use lrat_read::types::SignedId;
 use std::alloc::AllocError;
 
 /// Assumes the negation of each literal; false where a literal stands twice or with its negation.
-pub(crate) fn assume_negations(clause: &[Lit], assumed: &mut Assumed) -> Result<bool, AllocError>
+pub(crate) fn assume_negations(
+    clause: &[Lit],
+    assumed: &mut AssumedLits,
+) -> Result<bool, AllocError>
     requires { assumed.old.literals ≡ [] }
     ensures distinct { IfOk result
         (λ r. r ≡ not (has_repeat clause.now || is_tautology clause.now)) }

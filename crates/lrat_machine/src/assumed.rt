@@ -12,7 +12,7 @@ use std::marker::Model;
 
 /// The literals that are assumed true, in the order in which they were assumed.
 #[derive(Drop)]
-pub(crate) struct Assumed {
+pub(crate) struct AssumedLits {
     /// By a literal's index, whether it is assumed; two for each variable that may be.
     values: Vec<bool>,
     /// The greatest variable that may be assumed, below 2^27.
@@ -21,7 +21,7 @@ pub(crate) struct Assumed {
     trail: Vec<Lit>,
 }
 
-impl Model for Assumed {
+impl Model for AssumedLits {
     ghost use Rattle.lrat_machine.specs.Assumed.{AssumedState, AreValues};
 
     ghost Value = { AssumedState };
@@ -31,12 +31,12 @@ impl Model for Assumed {
     ghost invariant = { λ a. AreValues a.values.items a.variables a.trail.items };
 }
 
-impl Assumed {
+impl AssumedLits {
     /// No literal, and no variable that may be assumed.
     pub(crate) fn new(alloc: Global) -> Self
         ensures { result ≡ record { literals = []; variables = 0 } }
     {
-        Assumed {
+        AssumedLits {
             values: Vec::new(alloc),
             variables: 0,
             trail: Vec::new(alloc),

@@ -16,7 +16,7 @@ ghost use Rattle.lrat_machine.specs.Steps.{outcome_as, walked_as, EndAlike, IsFo
 ghost use Rattle.cnf.specs.Refute.{Clauses};
 ghost use Rattle.lrat_read.specs.Form.{leading as leading_of};
 
-use crate::assumed::Assumed;
+use crate::assumed::AssumedLits;
 use crate::verdicts::Cause;
 use cnf::types::Lit;
 use lrat_live::live::LiveClauses;
@@ -60,7 +60,7 @@ impl Walked {
 
 /// What the clause does where these literals are true. The pass goes over all its literals and
 /// decides nothing on the way, so that there is little for the processor to guess.
-pub(crate) fn effect_of(clause: &[Lit], assumed: &Assumed) -> Effect
+pub(crate) fn effect_of(clause: &[Lit], assumed: &AssumedLits) -> Effect
     requires { AreWithin assumed.now.variables clause.now }
     ensures { outcome_as result ≡ outcome_of (Some clause.now) assumed.now.literals }
 {
@@ -101,7 +101,7 @@ fn follow(
     clause: Option<&[Lit]>,
     hints: &[SignedId],
     i: usize,
-    assumed: &mut Assumed,
+    assumed: &mut AssumedLits,
 ) -> Result<Option<Walked>, AllocError>
     requires place { i < length hints.now }
     requires within { IfSome (option_copied clause) (λ c. AreWithin assumed.old.variables c) }
@@ -131,7 +131,7 @@ fn follow(
 /// Follows the hints in turn. What they make true is assumed.
 pub(crate) fn walk(
     live: &LiveClauses,
-    assumed: &mut Assumed,
+    assumed: &mut AssumedLits,
     hints: &[SignedId],
 ) -> Result<Walked, AllocError>
     requires { All (λ e. AreWithin assumed.old.variables e.1) live.now }

@@ -11,7 +11,7 @@ ghost use Rattle.lrat_read.specs.Reader.{IsReadAs};
 
 use crate::additions::addition_fault;
 use crate::ahead::read_ahead;
-use crate::assumed::Assumed;
+use crate::assumed::AssumedLits;
 use crate::state::{ClauseBase, Scratch};
 use crate::verdicts::{Cause, Verdict};
 use cnf::types::Formula;
@@ -175,7 +175,7 @@ impl Machine {
     {
         let alloc = formula.allocator();
         let last = formula.clauses().len() as u64;
-        let mut assumed = Assumed::new(alloc);
+        let mut assumed = AssumedLits::new(alloc);
         assumed.grow(formula.vars())?;
         Ok(Machine {
             reader: LineReader::new(alloc),

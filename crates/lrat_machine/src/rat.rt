@@ -16,7 +16,7 @@ ghost use Rattle.lrat_machine.specs.Verdict.{ids_with, group_fault as group_faul
 ghost use Rattle.lrat_machine.specs.Verdict.{groups_fault as groups_fault_of};
 ghost use Rattle.lrat_read.specs.Form.{groups_of};
 
-use crate::assumed::Assumed;
+use crate::assumed::AssumedLits;
 use crate::hints::{leading, walk};
 use crate::state::{ClauseBase, Scratch};
 use crate::verdicts::Cause;
@@ -53,7 +53,13 @@ fn shows_true(live: &LiveClauses, id: u64, clause: &[Lit], left_out: Lit, lits: 
 }
 
 /// As `finds_true`, for the clause under an id.
-fn has_true(live: &LiveClauses, id: u64, clause: &[Lit], left_out: Lit, assumed: &Assumed) -> bool
+fn has_true(
+    live: &LiveClauses,
+    id: u64,
+    clause: &[Lit],
+    left_out: Lit,
+    assumed: &AssumedLits,
+) -> bool
     requires { AreWithin assumed.now.variables clause.now }
     ensures { result ≡ list_any (λ k. contains_literal k assumed.now.literals)
         (without_literal left_out clause.now) }
@@ -67,7 +73,7 @@ fn has_true(live: &LiveClauses, id: u64, clause: &[Lit], left_out: Lit, assumed:
 }
 
 /// Whether a literal other than the left out one is true.
-fn finds_true(clause: &[Lit], left_out: Lit, assumed: &Assumed) -> bool
+fn finds_true(clause: &[Lit], left_out: Lit, assumed: &AssumedLits) -> bool
     requires { AreWithin assumed.now.variables clause.now }
     ensures { result ≡ list_any (λ k. contains_literal k assumed.now.literals)
         (without_literal left_out clause.now) }
@@ -81,7 +87,7 @@ fn finds_true(clause: &[Lit], left_out: Lit, assumed: &Assumed) -> bool
 }
 
 /// Assumes the negations of all literals but the left out one.
-fn assume_others(clause: &[Lit], left_out: Lit, assumed: &mut Assumed) -> Result<(), AllocError>
+fn assume_others(clause: &[Lit], left_out: Lit, assumed: &mut AssumedLits) -> Result<(), AllocError>
     requires { AreWithin assumed.old.variables clause.now }
     ensures negated { IfOk result (λ _.
         HaveSame (map negation (without_literal left_out clause.now) ++ assumed.old.literals)
@@ -103,7 +109,7 @@ fn group_fault(
     hints: &[SignedId],
     pivot: Lit,
     live: &LiveClauses,
-    assumed: &mut Assumed,
+    assumed: &mut AssumedLits,
 ) -> Result<Option<Cause>, AllocError>
     requires { All (λ e. AreWithin assumed.old.variables e.1) live.now }
     ensures fault { IfOk result (λ f. f
@@ -131,7 +137,7 @@ fn groups_fault(
     hints: &[SignedId],
     pivot: Lit,
     live: &LiveClauses,
-    assumed: &mut Assumed,
+    assumed: &mut AssumedLits,
 ) -> Result<Option<Cause>, AllocError>
     requires { All (λ e. AreWithin assumed.old.variables e.1) live.now }
     ensures fault { IfOk result (λ f. f

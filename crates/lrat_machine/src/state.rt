@@ -1,5 +1,5 @@
 // What the checker holds between lines, and what the check of a line works on.
-use crate::assumed::Assumed;
+use crate::assumed::AssumedLits;
 use lrat_live::live::LiveClauses;
 
 /// What the lines so far leave.
@@ -17,7 +17,7 @@ pub(crate) struct ClauseBase {
 #[derive(Drop)]
 pub(crate) struct Scratch {
     /// The literals that are assumed true; the variables of the live clauses may be.
-    pub(crate) assumed: Assumed,
+    pub(crate) assumed: AssumedLits,
     /// The ids that the line names as candidates.
     pub(crate) candidates: Vec<u64>,
 }

@@ -3,7 +3,7 @@ use propagate::engine::EngineFault;
 use std::alloc::AllocError;
 
 #[derive(Clone, Copy, Debug, PartialEq, Eq, Drop)]
-pub(crate) enum Fault {
+pub(crate) enum BenchFault {
     /// The words of the command line are others.
     Usage,
     /// The file could not be read.
@@ -14,14 +14,14 @@ pub(crate) enum Fault {
     Memory,
 }
 
-impl From<AllocError> for Fault {
+impl From<AllocError> for BenchFault {
     fn from(_error: AllocError) -> Self {
-        Fault::Memory
+        BenchFault::Memory
     }
 }
 
-impl From<EngineFault> for Fault {
+impl From<EngineFault> for BenchFault {
     fn from(_fault: EngineFault) -> Self {
-        Fault::Memory
+        BenchFault::Memory
     }
 }

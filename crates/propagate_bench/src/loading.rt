@@ -4,7 +4,7 @@ ghost use Rattle.std.specs.Prelude.{◌≡◌, ◌<◌, ◌≤◌, ◌^◌, IsTr
 ghost use Rattle.cnf.specs.declared.limits.TheConstants.{VARIABLE_LIMIT};
 ghost use Rattle.propagate.specs.Fits.{Fits, IsWithin};
 
-use crate::faults::Fault;
+use crate::faults::BenchFault;
 use clauses::store::{CRef, Store};
 use cnf::limits::VARIABLE_LIMIT;
 use cnf::types::Lit;
@@ -14,23 +14,23 @@ use text::cutting::{lines, number, tokens};
 
 /// What a token says.
 #[derive(Clone, Copy, Drop)]
-enum Word {
+enum LoadWord {
     /// The 0 that ends a clause.
     End,
     Literal(Lit),
 }
 
-fn read_word(token: &[u8]) -> Result<Word, Fault> {
+fn read_word(token: &[u8]) -> Result<LoadWord, BenchFault> {
     let (negated, digits) = match token {
         [b'-', digits @ ..] => (true, digits),
         _ => (false, token),
     };
     match number(digits) {
-        Some(0) => Ok(Word::End),
+        Some(0) => Ok(LoadWord::End),
         Some(variable) if variable < u64::from(VARIABLE_LIMIT) => {
-            Ok(Word::Literal(Lit::new(variable as u32, negated)))
+            Ok(LoadWord::Literal(Lit::new(variable as u32, negated)))
         }
-        _ => Err(Fault::Text),
+        _ => Err(BenchFault::Text),
     }
 }
 
@@ -40,7 +40,7 @@ fn is_remark(line: &[u8]) -> bool {
 }
 
 /// The greatest variable of the formula, 0 where it has none.
-pub(crate) fn greatest_variable(text: &[u8]) -> Result<u32, Fault>
+pub(crate) fn greatest_variable(text: &[u8]) -> Result<u32, BenchFault>
     ensures { IfOk result (λ greatest. greatest < VARIABLE_LIMIT) }
 {
     let mut greatest = 0;
@@ -49,7 +49,7 @@ pub(crate) fn greatest_variable(text: &[u8]) -> Result<u32, Fault>
             continue;
         }
         for token in tokens(line) {
-            if let Word::Literal(lit) = read_word(token)? {
+            if let LoadWord::Literal(lit) = read_word(token)? {
                 greatest = greatest.max(lit.variable());
             }
         }
@@ -75,14 +75,14 @@ pub(crate) fn add(
     engine: &mut Engine,
     vars: u32,
     lits: &[Lit],
-) -> Result<CRef, Fault>
+) -> Result<CRef, BenchFault>
     requires fits { Fits engine.old store.old.slots }
     requires vars { engine.old.variables ≡ vars }
     ensures fits { OnOk result (Fits engine.new store.new.slots) }
     ensures vars { OnOk result (engine.new.variables ≡ vars) }
 {
     if !is_within(lits, vars) {
-        return Err(Fault::Text);
+        return Err(BenchFault::Text);
     }
     let reference = store.add(lits)?;
     engine.attach(store, reference)?;
@@ -95,7 +95,7 @@ pub(crate) fn load(
     store: &mut Store,
     engine: &mut Engine,
     vars: u32,
-) -> Result<(), Fault>
+) -> Result<(), BenchFault>
     requires fits { Fits engine.old store.old.slots }
     requires vars { engine.old.variables ≡ vars }
     ensures fits { OnOk result (Fits engine.new store.new.slots) }
@@ -108,8 +108,8 @@ pub(crate) fn load(
         }
         for token in tokens(line) {
             match read_word(token)? {
-                Word::Literal(lit) => lits.push(lit).map_err(AllocError::from)?,
-                Word::End => {
+                LoadWord::Literal(lit) => lits.push(lit).map_err(AllocError::from)?,
+                LoadWord::End => {
                     add(store, engine, vars, &lits)?;
                     lits.clear();
                 }

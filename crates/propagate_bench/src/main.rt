@@ -6,9 +6,9 @@ mod faults;
 mod loading;
 mod rounds;
 
-use crate::faults::Fault;
+use crate::faults::BenchFault;
 use crate::loading::{greatest_variable, load};
-use crate::rounds::{Counts, play_rounds};
+use crate::rounds::{RoundCounts, play_rounds};
 use clauses::store::Store;
 use propagate::engine::Engine;
 use std::process::ExitCode;
@@ -16,8 +16,12 @@ use std::rt::{Env, Files};
 use std::{env, fs};
 
 /// Reads the formula of a file and plays so many rounds on it.
-fn measure<R: Files + AllocGlobal>(rt: &R, path: &str, rounds: u64) -> Result<Counts, Fault> {
-    let text = fs::read(rt, path).map_err(|_| Fault::Read)?;
+fn measure<R: Files + AllocGlobal>(
+    rt: &R,
+    path: &str,
+    rounds: u64,
+) -> Result<RoundCounts, BenchFault> {
+    let text = fs::read(rt, path).map_err(|_| BenchFault::Read)?;
     let vars = greatest_variable(&text)?;
     let mut store = Store::new(rt.alloc());
     let mut engine = Engine::new(rt.alloc(), vars)?;
@@ -26,13 +30,13 @@ fn measure<R: Files + AllocGlobal>(rt: &R, path: &str, rounds: u64) -> Result<Co
 }
 
 /// The same for the program's arguments, the words `FILE ROUNDS`.
-fn measure_args<R: Files + AllocGlobal + Env>(rt: &R) -> Result<Counts, Fault> {
-    let mut words = env::args(rt).map_err(|_| Fault::Usage)?;
+fn measure_args<R: Files + AllocGlobal + Env>(rt: &R) -> Result<RoundCounts, BenchFault> {
+    let mut words = env::args(rt).map_err(|_| BenchFault::Usage)?;
     let _program = words.next();
     let (Some(path), Some(rounds)) = (words.next(), words.next()) else {
-        return Err(Fault::Usage);
+        return Err(BenchFault::Usage);
     };
-    let rounds = rounds.parse::<u64>().map_err(|_| Fault::Usage)?;
+    let rounds = rounds.parse::<u64>().map_err(|_| BenchFault::Usage)?;
     measure(rt, path.as_str(), rounds)
 }
 

@@ -3,14 +3,14 @@ ghost use Rattle.std.specs.Prelude.{◌≡◌, ◌<◌, ◌^◌, OnOk};
 ghost use Rattle.cnf.specs.declared.limits.TheConstants.{VARIABLE_LIMIT};
 ghost use Rattle.propagate.specs.Fits.{Fits};
 
-use crate::faults::Fault;
+use crate::faults::BenchFault;
 use clauses::store::Store;
 use cnf::types::Lit;
 use propagate::engine::Engine;
 
 /// What the rounds did. A propagation is a literal that came onto the trail and was no decision.
 #[derive(Clone, Copy, Drop)]
-pub(crate) struct Counts {
+pub(crate) struct RoundCounts {
     /// Rounds that were played.
     pub(crate) rounds: u64,
     /// Literals that were decided.
@@ -46,12 +46,12 @@ pub(crate) fn play_rounds(
     store: &Store,
     vars: u32,
     rounds: u64,
-) -> Result<Counts, Fault>
+) -> Result<RoundCounts, BenchFault>
     requires fits { Fits engine.old store.now.slots }
     requires vars { engine.old.variables ≡ vars }
     requires few { vars < VARIABLE_LIMIT }
 {
-    let mut counts = Counts {
+    let mut counts = RoundCounts {
         rounds: 0,
         decisions: 0,
         propagations: 0,
@@ -75,8 +75,8 @@ fn play(
     vars: u32,
     first: u32,
     signs: &mut Signs,
-    counts: &mut Counts,
-) -> Result<(), Fault>
+    counts: &mut RoundCounts,
+) -> Result<(), BenchFault>
     requires fits { Fits engine.old store.now.slots }
     requires vars { engine.old.variables ≡ vars }
     requires few { vars < VARIABLE_LIMIT }

@@ -81,12 +81,15 @@ fn check_each<R: Files + AllocGlobal>(
 ) -> Result<Verdict, RunFault>
     ensures sound { IfOk result (λ v. v ≡ Verdict.Yes → IsTrueResult text.now answer.now) }
 {
-    let mut last: Option<Fault> = None;
+    let mut last: Option<CertificateFault> = None;
     for profile in EACH {
         let mut proof = File::open(rt, path).map_err(|_| UNREADABLE)?;
         match check_as(rt, text, answer, &mut proof, profile)? {
             Verdict::Yes => return Ok(Verdict::Yes),
-            Verdict::No(cause, line) => last = Some(later_of(last, Fault { cause, line })),
+            Verdict::No(cause, line) => last = Some(later_of(
+                last,
+                CertificateFault { cause, line },
+            )),
         }
     }
     match last {
@@ -97,7 +100,7 @@ fn check_each<R: Files + AllocGlobal>(
 
 /// Why it is not Yes.
 #[derive(Clone, Copy, Drop)]
-pub(crate) struct Fault {
+pub(crate) struct CertificateFault {
     /// What is wrong.
     pub(crate) cause: Cause,
     /// The line on which it stands, from 1; 0 where the text ends too soon.
@@ -105,7 +108,7 @@ pub(crate) struct Fault {
 }
 
 /// The fault that stands further down; the first where neither does.
-fn later_of(first: Option<Fault>, second: Fault) -> Fault
+fn later_of(first: Option<CertificateFault>, second: CertificateFault) -> CertificateFault
     ensures { result ≡ later first second }
 {
     match first {

@@ -26,7 +26,7 @@ use wmax_onlooker::whole_file::WholePaths;
 
 /// How a run searches.
 #[derive(Drop)]
-struct Search<'a> {
+struct Settings<'a> {
     /// How 'cheaper' is said.
     profile: Profile,
     /// The effort.
@@ -68,7 +68,7 @@ pub fn solve<R: Files + AllocGlobal + Print + Env + Clock, E: Write>(
         Ok(profile) => profile,
         Err(why) => return refuse_profile(messages, why),
     };
-    let search = Search {
+    let search = Settings {
         profile,
         // `clap` lets no greater one pass; said again, since nothing is known of that here.
         budget: Budget::new(request.limit.min(MOST_CONFLICTS)),
@@ -96,7 +96,7 @@ pub fn solve<R: Files + AllocGlobal + Print + Env + Clock, E: Write>(
 fn solve_from<R: Files + AllocGlobal + Print + Clock, E: Write>(
     rt: &R,
     messages: &mut Messages<'_, E>,
-    mut search: Search<'_>,
+    mut search: Settings<'_>,
     text: &mut R::File,
     from: &str,
     proof: Option<&str>,
@@ -155,7 +155,7 @@ fn is_cheaper(cost: u64, start: &Option<Start>) -> bool {
 fn solve_bounded<'a, R: Files + AllocGlobal + Print + Clock, E: Write, T: Read>(
     rt: &'a R,
     messages: &'a mut Messages<'_, E>,
-    mut search: Search<'a>,
+    mut search: Settings<'a>,
     text: &mut T,
     proof: Option<&str>,
     read: [FileId; 2],
@@ -167,7 +167,7 @@ fn solve_bounded<'a, R: Files + AllocGlobal + Print + Clock, E: Write, T: Read>(
         return Err(RunFault::Memory);
     };
     if are_named(rt, &paths, &[proof, search.best], read) {
-        return Ok(refuse(messages, Refused::Lower(Refusal::Taken)));
+        return Ok(refuse(messages, Refused::Lower(KeptFileFault::Taken)));
     }
     let left = match paths.read_earlier(rt) {
         Ok(left) => left,
@@ -184,7 +184,7 @@ fn solve_bounded<'a, R: Files + AllocGlobal + Print + Clock, E: Write, T: Read>(
     }
     let text = read_file(rt, text)?;
     let Some(lower) = judge_bound(rt.alloc(), &text, &left)? else {
-        return Ok(refuse(messages, Refused::Lower(Refusal::Other)));
+        return Ok(refuse(messages, Refused::Lower(KeptFileFault::Other)));
     };
     search.bounds = Some(LowerPaths {
         paths,
@@ -231,7 +231,7 @@ fn judge_bound(alloc: Global, text: &[u8], left: &[u8]) -> Result<Option<u64>, R
 fn solve_proved<'a, R: Files + AllocGlobal + Print + Clock, E: Write, T: Read>(
     rt: &'a R,
     messages: &'a mut Messages<'_, E>,
-    mut search: Search<'a>,
+    mut search: Settings<'a>,
     text: &mut T,
     proof: Option<&str>,
     read: [FileId; 2],
@@ -243,7 +243,7 @@ fn solve_proved<'a, R: Files + AllocGlobal + Print + Clock, E: Write, T: Read>(
     let mut kept = Kept::new(rt.alloc(), path)?;
     let is_named = are_named(rt, &kept.paths, &[proof], [here, here]);
     if is_named || kept.paths.is_part_taken(rt, &[result]) {
-        return Ok(refuse(messages, Refused::Best(Refusal::Taken)));
+        return Ok(refuse(messages, Refused::Best(KeptFileFault::Taken)));
     }
     let left = match kept.paths.read_earlier(rt) {
         Ok(left) => left,
@@ -255,7 +255,7 @@ fn solve_proved<'a, R: Files + AllocGlobal + Print + Clock, E: Write, T: Read>(
     }
     let text = read_file(rt, text)?;
     if !take_earlier(rt.alloc(), &mut search, &mut kept, &text, &left)? {
-        return Ok(refuse(messages, Refused::Best(Refusal::Other)));
+        return Ok(refuse(messages, Refused::Best(KeptFileFault::Other)));
     }
     let mut text = text.as_slice();
     solve_into(rt, messages, search, &mut text, proof, read, Some(kept))
@@ -265,7 +265,7 @@ fn solve_proved<'a, R: Files + AllocGlobal + Print + Clock, E: Write, T: Read>(
 /// begins with it, unless it has a cheaper one. False where something else would be lost.
 fn take_earlier(
     alloc: Global,
-    search: &mut Search<'_>,
+    search: &mut Settings<'_>,
     kept: &mut Kept<'_>,
     text: &[u8],
     left: &[u8],
@@ -311,7 +311,7 @@ impl<'a> Kept<'a> {
 fn solve_into<'a, R: Files + AllocGlobal + Print + Clock, E: Write, T: Read>(
     rt: &'a R,
     messages: &'a mut Messages<'_, E>,
-    mut search: Search<'a>,
+    mut search: Settings<'a>,
     text: &mut T,
     proof: Option<&str>,
     read: [FileId; 2],
@@ -353,9 +353,9 @@ struct Keepers<'a, R: Files> {
 #[derive(Clone, Copy, Drop)]
 enum Refused {
     /// `--best`.
-    Best(Refusal),
+    Best(KeptFileFault),
     /// `--lower`.
-    Lower(Refusal),
+    Lower(KeptFileFault),
 }
 
 /// Tells why there is no run with this option; the exit status.
@@ -366,19 +366,19 @@ fn refuse<E: Write>(messages: &mut Messages<'_, E>, refused: Refused) -> u8 {
     };
     let out = messages.below();
     let _ = match why {
-        Refusal::Taken => writeln!(
+        KeptFileFault::Taken => writeln!(
             out,
             "error: {option} names another file of the run, or something other than a regular file"
         ),
-        Refusal::Other => writeln!(
+        KeptFileFault::Other => writeln!(
             out,
             "error: {option} names a file that is not a {wanted} for FILE"
         ),
-        Refusal::Unwritable => writeln!(out, "error: {option} cannot be written"),
+        KeptFileFault::Unwritable => writeln!(out, "error: {option} cannot be written"),
     };
     match why {
-        Refusal::Taken | Refusal::Other => 2,
-        Refusal::Unwritable => 3,
+        KeptFileFault::Taken | KeptFileFault::Other => 2,
+        KeptFileFault::Unwritable => 3,
     }
 }
 
@@ -394,11 +394,11 @@ fn start_keepers<'a, R: Files>(
     let keeper = start_keeper(rt, kept, others).map_err(Refused::Best)?;
     if let Some(bounds) = &bounds {
         if are_named(rt, &bounds.paths, &[best], others) {
-            return Err(Refused::Lower(Refusal::Taken));
+            return Err(Refused::Lower(KeptFileFault::Taken));
         }
     }
     let Some(bounder) = Bounder::start(rt, bounds, others) else {
-        return Err(Refused::Lower(Refusal::Unwritable));
+        return Err(Refused::Lower(KeptFileFault::Unwritable));
     };
     Ok(Keepers { keeper, bounder })
 }
@@ -409,22 +409,22 @@ fn start_keeper<'a, R: Files>(
     rt: &'a R,
     kept: Option<Kept<'a>>,
     others: [FileId; 2],
-) -> Result<Keeper<'a, R>, Refusal> {
+) -> Result<Keeper<'a, R>, KeptFileFault> {
     let started = match kept {
         Some(Kept { paths, earlier }) => {
             if paths.are_taken(rt, &others) {
-                return Err(Refusal::Taken);
+                return Err(KeptFileFault::Taken);
             }
             Keeper::start(rt, Some(paths), others, earlier)
         }
         None => Keeper::start(rt, None, others, None),
     };
-    started.ok_or(Refusal::Unwritable)
+    started.ok_or(KeptFileFault::Unwritable)
 }
 
 /// Why there is no run with an option whose file is kept whole.
 #[derive(Clone, Copy, Drop)]
-enum Refusal {
+enum KeptFileFault {
     /// The run uses the file otherwise, or it is no regular file.
     Taken,
     /// It has what would be lost.
@@ -437,12 +437,12 @@ enum Refusal {
 fn solve_over<'a, R: Files + AllocGlobal + Print + Clock, E: Write, T: Read, P: Write>(
     rt: &'a R,
     messages: &'a mut Messages<'_, E>,
-    search: Search<'_>,
+    search: Settings<'_>,
     text: &mut T,
     proof: &mut P,
     keepers: Keepers<'a, R>,
 ) -> Result<u8, RunFault> {
-    let Search {
+    let Settings {
         profile,
         mut budget,
         start,

@@ -4,7 +4,7 @@ use Rattle.propagate.specs.Trail.{literals_of}
 use Rattle.propagate.specs.Watches.{EngineState}
 use Rattle.analyze.specs.Analyzer.{IsQuiet}
 use Rattle.cdcl_search.specs.declared.search.Search.{Search}
-use Rattle.cdcl.specs.declared.assuming.Halt.TheVariants.{Satisfied, Open}
+use Rattle.cdcl.specs.declared.assuming.SearchEnd.TheVariants.{Satisfied, Open}
 use Rattle.cdcl.proofs.Rounds.{pays_nothing}
 use Rattle.cdcl.proofs.Halts.{known_there, turn_halts}
 use Rattle.cdcl.proofs.assuming.choose.Goals as goal

@@ -1,7 +1,7 @@
 use Rattle.std.proofs.Common.{◌≡◌, List, length, sym, ◌∙◌, ap, arith}
 use Rattle.propagate.specs.Trail.{Assigned}
 use Rattle.cdcl_order.specs.Policies.{PolicyState}
-use Rattle.cdcl.specs.declared.assuming.Halt.TheVariants.{Spent}
+use Rattle.cdcl.specs.declared.assuming.SearchEnd.TheVariants.{Spent}
 use Rattle.cdcl_search.proofs.Laws.{writes_none}
 use Rattle.cdcl.proofs.Rounds.{goes_over, pays_none, pays_nothing}
 use Rattle.cdcl.proofs.Halts.{turn_halts, turn_goes_on, turn_breaks, turn_after}

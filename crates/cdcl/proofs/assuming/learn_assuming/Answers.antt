@@ -1,5 +1,5 @@
 use Rattle.std.proofs.Common.{sym, ◌∙◌, subst, arith}
-use Rattle.cdcl.specs.declared.assuming.Halt.TheVariants.{Refuted, Open, Spent}
+use Rattle.cdcl.specs.declared.assuming.SearchEnd.TheVariants.{Refuted, Open, Spent}
 use Rattle.cdcl_search.specs.Running.{StaysOpen, Writes}
 use Rattle.cdcl_search.proofs.Laws.{writes_none}
 use Rattle.cdcl.proofs.Rounds.{goes_learned, pays_none, pays_nothing}

@@ -1,7 +1,7 @@
 -- Propagation at level 0, and then the rounds.
 use Rattle.std.proofs.Common.{◌≡◌, subst}
 use Rattle.std.proofs.lemmas.Result.{IfOk-weaker}
-use Rattle.cdcl.specs.declared.assuming.Halt.TheVariants.{Refuted}
+use Rattle.cdcl.specs.declared.assuming.SearchEnd.TheVariants.{Refuted}
 use Rattle.cdcl.specs.Solving.{IsLiveRefuted}
 use Rattle.cdcl.specs.Turns.{IsPlain}
 use Rattle.cdcl.specs.Halting.{IsHaltOf, Halts}

@@ -1,4 +1,4 @@
-use Rattle.cdcl.specs.declared.assuming.Halt.TheVariants.{Satisfied}
+use Rattle.cdcl.specs.declared.assuming.SearchEnd.TheVariants.{Satisfied}
 use Rattle.cdcl.proofs.Halts.{known_frozen, halt_is, true_bits}
 use Rattle.cdcl.proofs.solver.answer_assuming.Goals as goal
 

@@ -2,7 +2,7 @@
 use Rattle.std.proofs.Common.{◌+◌, ap, sym, subst, arith, ℕ}
 use Rattle.std.proofs.lemmas.Result.{MatchResult-from_err}
 use Rattle.clauses.specs.Slots.{StoreState}
-use Rattle.eliminate_pairs.specs.declared.pairs.Fresh.{Fresh}
+use Rattle.eliminate_pairs.specs.declared.pairs.PairDefinition.{PairDefinition}
 use Rattle.eliminate_pairs.specs.Pairs.{stage_of, Stage, IsStage, Keeps, LeadsTo}
 use Rattle.eliminate_pairs.proofs.Defining.{defines_same, replaces_none}
 use Rattle.eliminate_pairs.proofs.Leading.{leads_by, leads_here, leads_on}
@@ -64,7 +64,7 @@ loop-k-preserved g c =
     let L = g.S.Sink.lines in
     let s : Stage =
     stage_of c.args.vars c.args.store.now.slots c.args.names.now (L c.args.sink.now) in
-    let d : Fresh = c.in_ok-definition.definition in
+    let d : PairDefinition = c.in_ok-definition.definition in
     let was = c.loop-k.invariant in
     elim c.match-found_at.branch [
       | in-Some+then-has_pair+in_ok-new w ↦

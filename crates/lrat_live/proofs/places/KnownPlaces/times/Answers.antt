@@ -1,5 +1,5 @@
 use Rattle.lrat_live.proofs.CountLaws.{times_some}
-use Rattle.lrat_live.proofs.places.Places.times.Goals as goal
+use Rattle.lrat_live.proofs.places.KnownPlaces.times.Goals as goal
 
 pub returns-then-shows : goal.returns-then-shows
 returns-then-shows c =

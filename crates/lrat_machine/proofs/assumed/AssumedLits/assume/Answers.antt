@@ -1,7 +1,7 @@
 use Rattle.std.proofs.Common.{◌≡◌, ◌<◌, ◌≤◌, false, ap, ◌∙◌, arith}
 use Rattle.cnf.specs.Clause.{contains_literal}
 use Rattle.lrat_machine.proofs.AssumedLaws.{AreValues-assume}
-use Rattle.lrat_machine.proofs.assumed.Assumed.assume.Goals as goal
+use Rattle.lrat_machine.proofs.assumed.AssumedLits.assume.Goals as goal
 
 pub invariant_of-self-2 : goal.invariant_of-self-2
 invariant_of-self-2 c =

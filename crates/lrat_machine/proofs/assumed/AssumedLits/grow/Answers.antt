@@ -1,6 +1,6 @@
 use Rattle.std.proofs.Common.{◌≡◌, ◌*◌, length, refl, arith, rules}
 use Rattle.lrat_machine.proofs.AssumedLaws.{AreValues-grow}
-use Rattle.lrat_machine.proofs.assumed.Assumed.grow.Goals as goal
+use Rattle.lrat_machine.proofs.assumed.AssumedLits.grow.Goals as goal
 
 pub invariant_of-self-then-self-variable : goal.invariant_of-self-then-self-variable
 invariant_of-self-then-self-variable c =

@@ -3,7 +3,7 @@ use Rattle.std.proofs.Common.{append-nil}
 use Rattle.std.proofs.Common.{arith}
 use Rattle.std.proofs.lemmas.List.{take_all, drop_all}
 use Rattle.lrat_machine.specs.Assumed.{AreValues}
-use Rattle.lrat_machine.proofs.assumed.Assumed.undo_to.Goals as goal
+use Rattle.lrat_machine.proofs.assumed.AssumedLits.undo_to.Goals as goal
 
 pub invariant_of-self : goal.invariant_of-self
 invariant_of-self c =
