@@ -33,7 +33,7 @@ pub trait Watch: improve_cores::watch::Watch {
 #[derive(Drop)]
 pub struct Silent;
 
-impl cdcl::watch::Watch for Silent {
+impl cdcl::watch::SearchWatch for Silent {
     ghost seen = { λ _. None };
 
     fn learned(&mut self, _report: &SearchReport) {}

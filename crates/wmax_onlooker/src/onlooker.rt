@@ -28,7 +28,7 @@ pub struct Onlooker<'a, 'b, R: Files + Clock, E: Write> {
     pub messages: &'a mut Messages<'b, E>,
 }
 
-impl<'a, 'b, R: Files + Clock + AllocGlobal, E: Write> cdcl::watch::Watch
+impl<'a, 'b, R: Files + Clock + AllocGlobal, E: Write> cdcl::watch::SearchWatch
     for Onlooker<'a, 'b, R, E> {
     // What it was shown is in files and on standard error, and is not known here.
     ghost seen = { λ _. None };
