@@ -38,7 +38,7 @@ use crate::giving_up::Outlook;
 use crate::items::{Items, Origin};
 use crate::shortening::{push_negated, shorten, variables_of};
 use crate::trees::{Growth, Trees};
-use crate::watch::Watch;
+use crate::watch::CoreWatch;
 use crate::work::SearchWork;
 use bound::formulas::relaxed_formula;
 use cdcl::budget::Budget;
@@ -200,7 +200,7 @@ impl CoreSearch {
     /// # Errors
     ///
     /// `AllocError` where memory was refused. What was learned is told right also then.
-    pub fn next<W: Watch>(
+    pub fn next<W: CoreWatch>(
         &mut self,
         best: u64,
         budget: &mut Budget,
@@ -228,7 +228,7 @@ impl CoreSearch {
     }
 
     /// One search under the assumptions of the stratum, and what follows from its answer.
-    fn step<W: Watch>(
+    fn step<W: CoreWatch>(
         &mut self,
         budget: &mut Budget,
         watch: &mut W,
@@ -275,7 +275,7 @@ impl CoreSearch {
 
     /// Takes the cores of assumptions that were passed over, in their order, but for those that one
     /// before them has left too little of.
-    fn take_all<W: Watch>(
+    fn take_all<W: CoreWatch>(
         &mut self,
         cores: &ClauseList,
         budget: &mut Budget,
@@ -294,7 +294,7 @@ impl CoreSearch {
     }
 
     /// Shortens a core, and takes its weight from its inputs.
-    fn take<W: Watch>(
+    fn take<W: CoreWatch>(
         &mut self,
         core: &[Lit],
         budget: &mut Budget,

@@ -40,7 +40,7 @@ impl<'a, 'b, R: Files + Clock + AllocGlobal, E: Write> cdcl::watch::SearchWatch
     }
 }
 
-impl<'a, 'b, R: Files + Clock + AllocGlobal, E: Write> improve_cores::watch::Watch
+impl<'a, 'b, R: Files + Clock + AllocGlobal, E: Write> improve_cores::watch::CoreWatch
     for Onlooker<'a, 'b, R, E> {
     fn raised(&mut self, lower: u64) {
         if let Some(meter) = &mut self.meter {
