@@ -24,7 +24,7 @@ ghost use Rattle.cdcl.specs.declared.assuming.SearchEnd.TheVariants.{Refuted};
 use crate::budget::Budget;
 use crate::outcome::{Passed, Share};
 use crate::searching::refutes_at_once;
-use crate::watch::Watch;
+use crate::watch::SearchWatch;
 use cdcl_search::cores::{Refusal, learn_core};
 use cdcl_search::input::Input;
 use cdcl_search::learning::learn;
@@ -172,7 +172,7 @@ fn are_true(engine: &Engine, assumptions: &[Lit]) -> bool
 
 /// Searches from level 0 under these assumptions until it has an answer, or the share or the budget
 /// is spent.
-pub(crate) fn run_assuming<S: Sink, W: Watch>(
+pub(crate) fn run_assuming<S: Sink, W: SearchWatch>(
     search: &mut Search,
     input: &Input,
     sink: &mut S,
@@ -208,7 +208,7 @@ pub(crate) fn run_assuming<S: Sink, W: Watch>(
 }
 
 /// Learns and decides until it has an answer, or the share or the budget is spent.
-fn descend_assuming<S: Sink, W: Watch>(
+fn descend_assuming<S: Sink, W: SearchWatch>(
     search: &mut Search,
     input: &Input,
     sink: &mut S,
@@ -244,7 +244,7 @@ fn descend_assuming<S: Sink, W: Watch>(
 }
 
 /// Propagates, and then learns, starts over or decides; it answers how the search ended, if it did.
-fn round_assuming<S: Sink, W: Watch>(
+fn round_assuming<S: Sink, W: SearchWatch>(
     search: &mut Search,
     input: &Input,
     sink: &mut S,
@@ -278,7 +278,7 @@ fn round_assuming<S: Sink, W: Watch>(
 
 /// Learns from a conflict, if it is above level 0 and something is left of the share and of the
 /// budget.
-fn learn_assuming<S: Sink, W: Watch>(
+fn learn_assuming<S: Sink, W: SearchWatch>(
     search: &mut Search,
     input: &Input,
     sink: &mut S,

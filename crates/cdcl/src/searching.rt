@@ -13,7 +13,7 @@ ghost use Rattle.cdcl_search.specs.Parts.{LearnsNothing, NotesAll};
 ghost use Rattle.cdcl.specs.declared.searching.End.TheVariants.{Refuted};
 
 use crate::budget::Budget;
-use crate::watch::Watch;
+use crate::watch::SearchWatch;
 use cdcl_search::input::Input;
 use cdcl_search::learning::learn;
 use cdcl_search::noting::{note_level, refute};
@@ -36,7 +36,7 @@ pub(crate) enum End {
 }
 
 /// Searches from level 0 until it has an answer or the budget is spent.
-pub(crate) fn run<S: Sink, W: Watch>(
+pub(crate) fn run<S: Sink, W: SearchWatch>(
     search: &mut Search,
     input: &Input,
     sink: &mut S,
@@ -79,7 +79,7 @@ pub(crate) fn refutes_at_once<S: Sink>(
 }
 
 /// Learns and decides until it has an answer or the budget is spent.
-fn descend<S: Sink, W: Watch>(
+fn descend<S: Sink, W: SearchWatch>(
     search: &mut Search,
     input: &Input,
     sink: &mut S,
@@ -100,7 +100,7 @@ fn descend<S: Sink, W: Watch>(
 }
 
 /// Propagates, and then learns, starts over or decides; it answers how the search ended, if it did.
-fn round<S: Sink, W: Watch>(
+fn round<S: Sink, W: SearchWatch>(
     search: &mut Search,
     input: &Input,
     sink: &mut S,
@@ -119,7 +119,7 @@ fn round<S: Sink, W: Watch>(
 }
 
 /// Learns from a conflict, if it is above level 0 and something is left of the budget.
-fn on_conflict<S: Sink, W: Watch>(
+fn on_conflict<S: Sink, W: SearchWatch>(
     search: &mut Search,
     input: &Input,
     sink: &mut S,

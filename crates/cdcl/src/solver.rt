@@ -19,7 +19,7 @@ use crate::budget::Budget;
 use crate::outcome::{Assumed, Outcome, Passed, Share, SolveFault};
 use crate::searching::{End, run};
 use crate::tally::Tally;
-use crate::watch::{Unwatched, Watch};
+use crate::watch::{SearchWatch, Unwatched};
 use cdcl_search::given::GivenClauses;
 use cdcl_search::giving::{ask_variables, give};
 use cdcl_search::input::Input;
@@ -273,7 +273,7 @@ impl<S: Sink> Solver<S> {
     /// # Errors
     ///
     /// `Memory` where memory was refused: the lines are steps also then. `Failed` after that.
-    pub fn solve_watched<W: Watch>(
+    pub fn solve_watched<W: SearchWatch>(
         &mut self,
         budget: &mut Budget,
         watch: &mut W,
@@ -310,7 +310,7 @@ impl<S: Sink> Solver<S> {
     /// # Errors
     ///
     /// `Memory` where memory was refused: the lines are steps also then. `Failed` after that.
-    pub fn solve_assuming<W: Watch>(
+    pub fn solve_assuming<W: SearchWatch>(
         &mut self,
         assumptions: &[Lit],
         share: Share,
@@ -334,7 +334,7 @@ impl<S: Sink> Solver<S> {
     /// # Errors
     ///
     /// Those of `solve_assuming`.
-    pub fn solve_passing<W: Watch>(
+    pub fn solve_passing<W: SearchWatch>(
         &mut self,
         assumptions: &[Lit],
         share: Share,
@@ -385,7 +385,7 @@ fn is_unsat(found: &Assumed) -> bool
 }
 
 /// Searches under assumptions, and reads the bits off the trail.
-fn answer_assuming<S: Sink, W: Watch>(
+fn answer_assuming<S: Sink, W: SearchWatch>(
     search: &mut Search,
     input: &Input,
     sink: &mut S,
@@ -432,7 +432,7 @@ fn answer_assuming<S: Sink, W: Watch>(
 }
 
 /// Searches, and reads the bits off the trail.
-fn answer<S: Sink, W: Watch>(
+fn answer<S: Sink, W: SearchWatch>(
     search: &mut Search,
     input: &Input,
     sink: &mut S,

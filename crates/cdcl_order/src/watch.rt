@@ -18,7 +18,7 @@ pub struct SearchReport {
 
 /// Is told how far a search has come, each time that it has learned a clause. What the search
 /// answers, and what it writes, does not depend on it.
-pub trait Watch {
+pub trait SearchWatch {
     /// The solutions and ends that it was shown, one after another, where that is known; None where
     /// it is not, as of one that writes them to a file.
     ghost seen: { Self → Option (List Sight) };
@@ -32,7 +32,7 @@ pub trait Watch {
 #[derive(Drop)]
 pub struct Unwatched;
 
-impl Watch for Unwatched {
+impl SearchWatch for Unwatched {
     ghost seen = { λ _. None };
 
     fn learned(&mut self, _report: &SearchReport) {}

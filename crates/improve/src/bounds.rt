@@ -25,7 +25,7 @@ use cdcl::budget::Budget;
 use cdcl::given::GivenClauses;
 use cdcl::outcome::Outcome;
 use cdcl::solver::Solver;
-use cdcl::watch::Watch;
+use cdcl::watch::SearchWatch;
 use cnf::limits::NUMBER_LIMIT;
 use cnf::types::{Clause, Instance, Lit};
 use improve_weaker::weaker::pair_with_subsets;
@@ -132,7 +132,7 @@ impl Bounds {
     }
 
     /// Looks for a solution below the last bound.
-    pub fn solve<W: Watch>(
+    pub fn solve<W: SearchWatch>(
         &mut self,
         instance: &Instance,
         budget: &mut Budget,

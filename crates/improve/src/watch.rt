@@ -12,7 +12,7 @@ use improve_trials::found::ByCores;
 
 /// Looks on while a search runs, and is told how far it has come. It cannot stop the search, and no
 /// failure of it is one of the search.
-pub trait Watch: improve_cores::watch::Watch {
+pub trait Watch: improve_cores::watch::CoreWatch {
     /// Is shown a solution that is cheaper than those before, and what it costs, below 2^62.
     fn better(&mut self, instance: &Instance, cost: u64, bits: &[bool])
         requires { IsSolution instance.now bits.now cost }
@@ -33,13 +33,13 @@ pub trait Watch: improve_cores::watch::Watch {
 #[derive(Drop)]
 pub struct Silent;
 
-impl cdcl::watch::Watch for Silent {
+impl cdcl::watch::SearchWatch for Silent {
     ghost seen = { λ _. None };
 
     fn learned(&mut self, _report: &SearchReport) {}
 }
 
-impl improve_cores::watch::Watch for Silent {
+impl improve_cores::watch::CoreWatch for Silent {
     fn raised(&mut self, _lower: u64) {}
 }
 

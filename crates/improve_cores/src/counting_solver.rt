@@ -22,7 +22,7 @@ use bound::repeats::has_repeat;
 use cdcl::budget::Budget;
 use cdcl::outcome::{Assumed, Passed, Share};
 use cdcl::solver::Solver;
-use cdcl::watch::Watch;
+use cdcl::watch::SearchWatch;
 use cnf::clause_list::ClauseList;
 use cnf::tautologies::is_tautology;
 use cnf::types::{Formula, Instance, Lit};
@@ -130,7 +130,7 @@ impl CountingSolver {
     /// # Errors
     ///
     /// `AllocError` where memory was refused, now or before.
-    pub fn assume<W: Watch>(
+    pub fn assume<W: SearchWatch>(
         &mut self,
         assumptions: &[Lit],
         share: Share,
@@ -152,7 +152,7 @@ impl CountingSolver {
     /// # Errors
     ///
     /// `AllocError` where memory was refused, now or before.
-    pub fn assume_false<W: Watch>(
+    pub fn assume_false<W: SearchWatch>(
         &mut self,
         variable: u32,
         share: Share,
@@ -176,7 +176,7 @@ impl CountingSolver {
     /// # Errors
     ///
     /// `AllocError` where memory was refused, now or before.
-    pub(crate) fn assume_passing<W: Watch>(
+    pub(crate) fn assume_passing<W: SearchWatch>(
         &mut self,
         assumptions: &[Lit],
         share: Share,

@@ -39,7 +39,7 @@ use crate::giving_up::Outlook;
 use crate::items::{Items, Origin};
 use crate::shortening::{push_negated, shorten, variables_of};
 use crate::trees::{Growth, Trees};
-use crate::watch::Watch;
+use crate::watch::CoreWatch;
 use crate::work::SearchWork;
 use bound::formulas::relaxed_formula;
 use cdcl::budget::Budget;
@@ -201,7 +201,7 @@ impl CoreSearch {
     /// # Errors
     ///
     /// `AllocError` where memory was refused. What was learned is told right also then.
-    pub fn next<W: Watch>(
+    pub fn next<W: CoreWatch>(
         &mut self,
         best: u64,
         budget: &mut Budget,
@@ -229,7 +229,7 @@ impl CoreSearch {
     }
 
     /// One search under the assumptions of the stratum, and what follows from its answer.
-    fn step<W: Watch>(
+    fn step<W: CoreWatch>(
         &mut self,
         budget: &mut Budget,
         watch: &mut W,
@@ -276,7 +276,7 @@ impl CoreSearch {
 
     /// Takes the cores of assumptions that were skipped, in their order, except those with an input
     /// that an earlier one has left below the threshold.
-    fn take_all<W: Watch>(
+    fn take_all<W: CoreWatch>(
         &mut self,
         cores: &ClauseList,
         budget: &mut Budget,
@@ -295,7 +295,7 @@ impl CoreSearch {
     }
 
     /// Shortens a core, and takes its weight from its inputs.
-    fn take<W: Watch>(
+    fn take<W: CoreWatch>(
         &mut self,
         core: &[Lit],
         budget: &mut Budget,

@@ -12,7 +12,7 @@ use crate::items::Items;
 use crate::trees::literal;
 use cdcl::budget::Budget;
 use cdcl::outcome::{Assumed, Share};
-use cdcl::watch::Watch;
+use cdcl::watch::SearchWatch;
 use cnf::types::Lit;
 use std::alloc::{AllocError, Global};
 
@@ -36,7 +36,7 @@ const DECISIONS: u64 = 100;
 
 /// A core as short as the effort allows. The variables of the core are those that cannot all be
 /// false.
-pub(crate) fn shorten<W: Watch>(
+pub(crate) fn shorten<W: SearchWatch>(
     core: Vec<u32>,
     items: &Items,
     solver: &mut CountingSolver,
@@ -53,7 +53,7 @@ pub(crate) fn shorten<W: Watch>(
 
 /// Searches under the core while it shrinks. The dearest is assumed first, so what is left is
 /// worth much.
-fn search_again<W: Watch>(
+fn search_again<W: SearchWatch>(
     core: Vec<u32>,
     items: &Items,
     solver: &mut CountingSolver,
@@ -83,7 +83,7 @@ fn search_again<W: Watch>(
 }
 
 /// Leaves out each literal that is not needed, the cheapest first.
-fn leave_out_each<W: Watch>(
+fn leave_out_each<W: SearchWatch>(
     core: Vec<u32>,
     items: &Items,
     solver: &mut CountingSolver,
@@ -140,7 +140,7 @@ fn keep_needed(core: &mut Vec<u32>, needed: &[u32], place: usize) -> usize {
 
 /// The variables of a core among these, without the one at a place, where there is one; none where
 /// the search found something else.
-fn find_core<W: Watch>(
+fn find_core<W: SearchWatch>(
     variables: &[u32],
     without: usize,
     solver: &mut CountingSolver,

@@ -2,7 +2,7 @@
 ghost use Rattle.std.specs.Prelude.{◌≡◌};
 
 /// Looks on while cores are looked for, and is told what those found so far are worth together.
-pub trait Watch: cdcl::watch::Watch {
+pub trait CoreWatch: cdcl::watch::SearchWatch {
     /// Is told what the cores found so far are worth together, as the search counts: below 2^62,
     /// and more each time. No proof rests on it.
     fn raised(&mut self, lower: u64)

@@ -12,7 +12,7 @@ ghost use Rattle.improve_trials.specs.Refuting.{IsEndOf};
 use bound::formulas::formula_of_cores;
 use cdcl::budget::Budget;
 use cdcl::outcome::{Assumed, Share};
-use cdcl::watch::Watch;
+use cdcl::watch::SearchWatch;
 use cnf::types::Instance;
 use improve_cores::counted::Counted;
 use improve_cores::counting_solver::CountingSolver;
@@ -96,7 +96,7 @@ impl Refutation {
     /// # Errors
     ///
     /// `AllocError` where memory was refused. The log is one of steps also then.
-    pub fn search<W: Watch>(
+    pub fn search<W: SearchWatch>(
         &mut self,
         firsts: &[u32],
         effort: Effort,
@@ -142,7 +142,7 @@ impl Refutation {
 /// Searches core by core under the assumption that the first output is false, while something is
 /// left of the share, and notes whether it ends in the unit clause of that output. Answers whether
 /// it does for all of them.
-fn guide<W: Watch>(
+fn guide<W: SearchWatch>(
     solver: &mut CountingSolver,
     firsts: &[u32],
     effort: Effort,

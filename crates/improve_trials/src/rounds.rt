@@ -12,7 +12,7 @@ use crate::leaving::keep_shown;
 use crate::refuting::Refuted;
 use crate::trial::{Trial, make_trial};
 use cdcl::budget::Budget;
-use cdcl::watch::Watch;
+use cdcl::watch::SearchWatch;
 use cnf::types::Instance;
 use cores::types::Core;
 use improve_cores::counted::Counted;
@@ -49,7 +49,7 @@ pub(crate) enum Round {
 ///
 /// `AllocError` where memory was refused in the course of a trial, or between two. Nothing is known
 /// of `tried` then.
-pub fn refute<W: Watch>(
+pub fn refute<W: SearchWatch>(
     instance: &Instance,
     aim: Aim,
     counted: Counted,
@@ -79,7 +79,7 @@ pub fn refute<W: Watch>(
 }
 
 /// One trial.
-fn try_once<W: Watch>(
+fn try_once<W: SearchWatch>(
     instance: &Instance,
     aim: Aim,
     counted: Counted,

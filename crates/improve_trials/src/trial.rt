@@ -9,7 +9,7 @@ ghost use Rattle.improve_trials.specs.Trials.{IsTrial, trial_lines};
 use crate::refuting::{Effort, Refutation, Refuted};
 use crate::rounds::Aim;
 use cdcl::budget::Budget;
-use cdcl::watch::Watch;
+use cdcl::watch::SearchWatch;
 use cnf::types::Instance;
 use improve_cores::counted::Counted;
 use lrat_log::log::Log;
@@ -41,7 +41,7 @@ pub(crate) struct Trial {
 /// # Errors
 ///
 /// `AllocError` where memory was refused later.
-pub(crate) fn make_trial<W: Watch>(
+pub(crate) fn make_trial<W: SearchWatch>(
     instance: &Instance,
     aim: Aim,
     counted: &Counted,

@@ -28,7 +28,7 @@ pub struct Onlooker<'a, 'b, R: Files + Clock, E: Write> {
     pub messages: &'a mut Messages<'b, E>,
 }
 
-impl<'a, 'b, R: Files + Clock + AllocGlobal, E: Write> cdcl::watch::Watch
+impl<'a, 'b, R: Files + Clock + AllocGlobal, E: Write> cdcl::watch::SearchWatch
     for Onlooker<'a, 'b, R, E> {
     // What it was shown is in files and on standard error, and is not known here.
     ghost seen = { λ _. None };
@@ -40,7 +40,7 @@ impl<'a, 'b, R: Files + Clock + AllocGlobal, E: Write> cdcl::watch::Watch
     }
 }
 
-impl<'a, 'b, R: Files + Clock + AllocGlobal, E: Write> improve_cores::watch::Watch
+impl<'a, 'b, R: Files + Clock + AllocGlobal, E: Write> improve_cores::watch::CoreWatch
     for Onlooker<'a, 'b, R, E> {
     fn raised(&mut self, lower: u64) {
         if let Some(meter) = &mut self.meter {

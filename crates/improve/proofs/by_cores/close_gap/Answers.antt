@@ -18,7 +18,7 @@ events-init g c = record {
   follows = λ first h. h;
   shown =
       shown_none c.args.instance.now (g.T.Progress.state c.args.progress.now)
-      (g.W.Watch-3.seen c.args.watch.now);
+      (g.W.SearchWatch.seen c.args.watch.now);
 }
 
 pub returns-in_default-clause-search : goal.returns-in_default-clause-search

@@ -40,23 +40,23 @@ returns-clause-goes_on g c =
 pub returns-then-solution-standing-clause-shown : goal.returns-then-solution-standing-clause-shown
 returns-then-solution-standing-clause-shown g c =
     shown_none c.args.instance.now (g.T.Progress.state c.args.progress.now)
-    (g.W.Watch-3.seen c.args.watch.now)
+    (g.W.SearchWatch.seen c.args.watch.now)
 
 pub returns-then-is_err-clause-shown : goal.returns-then-is_err-clause-shown
 returns-then-is_err-clause-shown g c =
     shown_none c.args.instance.now (g.T.Progress.state c.args.progress.now)
-    (g.W.Watch-3.seen c.args.watch.now)
+    (g.W.SearchWatch.seen c.args.watch.now)
 
 pub returns-then-is_err-2-clause-shown : goal.returns-then-is_err-2-clause-shown
 returns-then-is_err-2-clause-shown g c =
     let err = on_err_at c.tell.result c.if-is_err-2.ensures.value c.tell.ensures.err in
     shown_failed c.args.instance.now (g.T.Progress.state c.args.progress.now) _
-    (g.W.Watch-3.seen c.args.watch.now) _ c.price-solution.result.cost
+    (g.W.SearchWatch.seen c.args.watch.now) _ c.price-solution.result.cost
     c.price-solution.result.bits.items c.price-solution.ensures.solution c.tell.ensures.shown err
 
 pub returns-clause-shown : goal.returns-clause-shown
 returns-clause-shown g c =
     let ok = on_ok_at c.tell.result c.if-is_err-2.ensures.value c.tell.ensures.ok in
     shown_told c.args.instance.now (g.T.Progress.state c.args.progress.now) _
-    (g.W.Watch-3.seen c.args.watch.now) _ c.price-solution.result.cost
+    (g.W.SearchWatch.seen c.args.watch.now) _ c.price-solution.result.cost
     c.price-solution.result.bits.items c.price-solution.ensures.solution c.tell.ensures.shown ok

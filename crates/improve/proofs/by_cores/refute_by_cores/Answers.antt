@@ -38,9 +38,9 @@ returns-clause-goes_on g c =
 pub returns-in_default-clause-shown : goal.returns-in_default-clause-shown
 returns-in_default-clause-shown g c =
     shown_none c.args.instance.now (g.T.Progress.state c.args.progress.now)
-    (g.W.Watch-3.seen c.args.watch.now)
+    (g.W.SearchWatch.seen c.args.watch.now)
 
 pub returns-then-not-plan-clause-shown : goal.returns-then-not-plan-clause-shown
 returns-then-not-plan-clause-shown g c =
     shown_none c.args.instance.now (g.T.Progress.state c.args.progress.now)
-    (g.W.Watch-3.seen c.args.watch.now)
+    (g.W.SearchWatch.seen c.args.watch.now)

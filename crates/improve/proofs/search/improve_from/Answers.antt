@@ -47,4 +47,4 @@ returns-clause-improves g c =
 pub returns-then-left-eq0-clause-shown : goal.returns-then-left-eq0-clause-shown
 returns-then-left-eq0-clause-shown g c =
     shown_none c.args.instance.now (g.T.Progress.state c.args.progress.now)
-    (g.W.Watch-3.seen c.args.watch.now)
+    (g.W.SearchWatch.seen c.args.watch.now)

@@ -99,7 +99,7 @@ returns-in-Err-clause-improves g c =
 pub returns-in_default-clause-shown : goal.returns-in_default-clause-shown
 returns-in_default-clause-shown g c =
     shown_none c.args.instance.now (g.T.Progress.state c.args.progress.now)
-    (g.W.Watch-3.seen c.args.watch.now)
+    (g.W.SearchWatch.seen c.args.watch.now)
 
 pub returns-in-Ok-Sat-clause-shown : goal.returns-in-Ok-Sat-clause-shown
 returns-in-Ok-Sat-clause-shown g c =

@@ -103,14 +103,14 @@ pub returns-then-is_err-clause-shown : goal.returns-then-is_err-clause-shown
 returns-then-is_err-clause-shown g c =
     let err = on_err_at c.tell.result c.if-is_err.ensures.value c.tell.ensures.err in
     shown_failed c.args.instance.now (g.T.Progress.state c.args.progress.now) _
-    (g.W.Watch-3.seen c.args.watch.now) _ c.args.first.cost c.args.first.bits.items
+    (g.W.SearchWatch.seen c.args.watch.now) _ c.args.first.cost c.args.first.bits.items
     c.requires.solution c.tell.ensures.shown err
 
 pub returns-then-first-eq0-clause-shown : goal.returns-then-first-eq0-clause-shown
 returns-then-first-eq0-clause-shown g c =
     let ok = on_ok_at c.tell.result c.if-is_err.ensures.value c.tell.ensures.ok in
     shown_told c.args.instance.now (g.T.Progress.state c.args.progress.now) _
-    (g.W.Watch-3.seen c.args.watch.now) _ c.args.first.cost c.args.first.bits.items
+    (g.W.SearchWatch.seen c.args.watch.now) _ c.args.first.cost c.args.first.bits.items
     c.requires.solution c.tell.ensures.shown ok
 
 pub returns-clause-shown : goal.returns-clause-shown
@@ -118,6 +118,6 @@ returns-clause-shown g c =
     let ok = on_ok_at c.tell.result c.if-is_err.ensures.value c.tell.ensures.ok in
     shown_more c.args.instance.now _ _ _ _ _ _
     (shown_told c.args.instance.now (g.T.Progress.state c.args.progress.now) _
-    (g.W.Watch-3.seen c.args.watch.now) _ c.args.first.cost c.args.first.bits.items
+    (g.W.SearchWatch.seen c.args.watch.now) _ c.args.first.cost c.args.first.bits.items
     c.requires.solution c.tell.ensures.shown ok) (ap (λ t. t.failures) ok)
     c.go_on.ensures.shown

@@ -38,4 +38,4 @@ returns-clause-ends g c =
 pub returns-in_default-clause-shown : goal.returns-in_default-clause-shown
 returns-in_default-clause-shown g c =
     shown_none c.args.instance.now (g.T.Progress.state c.args.progress.now)
-    (g.W.Watch-3.seen c.args.watch.now)
+    (g.W.SearchWatch.seen c.args.watch.now)

@@ -28,7 +28,7 @@ loop-best-init g c = record {
   follows = λ first h. h;
   shown =
       shown_none c.args.instance.now (g.T.Progress.state c.args.progress.now)
-      (g.W.Watch-3.seen c.args.watch.now);
+      (g.W.SearchWatch.seen c.args.watch.now);
 }
 
 pub add-requires-clause-small : goal.add-requires-clause-small

@@ -17,7 +17,7 @@ invariant-loop-best g l = record {
   follows : (first : g.row.T.Denot) → g.T.Progress.follows first l.fn.progress
       → g.T.Progress.follows first l.progress;
   shown : AreShown l.instance (g.T.Progress.state l.fn.progress) (g.T.Progress.state l.progress)
-      (g.W.Watch-3.seen l.fn.watch) (g.W.Watch-3.seen l.watch);
+      (g.W.SearchWatch.seen l.fn.watch) (g.W.SearchWatch.seen l.watch);
 }
 
 abbrev pub decreases-loop-best : goal.decreases-loop-best

@@ -65,7 +65,7 @@ pub returns-clause-seen : goal.returns-clause-seen
 returns-clause-seen g c =
     let held = g.O.Write.contents in
     let certified = g.P.Write.contents in
-    let seen = g.K.Watch-3.seen in
+    let seen = g.K.SearchWatch.seen in
     let i = c.in_ok-instance in
     let f = c.in_ok-found in
     let w = c.write_answer in
