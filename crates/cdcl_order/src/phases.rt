@@ -1,7 +1,7 @@
 // The value that a decision tries first: the one that the variable had last (phase saving; Handbook
 // of Satisfiability, chapter on conflict-driven clause learning). From time to time all of them go
 // back to the values of the best solution, which is the last one: a search for cheaper solutions
-// finds the next one mostly beside it.
+// mostly finds the next one near it.
 ghost use Rattle.std.specs.Prelude.{◌≡◌, ◌<◌, ◌≤◌, length, IfOk};
 ghost use Rattle.cdcl_order.specs.Phases.{first_phases, phase_of, with_value, solved, restarted};
 ghost use Rattle.cdcl_order.specs.Phases.{suggested, with_first, values_under};

@@ -1,8 +1,8 @@
 // The policy of a search: which variable it decides, and at which value, when it starts over, when
-// it deletes learned clauses, and which. A search relies on little of it, so that another policy
-// changes this crate alone: `next` answers a literal without a value, and none only where each
-// variable has one; a restart is due only after a conflict; what is chosen for deletion is any list
-// of clauses, each of which the search tests.
+// it deletes learned clauses, and which. A search relies on little of it, so another policy changes
+// only this crate: `next` answers a literal without a value, and none only where each variable has
+// one; a restart is due only after a conflict; what is chosen for deletion is any list of clauses,
+// each of which the search tests.
 ghost use Rattle.std.specs.Prelude.{◌≡◌, ◌<◌, ◌≤◌, ◌^◌, true, false, All, IfOk, IfSome, IfNone};
 ghost use Rattle.cnf.specs.declared.limits.TheConstants.{VARIABLE_LIMIT};
 ghost use Rattle.propagate.specs.Watches.{is_attached};

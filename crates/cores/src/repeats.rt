@@ -1,4 +1,4 @@
-// Whether an input of a core stands twice.
+// Whether an input of a core occurs twice.
 ghost use Rattle.std.specs.Prelude.{◌≡◌, length, map, All};
 ghost use Rattle.cnf.specs.Literal.{positive};
 ghost use Rattle.cnf.specs.Clause.{has_repeat};

@@ -1,14 +1,14 @@
-// Which pairs of literals stand together in many clauses, by counting. A first walk over the store
+// Which pairs of literals occur together in many clauses, by counting. A first walk over the store
 // counts pairs in a table of small counters by a hash (a counting filter, Fan et al. 2000): a
 // counter is never below the number of the clauses with one of its pairs. A second walk writes down
 // the pairs with a large counter, each with its clause; so what is written down stays small on
-// sparse formulas. Long clauses and literals that stand in few clauses are passed over, and each
-// walk ends after a fixed number of pairs: so the work is near linear.
+// sparse formulas. Long clauses and literals that occur in few clauses are skipped, and each walk
+// ends after a fixed number of pairs, so the work is near linear.
 //
 // What was written down is dealt into a row for each lower literal, and only rows that can hold a
-// pair that stands often are sorted, by one word a meeting; all meetings sorted at once by three
+// pair that occurs often are sorted, by one word a meeting; all meetings sorted at once by three
 // words took more time than the rest. A clause that has not moved has its pairs still, and the
-// literals of the others are read only while the pair can still stand in enough clauses.
+// literals of the others are read only while the pair can still occur in enough clauses.
 ghost use Rattle.std.specs.Prelude.{◌≤◌, IfSome};
 ghost use Rattle.clauses.specs.Slots.{IsLive};
 
