@@ -89,7 +89,7 @@ impl Policy {
     }
 
     /// A hint: the variable starts at the share that its weight has of the greatest weight so far.
-    /// One that is none of the policy's is passed over.
+    /// One that is not of the policy is ignored.
     pub fn weigh(&mut self, variable: u32, weight: u64)
         ensures unchanged { self.new ≡ self.old }
     {
@@ -97,7 +97,7 @@ impl Policy {
     }
 
     /// A hint: decisions try these values first, by variable from 1, until a variable has another.
-    /// Variables without one keep theirs, and values of no variable are passed over.
+    /// Variables without one keep theirs, and values of no variable are ignored.
     pub fn suggest(&mut self, values: &[bool])
         ensures unchanged { self.new ≡ self.old }
     {

@@ -34,7 +34,7 @@ const FIRST_ROOM: u8 = 2;
 #[derive(Clone, Copy, Drop)]
 struct Bin {
     // The bits that all the signatures have; all bits, where there is none. Where one of them is
-    // missing no signature fits, so that most bins are passed over without a look into them.
+    // missing no signature fits, so that most bins are skipped without a look into them.
     common: u64,
     // The place of the first one.
     start: u32,
