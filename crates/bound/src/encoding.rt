@@ -1,5 +1,5 @@
-// The text of a formula, written while its clauses are made: in memory stand what the formula is
-// made of and the clauses of one cell, so that it may be far longer than what there is room for.
+// The text of a formula, written while its clauses are made: memory holds only what the formula is
+// made of and the clauses of one cell, so the formula may be far larger than memory.
 ghost use Rattle.std.specs.Prelude.{◌≡◌, ◌+◌, ◌*◌, ◌<◌, ◌≤◌, ◌^◌, ◌++◌, length, All, IfOk, OnOk};
 ghost use Rattle.std.specs.Prelude.{OnErr, IfErr};
 ghost use Rattle.std.specs.List.{flat_map};

@@ -1,4 +1,4 @@
-// The clauses of an instance where nothing is said of what a solution costs.
+// The clauses of an instance, with no clause about the cost.
 ghost use Rattle.std.specs.Prelude.{◌≡◌, ◌+◌, ◌≤◌, ◌^◌, length, IfOk};
 ghost use Rattle.bound.specs.Relaxed.{relaxed_cnf};
 

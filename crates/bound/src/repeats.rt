@@ -1,4 +1,4 @@
-//! Whether a literal stands twice.
+//! Whether a literal occurs twice.
 ghost use Rattle.std.specs.Prelude.{◌≡◌, length};
 ghost use Rattle.cnf.specs.Clause.{has_repeat};
 

@@ -88,7 +88,7 @@ pub(crate) struct AssumptionProgress<'a> {
     learned: u64,
     // How many decisions beside the assumptions may be made until the next conflict or restart.
     decisions: u64,
-    // What was passed over, and how much more may be.
+    // What was skipped, and how much more may be.
     passed: &'a mut Passed,
 }
 
@@ -108,7 +108,7 @@ impl<'a> AssumptionProgress<'a> {
         })
     }
 
-    /// Whether some assumption was passed over.
+    /// Whether some assumption was skipped.
     fn has_passed(&self) -> bool {
         self.passed.clauses.len() > 0
     }

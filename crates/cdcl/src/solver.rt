@@ -244,7 +244,7 @@ impl<S: Sink> Solver<S> {
 
     /// A hint for the values of decisions, on which no answer depends: these are tried first, by
     /// variable from 1, each until its variable has another. Variables without one keep theirs,
-    /// and values of no variable are passed over.
+    /// and values of no variable are ignored.
     pub fn suggest(&mut self, values: &[bool])
         ensures unchanged { self.new ≡ self.old }
     {
@@ -326,10 +326,9 @@ impl<S: Sink> Solver<S> {
         self.solve_passing(assumptions, share, &mut none, budget, watch)
     }
 
-    /// As `solve_assuming`, where an assumption that is false is passed over as long as there is
-    /// room for what explains it. No line is learned for it. Where some were passed over, the
-    /// search ends `Open` as soon as all others are true or no room is left, unless another answer
-    /// comes first.
+    /// As `solve_assuming`, where an assumption that is false is skipped as long as there is room
+    /// for what explains it. No line is learned for it. Where some were skipped, the search ends
+    /// `Open` as soon as all others are true or no room is left, unless another answer comes first.
     ///
     /// # Errors
     ///

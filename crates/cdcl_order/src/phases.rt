@@ -1,7 +1,7 @@
 // The value that a decision tries first: the one that the variable had last (phase saving; Handbook
 // of Satisfiability, chapter on conflict-driven clause learning). From time to time all of them go
 // back to the values of the best solution, which is the last one: a search for cheaper solutions
-// finds the next one mostly beside it.
+// mostly finds the next one near it.
 ghost use Rattle.std.specs.Prelude.{◌≡◌, ◌<◌, ◌≤◌, length, IfOk};
 ghost use Rattle.cdcl_order.specs.Phases.{first_phases, phase_of, with_value, solved, restarted};
 ghost use Rattle.cdcl_order.specs.Phases.{suggested, with_first, values_under};
@@ -84,7 +84,7 @@ impl Phases {
     }
 
     /// Takes these values over, by variable from 1. Variables without one keep theirs, and values
-    /// of no variable are passed over.
+    /// of no variable are ignored.
     pub(crate) fn suggest(&mut self, values: &[bool])
         ensures suggested { self.new ≡ suggested self.old values.now }
         ensures long { length self.new.last ≡ length self.old.last }
@@ -122,7 +122,7 @@ impl Phases {
     }
 }
 
-/// Puts the values in under which these literals are true. Such of other variables are passed over.
+/// Puts the values in under which these literals are true. Those of other variables are ignored.
 fn set_values(values: &mut [bool], trail: &[Lit])
     ensures values { values.new ≡ values_under values.old trail.now }
     ensures long { length values.new ≡ length values.old }

@@ -1,8 +1,8 @@
 // The policy of a search: which variable it decides, and at which value, when it starts over, when
-// it deletes learned clauses, and which. A search relies on little of it, so that another policy
-// changes this crate alone: `next` answers a literal without a value, and none only where each
-// variable has one; a restart is due only after a conflict; what is chosen for deletion is any list
-// of clauses, each of which the search tests.
+// it deletes learned clauses, and which. A search relies on little of it, so another policy changes
+// only this crate: `next` answers a literal without a value, and none only where each variable has
+// one; a restart is due only after a conflict; what is chosen for deletion is any list of clauses,
+// each of which the search tests.
 ghost use Rattle.std.specs.Prelude.{◌≡◌, ◌<◌, ◌≤◌, ◌^◌, true, false, All, IfOk, IfSome, IfNone};
 ghost use Rattle.cnf.specs.declared.limits.TheConstants.{VARIABLE_LIMIT};
 ghost use Rattle.propagate.specs.Watches.{is_attached};
@@ -89,7 +89,7 @@ impl Policy {
     }
 
     /// A hint: the variable starts at the share that its weight has of the greatest weight so far.
-    /// One that is none of the policy's is passed over.
+    /// One that is not of the policy is ignored.
     pub fn weigh(&mut self, variable: u32, weight: u64)
         ensures unchanged { self.new ≡ self.old }
     {
@@ -97,7 +97,7 @@ impl Policy {
     }
 
     /// A hint: decisions try these values first, by variable from 1, until a variable has another.
-    /// Variables without one keep theirs, and values of no variable are passed over.
+    /// Variables without one keep theirs, and values of no variable are ignored.
     pub fn suggest(&mut self, values: &[bool])
         ensures unchanged { self.new ≡ self.old }
     {

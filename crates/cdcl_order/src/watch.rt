@@ -1,4 +1,4 @@
-// What is told of a search while it runs.
+// What a search reports while it runs.
 ghost use Rattle.std.specs.Prelude.{◌≡◌, List, Option, None};
 ghost use Rattle.cdcl_order.specs.Watch.{Sight};
 

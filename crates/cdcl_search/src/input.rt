@@ -1,4 +1,4 @@
-// What a solver was given. A search leaves it alone.
+// What a solver was given. A search does not change it.
 use crate::given::GivenClauses;
 use eliminate::elimination::Stack;
 

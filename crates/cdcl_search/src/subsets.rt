@@ -1,4 +1,4 @@
-// Whether a live clause has no literals but given ones.
+// Whether all literals of some live clause are among given ones.
 //
 // It looks at the clauses that watch one of the literals, and at the few without watches
 // (`Engine::has_subset`). The literals are marked in a table that is kept from one core to the

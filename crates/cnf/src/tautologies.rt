@@ -23,7 +23,7 @@ pub fn is_tautology_by(marks: &mut Marks, lits: &[Lit]) -> bool
     }
 }
 
-/// Whether some literal stands with its negation: each is held against the marks of those before
+/// Whether some literal occurs with its negation: each is compared with the marks of those before
 /// it. A clause may have millions of literals.
 fn meets_negation(marks: &mut Marks, lits: &[Lit]) -> bool
     requires { All (HasPlace (length marks.old)) lits.now }

@@ -1,4 +1,4 @@
-// Whether an input of a core stands twice.
+// Whether an input of a core occurs twice.
 ghost use Rattle.std.specs.Prelude.{◌≡◌, length, map, All};
 ghost use Rattle.cnf.specs.Literal.{positive};
 ghost use Rattle.cnf.specs.Clause.{has_repeat};
@@ -7,7 +7,7 @@ ghost use Rattle.cores.specs.Spans.{IsMarkable};
 use cnf::marks::Marks;
 use cnf::types::Lit;
 
-/// Whether some input stands twice: each is held against the marks of those before it. A core may
+/// Whether some input occurs twice: each is compared with the marks of those before it. A core may
 /// have millions of inputs.
 pub(crate) fn has_repeat(marks: &mut Marks, inputs: &[u64]) -> bool
     requires { All (IsMarkable (length marks.old)) inputs.now }

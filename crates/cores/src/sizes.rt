@@ -1,5 +1,5 @@
-// How many clauses a core would take, told before any is made. The time is at most that of making
-// them, and the count ends where they are too many.
+// How many clauses a core would take, counted before any is made. The time is at most that of
+// making them, and the count ends where they are too many.
 ghost use Rattle.std.specs.Prelude.{◌≡◌, ℕ, ◌+◌, ◌<◌, ◌≤◌, ◌↔◌, length, MatchOption, IsTrue};
 ghost use Rattle.cores.specs.Sizes.{sum_size, totalizer_size};
 

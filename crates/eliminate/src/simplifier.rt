@@ -1,5 +1,5 @@
-// What preprocessing keeps beside the store and the log. Names, occurrences and removals are what
-// its proof rests on; the schedule only says where work may be worthwhile.
+// What preprocessing keeps besides the store and the log. Its proof rests on names, occurrences and
+// removals; the schedule only says where work may be worthwhile.
 ghost use Rattle.std.specs.Prelude.{◌≡◌, ◌<◌, List, [], ◌∷◌, ◌++◌, Bool, false, length};
 ghost use Rattle.std.specs.Prelude.{IfOk, OnOk, IfSome, OnErr, Some, None, slice_set};
 ghost use Rattle.cnf.specs.Formula.{IsFormula};

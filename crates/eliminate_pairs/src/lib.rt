@@ -1,4 +1,4 @@
-//! Fresh variables for pairs of literals that stand together in many clauses.
+//! Fresh variables for pairs of literals that occur together in many clauses.
 #![tactic(auto)]
 
 mod frequencies;

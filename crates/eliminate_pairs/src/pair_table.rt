@@ -1,4 +1,4 @@
-// Which pairs of literals stand together in many clauses, by counting, and where each stands now. A
+// Which pairs of literals occur together in many clauses, by counting, and where each stands now. A
 // clause that has not moved has its pairs still, and the literals of the others are read only while
 // the pair can still stand in enough clauses.
 ghost use Rattle.std.specs.Prelude.{IfSome};

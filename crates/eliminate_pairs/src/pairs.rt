@@ -1,11 +1,11 @@
-// Fresh variables for pairs of literals that stand together in many clauses (extended resolution as
+// Fresh variables for pairs of literals that occur together in many clauses (extended resolution as
 // bounded variable addition, Manthey, Heule and Biere 2012). The pair l1, l2 gets a variable z with
 // 'not z, or l1 or l2', 'z or not l1' and 'z or not l2', and each clause with the pair becomes one
 // with z. Which pairs are worthwhile is found by counting and may be wrong: each clause is looked
 // at again before it changes. A pair whose count has fallen to less than half since it was counted
 // is left to the next round. Each clause that changes leaves a dead one behind, so after a round
 // the clauses move together. In a large store a further round looks only at the clauses that the
-// round before it made: a pair that was left comes again only where it stands in enough of these.
+// round before it made: a pair that was left comes again only where it occurs in enough of these.
 ghost use Rattle.std.specs.Prelude.{◌≡◌, ◌+◌, ◌<◌, ◌≤◌, ◌^◌, List, [], ◌∷◌, ◌++◌, length};
 ghost use Rattle.std.specs.Prelude.{IsTrue, IfOk, OnOk, OnErr, Some};
 ghost use Rattle.std.specs.List.{AllByRecursion};

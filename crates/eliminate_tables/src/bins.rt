@@ -1,9 +1,10 @@
-// Where the clauses lie against which others are held, to find those that are subsumed or can be
-// strengthened. Each clause stands in one bin, that of one of its literals, with its signature; a
-// bin is held against a clause eight signatures at a time, and only where one fits are literals
-// compared. A bin has room for a hundred clauses, so that no literal that stands everywhere makes
-// the search quadratic: what finds no room is not held against others. Each pass has so many steps
-// that it is linear in the store, also where many long clauses share most of their literals.
+// The clauses that others are compared with, to find those that are subsumed or can be
+// strengthened. Each clause is in one bin, that of one of its literals, with its signature. A
+// clause is compared with a bin eight signatures at a time, and literals are compared only where a
+// signature fits. A bin has room for a hundred clauses, so that a literal that occurs everywhere
+// does not make the search quadratic: no other is compared with a clause that finds no room. Each
+// pass has so many steps that it is linear in the store, also where many long clauses share most of
+// their literals.
 //
 // All bins lie in two vectors: a vector each for the references and the signatures of a bin would
 // take three times the memory where clauses are short. A bin without room left moves to the end,
@@ -33,7 +34,7 @@ const FIRST_ROOM: u8 = 2;
 #[derive(Clone, Copy, Drop)]
 struct Bin {
     // The bits that all the signatures have; all bits, where there is none. Where one of them is
-    // missing no signature fits, so that most bins are passed over without a look into them.
+    // missing no signature fits, so that most bins are skipped without a look into them.
     common: u64,
     // The place of the first one.
     start: u32,

@@ -1,5 +1,5 @@
-// Where the clauses of a text stand, with the comments above them. The text reads as an instance:
-// what is no clause there is blank, a comment, or the header of the older form.
+// Which lines of a text have its clauses, with the comments above them. The text reads as an
+// instance: what is no clause there is blank, a comment, or the header of the older form.
 ghost use Rattle.std.specs.Prelude.{◌≡◌};
 
 use crate::names::is_name;

@@ -1,6 +1,6 @@
 // A text on its way to a writer, put piece by piece. The first failure is the last write: what is
-// put after it is dropped, and `finish` tells it. So a text that is put in many pieces is told
-// of in one place.
+// put after it is dropped, and `finish` reports it. So the failure of a text in many pieces is
+// handled in one place.
 ghost use Rattle.std.specs.Prelude.{◌≡◌, [], false, OnOk, OnErr};
 ghost use Rattle.std.specs.Fmt.{decimal};
 ghost use Rattle.std.specs.Io.KnownBytes.{Appends};

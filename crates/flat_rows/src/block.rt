@@ -1,7 +1,7 @@
 // A list of values in one block of memory, all of whose places are filled.
 //
-// A vector whose length never changes does the same, with a length beside a capacity. Here a block
-// is one pointer and a count.
+// A vector whose length never changes does the same, with a length and a capacity. Here a block is
+// one pointer and a count.
 ghost use Rattle.std.specs.Prelude.{◌≡◌, ℕ, ◌+◌, ◌^◌, ◌<◌, ◌≤◌, [], length, get_or, slice_set};
 ghost use Rattle.std.specs.Prelude.{replicate, IfOk};
 

@@ -1,11 +1,11 @@
 // Places behind a pointer, side by side: each is empty or holds a value. Only here is a raw pointer
 // followed, so only these few functions are proved by hand.
 //
-// The owner of the places takes no space, and the pointer is passed beside it: a proof that reads a
-// pointer out of an owner of memory is much longer. Values that own nothing may be forgotten, so
-// `put` writes over what a place held, and `deallocate` takes places in any state. Which places are
-// filled is known to the proofs alone; a state without empty places would need a loop in the proof
-// of `allocate`.
+// The owner of the places takes no space, and the pointer is passed along with it: a proof that
+// reads a pointer out of an owner of memory is much longer. Values that own nothing may be
+// forgotten, so `put` writes over what a place held, and `deallocate` takes places in any state.
+// Only the proofs know which places are filled; a state without empty places would need a loop in
+// the proof of `allocate`.
 ghost use Rattle.std.specs.Prelude.{◌≡◌, ℕ, ◌<◌, List, [], Bool, true, false, length, replicate};
 ghost use Rattle.std.specs.Prelude.{get_or, slice_set, IfOk};
 ghost use Rattle.std.specs.Vec.Ownership.{FitsInBlock};

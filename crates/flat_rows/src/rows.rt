@@ -1,8 +1,8 @@
 //! Rows of entries, all in one block of memory.
 //!
 //! An entry is found by two reads, of its row's head and of its place, and the entries of a row lie
-//! side by side. What seldom happens, that a row has no room left, stands apart in `make_room`.
-//! Rows that move leave their old places empty; these are not used again.
+//! side by side. The rare case that a row has no room left is left to `make_room`. Rows that move
+//! leave their old places empty; these are not used again.
 ghost use Rattle.std.specs.Prelude.{◌≡◌, ℕ, ◌<◌, ◌≤◌, [], ◌∷◌, ◌++◌, length, replicate, take};
 ghost use Rattle.std.specs.Prelude.{Some, max, slice_get, slice_set, OnOk, OnErr, IfOk, IsTrue};
 ghost use Rattle.flat_rows.specs.Rows.{row_at, with_row, room_at, doubled_room, IsFull};

@@ -1,6 +1,6 @@
 // One solver over all bounds. The formula is given once, without a bound; the clauses of each bound
-// are given beside those of the bounds before, so that what was learned stays. The certificate's
-// formula has the clauses of the last bound alone: at the end the log is told over that one.
+// are added to those of the bounds before, so learned clauses are kept. The certificate's formula
+// has only the clauses of the last bound: at the end the log is rewritten as one over that formula.
 ghost use Rattle.std.specs.Prelude.{◌≡◌, ◌+◌, ◌<◌, ◌≤◌, ◌^◌, [], ◌∷◌, ◌++◌};
 ghost use Rattle.std.specs.Prelude.{ℕ, false, List, length, All, IfOk, OnOk};
 ghost use Rattle.cnf.specs.declared.limits.TheConstants.{NUMBER_LIMIT};

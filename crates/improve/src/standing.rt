@@ -1,4 +1,4 @@
-// What stands between the first solution and the last one.
+// The state of a run between the first solution and the last one.
 use crate::solutions::Solution;
 
 /// The best solution so far, and what was told before it.

@@ -1,6 +1,6 @@
-// Who looks on while a search runs. What it is shown is proved where its `seen` is known; what it
-// does with that is not. One that wants lower bounds changes what is looked for, and nothing else
-// that is proved.
+// What observes a search. What it is shown is proved where its `seen` is known; what it does with
+// that is not. One that wants lower bounds changes what is looked for, and nothing else that is
+// proved.
 ghost use Rattle.std.specs.Prelude.{◌≡◌, [], ◌∷◌, None};
 ghost use Rattle.cdcl_order.specs.Watch.{Better, with_seen};
 ghost use Rattle.improve.specs.Improving.{IsSolution};

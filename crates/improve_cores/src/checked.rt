@@ -1,6 +1,6 @@
 // Tables that are read and written at any place. A place outside has the value 0 or `false`, and
-// writing there does nothing: so no table of the search has to be known to be long enough. What the
-// search does with them decides only how good its cores are, not what is told of them.
+// writing there does nothing, so no proof needs to know that a table is long enough. What the
+// search does with them decides only how good its cores are, not what is promised of them.
 
 /// What stands there.
 pub(crate) fn at<T: Copy + Default>(table: &[T], place: usize) -> T {

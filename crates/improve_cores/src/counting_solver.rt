@@ -170,8 +170,8 @@ impl CountingSolver {
         }
     }
 
-    /// As `assume`, where assumptions that are false are passed over as long as there is room for
-    /// what explains them.
+    /// As `assume`, where assumptions that are false are skipped as long as there is room for what
+    /// explains them.
     ///
     /// # Errors
     ///

@@ -1,7 +1,7 @@
 // What may be assumed false: relaxation variables, and outputs of cores. Each has a rest, what it
 // still costs where it is true: at first the weight of its soft clause, and for an output what the
 // cores behind it were worth. No literal of a soft clause is assumed in place of its relaxation
-// variable, so that all is said in variables that no elimination takes away.
+// variable, so assumptions and totalizers are over variables that elimination keeps.
 // What has at least a threshold as its rest is assumed (stratification: Ansótegui, Bonet and Levy
 // 2012), the dearest first. The list is made anew for each stratum, in the time of a sort; within a
 // stratum what is used up leaves it, and new outputs come last.

@@ -49,8 +49,8 @@ use cnf::types::{Instance, Lit};
 use std::alloc::AllocError;
 use std::marker::Model;
 
-/// What explains the assumptions that are passed over in one search has about so many literals for
-/// each assumption.
+/// What explains the assumptions that are skipped in one search has about so many literals for each
+/// assumption.
 const PASSED: usize = 4;
 
 /// What the search has come to.

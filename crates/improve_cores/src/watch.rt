@@ -1,4 +1,4 @@
-// Who looks on while cores are looked for.
+// What observes a search for cores.
 ghost use Rattle.std.specs.Prelude.{◌≡◌};
 
 /// Looks on while cores are looked for, and is told what those found so far are worth together.

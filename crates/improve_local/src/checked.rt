@@ -1,5 +1,5 @@
 // Tables that are read and written at any place. A place outside has the value 0 or `false`, and
-// writing there does nothing: so no table of the search has to be known to be long enough.
+// writing there does nothing, so no proof needs to know that a table is long enough.
 
 /// What stands there.
 pub(crate) fn at<T: Copy + Default>(table: &[T], place: usize) -> T {

@@ -1,5 +1,5 @@
 // The clauses of an instance by number: the hard ones from 0, and then the soft ones; and where
-// each literal stands.
+// each literal occurs.
 use crate::checked::{at, narrow, set};
 use cnf::types::{Instance, Lit};
 use std::alloc::{AllocError, Global};

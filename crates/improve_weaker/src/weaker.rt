@@ -1,6 +1,6 @@
 // The clauses of the bounds before the last one, each with a clause of the last one that is a
-// subset of it: by that clause alone it follows. A comparator has at most 62 clauses where it
-// speaks of a network's outputs, and up to 2^17 + 64 where it speaks of sums.
+// subset of it: it follows from that clause. A comparator has at most 62 clauses over a network's
+// outputs, and up to 2^17 + 64 over sums.
 ghost use Rattle.std.specs.Prelude.{◌≡◌, ℕ, ◌+◌, ◌*◌, ◌-◌, ◌<◌, ◌≤◌, ◌^◌, List, length, map, drop};
 ghost use Rattle.std.specs.Prelude.{take, All, IfOk};
 ghost use Rattle.cnf.specs.declared.limits.TheConstants.{NUMBER_LIMIT, VARIABLE_LIMIT};

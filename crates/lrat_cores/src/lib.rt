@@ -1,4 +1,4 @@
-//! Core lines of a certificate, which stand before its LRAT lines.
+//! Core lines of a certificate, which come before its LRAT lines.
 #![tactic(auto)]
 
 pub mod reader;

@@ -10,7 +10,7 @@ use crate::spans::{DEAD, LiveSpan, is_live, literals_at, nowhere};
 use cnf::types::Lit;
 use std::alloc::AllocError;
 
-/// At most so many ids are passed over, each with a span of no clause.
+/// At most so many ids are skipped, each with a span of no clause.
 const PASSED: u64 = 16;
 
 /// A window of so many spans may be empty.

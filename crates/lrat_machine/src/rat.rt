@@ -1,6 +1,6 @@
-// RAT: the clauses with the negated pivot, which a line has to name all, and the hints of each.
+// RAT: the clauses with the negated pivot, all of which a line has to name, and the hints of each.
 //
-// A candidate of n literals may be true at its last one alone, and n lines may name it: to go over
+// A candidate of n literals may be true only at its last one, and n lines may name it: to go over
 // it for each takes n^2 steps. So where it is longer than what the line assumes, each literal that
 // is assumed is first looked for in it, which is done by halving (`LiveClauses::shows`).
 // Still slow: a long candidate that is not true, whose literals are all assumed for each group.

@@ -1,5 +1,5 @@
-// What the checker answers, of a line as of a text and a result: so a verdict is the same value in
-// each layer, and is handed on as it is.
+// What the checker answers, for a line, a text or a result. A verdict is the same value in each
+// layer, and is passed on unchanged.
 
 /// Why something is refused: of the instance's text, of the result, or of a line of the
 /// certificate.

@@ -1,8 +1,8 @@
 // Where each clause stands.
 //
 // Propagation asks for the pair of each clause that its blocker does not settle, by `other`, and
-// writes it by `rewatch`. It knows that such a clause watches two literals, so it reads the pair
-// alone, and the tags, one byte each, lie elsewhere. With a pair goes the third literal of a
+// writes it by `rewatch`. It knows that such a clause watches two literals, so it reads only the
+// pair, and the tags, one byte each, are elsewhere. With a pair goes the third literal of a
 // clause of three: those of up to three literals need no look into the store.
 ghost use Rattle.std.specs.Prelude.{◌≡◌, ℕ, ◌<◌, List, [], length, take, slice_set, OnOk, OnErr};
 ghost use Rattle.cnf.specs.Literal.{Literal};

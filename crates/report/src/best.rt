@@ -1,4 +1,4 @@
-//! The best solution so far as a text of its own: a whole result, which tells its own cost alone.
+//! The best solution so far as a text of its own: a whole result, which states only its own cost.
 ghost use Rattle.std.specs.Prelude.{◌≡◌, ◌++◌, [], ◌∷◌, OnOk, OnErr};
 ghost use Rattle.std.specs.Io.KnownBytes.{Appends};
 ghost use Rattle.text.specs.Writing.{AppendsPart, spaced};

@@ -220,7 +220,8 @@ read again for each, so it cannot be a pipe then";
 
 const CONFLICTS_HELP: &str = "\
 The effort: at most N learned clauses and solutions together. Time and
-memory grow with it. The same N always gives the same answer";
+memory grow with it. The same N always gives the same
+answer";
 
 const PROOF_HELP: &str = "\
 Where the LRAT certificate goes. PATH is created or emptied before the

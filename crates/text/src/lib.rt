@@ -1,5 +1,5 @@
 //! Texts: lines and their tokens, numbers in digits, and readers and writers: output is gathered
-//! before it is written, and nothing is asked of one that has failed.
+//! before it is written, and a reader or writer that has failed is not used again.
 #![tactic(auto)]
 
 pub mod buffer;

@@ -1,5 +1,5 @@
 // A reader and a writer of which it is known whether they have failed. The laws of `std::io` say
-// nothing of that: by them an error might be passed over, and the call made again.
+// nothing about that: under them an error might be ignored, and the call made again.
 ghost use Rattle.std.specs.Prelude.{◌≡◌, ◌+◌, ◌<◌, ◌^◌, ◌||◌, true, false, is_err, Ok, OnOk};
 ghost use Rattle.std.specs.Io.{ReadsAtMost, WritesAtMost};
 ghost use Rattle.std.specs.Io.KnownBytes.{Keeps, ReadConsumes, WriteAppends};

@@ -1,4 +1,4 @@
-// The clause that is being read. Repeats in a long clause are told by a mark for each literal, so
+// The clause that is being read. Repeats in a long clause are found by a mark for each literal, so
 // that n literals take n steps. In a short one each literal is compared with those before it: the
 // marks of a million variables lie far apart, and asking for them took more than half of the time
 // of a large text with short clauses.

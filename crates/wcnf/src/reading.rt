@@ -92,7 +92,7 @@ pub fn read_watched<R: Read>(
     ensures whole { IfErr result (λ f. (f ≡ record { kind = FaultKind.Read; line = 0 })
         ⊎ IsAtEnd (R.remaining reader.new.reader.now)) }
 
-    // No failure is passed over.
+    // No failure is ignored.
     ensures failed { reader.new.has_failed ≡ true
         → result ≡ Err (record { kind = FaultKind.Read; line = 0 }) }
     ensures reader { reader.new.reader.ghost_name ≡ reader.old.reader.ghost_name }

@@ -46,7 +46,7 @@ pub fn read_all_watched<R: Read>(
     ensures fault { IfErr result (λ f. (f ≡ record { kind = FaultKind.Memory; line = 0 })
         ⊎ TellsFailure reader.new.has_failed f) }
 
-    // No failure is passed over.
+    // No failure is ignored.
     ensures failed { reader.new.has_failed ≡ true
         → result ≡ Err (record { kind = FaultKind.Read; line = 0 }) }
     ensures reader { reader.new.reader.ghost_name ≡ reader.old.reader.ghost_name }

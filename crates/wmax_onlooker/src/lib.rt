@@ -1,4 +1,4 @@
-//! What is kept in files and told on standard error while a search runs: the best solution, the
+//! What is kept in files and shown on standard error while a search runs: the best solution, the
 //! best lower bound, and how far the run is.
 #![tactic(auto)]
 

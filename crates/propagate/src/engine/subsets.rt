@@ -1,4 +1,4 @@
-// Attached clauses that have no literals but those of a given clause.
+// Attached clauses whose literals are all in a given clause.
 //
 // A clause that has watches and is such a subset watches two literals of the given clause, so it
 // stands in the rows of these. The literal in its entry is one of its own: where that one is not
