@@ -1,7 +1,7 @@
 -- Texts that are put piece by piece, as far as they have come.
 use Rattle.std.proofs.Common.{◌≡◌, ℕ, ◌+◌, ◌*◌, ◌^◌, ◌<◌, ◌≤◌, List, [], ◌∷◌, ◌++◌, length, drop}
-use Rattle.std.proofs.Common.{get_or, Option, true, false, refl, sym, ◌∙◌, ap, subst, append_assoc}
-use Rattle.std.proofs.Common.{append-nil, arith}
+use Rattle.std.proofs.Common.{get_or, Option, Result, true, false, refl, sym, ◌∙◌, ap, subst}
+use Rattle.std.proofs.Common.{append_assoc, append-nil, arith}
 use Rattle.std.specs.List.{flat_map}
 use Rattle.std.specs.Io.KnownBytes.{Appends}
 use Rattle.std.proofs.KnownBytes.{Appends-nil}
@@ -9,9 +9,10 @@ use Rattle.std.proofs.lemmas.List.{drop_more, length-append}
 use Rattle.cnf.specs.Literal.{Literal}
 use Rattle.cnf.specs.Formula.{Cnf}
 use Rattle.cnf.specs.Clause.{has_repeat, has_opposites}
-use Rattle.text.specs.Writing.{PassesOn, AppendsPart}
+use Rattle.text.specs.Writing.{PassesOn, AppendsPart, Writes}
 use Rattle.text.proofs.Laws.{flat_map-append}
 use Rattle.text.proofs.Laws.{passed-nil, passed-more, passed_fault, passed_whole, passed_part}
+use Rattle.text.proofs.Laws.{writes_after}
 use Rattle.cnf.specs.Problem.{Problem}
 use Rattle.cnf.specs.Instance.{IsInstance}
 use Rattle.adder.specs.declared.cells.Cell.{Cell}
@@ -141,6 +142,12 @@ pub flush_from_empty : (a b c : Option (List ℕ)) (held j text : List ℕ) → 
     → PassesOn a held text b j → AppendsPart b c j → AppendsPart a c text
 flush_from_empty a b c held j text e p q =
     subst (λ z. AppendsPart a c (z ++ text)) e (passed_part a b c held j text p q)
+
+pub writes_from_empty : {T E : Type 0} (r : Result T E) (a b c : Option (List ℕ))
+    (held j text : List ℕ) → held ≡ [] → PassesOn a held text b j → Writes r b j c
+    → Writes r a text c
+writes_from_empty r a b c held j text e p q =
+    subst (λ z. Writes r a (z ++ text) c) e (writes_after r a b c held j text p q)
 
 pub nothing_put : (a : Option (List ℕ)) (text : List ℕ) → AppendsPart a a text
 nothing_put a text = ([], (text, refl), Appends-nil a)

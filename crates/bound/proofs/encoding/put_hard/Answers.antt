@@ -22,8 +22,8 @@ are_opposed-requires g c =
     places_within n (length c.loop-clause.marks) c.in-Some.clause.now places
     (All-head (IsClauseWithin n) c.in-Some.clause.now c.next.new.self left)
 
-pub returns-in_err-put_clause-clause-fault : goal.returns-in_err-put_clause-clause-fault
-returns-in_err-put_clause-clause-fault g c =
+pub returns-in_err-put_clause : goal.returns-in_err-put_clause
+returns-in_err-put_clause g c =
     let p = err_from_is_err_and c.from_residual.result c.from_residual.ensures.1 in
     let n = c.args.instance.now.variables in
     let left : All (IsClauseWithin n) (c.in-Some.clause.now ∷ c.next.new.self) =
@@ -32,7 +32,7 @@ returns-in_err-put_clause-clause-fault g c =
     let e : has_opposites c.in-Some.clause.now ≡ false = sym c.are_opposed.ensures.value
     ∙ c.if-not-are_opposed.true in
     rw (p.1) (hard_fault _ _ once _ _ _ _ _ _ c.in-Some.ensures.steps c.loop-clause.invariant.put e
-    _ c.in_err-put_clause.ensures.fault)
+    _ c.in_err-put_clause.ensures)
 
 pub loop-clause-init : goal.loop-clause-init
 loop-clause-init g c = record {
@@ -58,7 +58,7 @@ loop-clause-preserved-in-Continue-1 g c =
     record {
       put =
           hard_put _ _ once _ _ _ _ _ _ c.in-Some.ensures.steps c.loop-clause.invariant.put e _ _
-          c.in_ok-put_clause.ensures.ok;
+          c.in_ok-put_clause.ensures;
       marks = c.are_opposed.ensures.marks ∙ c.loop-clause.invariant.marks;
       left = All-tail (IsClauseWithin n) c.in-Some.clause.now c.next.new.self left;
     }
@@ -77,7 +77,7 @@ loop-clause-preserved g c =
       left = All-tail (IsClauseWithin n) c.in-Some.clause.now c.next.new.self left;
     }
 
-pub returns-clause-ok : goal.returns-clause-ok
-returns-clause-ok g c =
+pub returns : goal.returns
+returns g c =
     all_put _ _ _ _ _ (same_left _ _ _ _ _ _ _
     (ap (λ x. lines_of (kept x)) c.in-None.ensures.steps.0) c.loop-clause.invariant.put)
