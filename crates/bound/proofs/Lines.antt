@@ -1,14 +1,14 @@
 -- The lines of a DIMACS text, as they are put together.
 use Rattle.std.proofs.Common.{◌≡◌, ℕ, ◌+◌, ◌<◌, ◌≤◌, List, [], ◌∷◌, ◌++◌, length, map, take, get_or}
-use Rattle.std.proofs.Common.{Option, refl, sym, ◌∙◌, ap, append-nil}
+use Rattle.std.proofs.Common.{Option, Result, refl, sym, ◌∙◌, ap, append-nil}
 use Rattle.std.specs.List.{flat_map}
 use Rattle.std.specs.Fmt.{decimal}
 use lib.Chars.{codes}
 use Rattle.cnf.specs.Literal.{Literal}
 use Rattle.text.specs.Text.{literal_text}
-use Rattle.text.specs.Writing.{PassesOn, AppendsPart}
+use Rattle.text.specs.Writing.{PassesOn, AppendsPart, Puts}
 use Rattle.text.proofs.Laws.{items_more, items_fault, all_taken}
-use Rattle.text.proofs.Laws.{first_fault, passed-more, passed_part-more, spaced-last}
+use Rattle.text.proofs.Laws.{first_fault, passed_part-more, puts_after, spaced-last}
 use Rattle.bound.specs.Bound.{dimacs_clause}
 
 abbrev pub literals_text : List Literal → List ℕ
@@ -41,15 +41,12 @@ module _ (a b c : Option (List ℕ)) (h j k : List ℕ) (lits : List Literal) (i
   literal_more l lt is p q =
       items_more (λ x. literal_text x ++ 32 ∷ []) a b c h j k [] lits i l lt is p q
 
-  pub clause_end : length lits ≤ i → PassesOn a h (literals_text (take i lits)) b j
-      → PassesOn b j (48 ∷ 10 ∷ []) c k → PassesOn a h (dimacs_clause lits) c k
-  clause_end le p q = rw (clause_line lits, ← all_taken (λ x. literal_text x ++ 32 ∷ []) lits i le)
-      (passed-more a b c h j k (literals_text (take i lits)) (codes "0\n") p q)
-
-  pub end_fault : length lits ≤ i → PassesOn a h (literals_text (take i lits)) b j
-      → AppendsPart b c (j ++ 48 ∷ 10 ∷ []) → AppendsPart a c (h ++ dimacs_clause lits)
-  end_fault le p q = rw (clause_line lits, ← all_taken (λ x. literal_text x ++ 32 ∷ []) lits i le)
-      (passed_part-more a b c h j (literals_text (take i lits)) (codes "0\n") p q)
+  pub clause_end : {T E : Type 0} (r : Result T E) → length lits ≤ i
+      → PassesOn a h (literals_text (take i lits)) b j → Puts r b j (48 ∷ 10 ∷ []) c k
+      → Puts r a h (dimacs_clause lits) c k
+  clause_end r le p q =
+      rw (clause_line lits, ← all_taken (λ x. literal_text x ++ 32 ∷ []) lits i le)
+      (puts_after r a b c h j k (literals_text (take i lits)) (codes "0\n") p q)
 
 -- the first line
 abbrev pub header_text : ℕ → ℕ → List ℕ
@@ -89,18 +86,12 @@ count_fault a b c d h i j v n p q r =
     (passed_part-more b c d i j (32 ∷ []) rest q
     (first_fault c d j (decimal n) (10 ∷ []) rest r refl))
 
-pub header_end : (a b c d e : Option (List ℕ)) (h i j k l : List ℕ) (v n : ℕ)
-    → PutsVariables a h v b i → PassesOn b i (32 ∷ []) c j → PassesOn c j (decimal n) d k
-    → PassesOn d k (10 ∷ []) e l → PassesOn a h (header_text v n) e l
-header_end a b c d e h i j k l v n p q r s =
-    passed-more a b e h i l (codes "p cnf " ++ decimal v) ((32 ∷ []) ++ (decimal n ++ 10 ∷ [])) p
-    (passed-more b c e i j l (32 ∷ []) (decimal n ++ 10 ∷ []) q
-    (passed-more c d e j k l (decimal n) (10 ∷ []) r s))
-
-pub header_fault : (a b c d e : Option (List ℕ)) (h i j k : List ℕ) (v n : ℕ)
-    → PutsVariables a h v b i → PassesOn b i (32 ∷ []) c j → PassesOn c j (decimal n) d k
-    → AppendsPart d e (k ++ 10 ∷ []) → AppendsPart a e (h ++ header_text v n)
-header_fault a b c d e h i j k v n p q r s =
-    passed_part-more a b e h i (codes "p cnf " ++ decimal v) ((32 ∷ []) ++ (decimal n ++ 10 ∷ [])) p
-    (passed_part-more b c e i j (32 ∷ []) (decimal n ++ 10 ∷ []) q
-    (passed_part-more c d e j k (decimal n) (10 ∷ []) r s))
+pub header_end : {T E : Type 0} (result : Result T E) (a b c d e : Option (List ℕ))
+    (h i j k l : List ℕ) (v n : ℕ) → PutsVariables a h v b i → PassesOn b i (32 ∷ []) c j
+    → PassesOn c j (decimal n) d k → Puts result d k (10 ∷ []) e l
+    → Puts result a h (header_text v n) e l
+header_end result a b c d e h i j k l v n p q r s =
+    puts_after result a b e h i l (codes "p cnf " ++ decimal v)
+    ((32 ∷ []) ++ (decimal n ++ 10 ∷ [])) p
+    (puts_after result b c e i j l (32 ∷ []) (decimal n ++ 10 ∷ []) q
+    (puts_after result c d e j k l (decimal n) (10 ∷ []) r s))

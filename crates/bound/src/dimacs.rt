@@ -1,8 +1,6 @@
 // The text of a formula in DIMACS CNF, the form that SAT solvers read.
-ghost use Rattle.std.specs.Prelude.{◌++◌, OnOk, OnErr};
 ghost use Rattle.std.specs.List.{flat_map};
-ghost use Rattle.std.specs.Io.KnownBytes.{Appends};
-ghost use Rattle.text.specs.Writing.{AppendsPart, PassesOn};
+ghost use Rattle.text.specs.Writing.{Writes, Puts};
 ghost use Rattle.bound.specs.Bound.{dimacs_text, header_line, dimacs_clause};
 
 use cnf::clause_list::ClauseList;
@@ -20,10 +18,8 @@ use text::output::{Block, WriteFault};
 /// `WriteFault` where the writer answered `Err`, or took none of the bytes that it was given. The
 /// writer then has a beginning of the text, and is not called again.
 pub fn write_dimacs<W: Write>(formula: &Formula, writer: &mut W) -> Result<(), WriteFault>
-    ensures ok { OnOk result (Appends (W.contents writer.old) (W.contents writer.new)
-        (dimacs_text formula.now)) }
-    ensures fault { OnErr result (AppendsPart (W.contents writer.old) (W.contents writer.new)
-        (dimacs_text formula.now)) }
+    ensures { Writes result (W.contents writer.old) (dimacs_text formula.now)
+        (W.contents writer.new) }
 {
     let mut block = Block::new();
     let clauses = formula.clauses();
@@ -39,10 +35,8 @@ pub(crate) fn put_header<W: Write>(
     vars: u32,
     count: usize,
 ) -> Result<(), WriteFault>
-    ensures ok { OnOk result (PassesOn (W.contents writer.old) block.old (header_line vars count)
-        (W.contents writer.new) block.new) }
-    ensures fault { OnErr result (AppendsPart (W.contents writer.old) (W.contents writer.new)
-        (block.old ++ header_line vars count)) }
+    ensures { Puts result (W.contents writer.old) block.old (header_line vars count)
+        (W.contents writer.new) block.new }
 {
     block.put(writer, b"p cnf ")?;
     block.put_number(writer, u64::from(vars))?;
@@ -57,11 +51,8 @@ pub(crate) fn put_clauses<W: Write>(
     writer: &mut W,
     clauses: &ClauseList,
 ) -> Result<(), WriteFault>
-    ensures ok { OnOk result
-        (PassesOn (W.contents writer.old) block.old (flat_map dimacs_clause clauses.now)
-        (W.contents writer.new) block.new) }
-    ensures fault { OnErr result (AppendsPart (W.contents writer.old) (W.contents writer.new)
-        (block.old ++ flat_map dimacs_clause clauses.now)) }
+    ensures { Puts result (W.contents writer.old) block.old (flat_map dimacs_clause clauses.now)
+        (W.contents writer.new) block.new }
 {
     for clause in clauses.iter() {
         put_clause(block, writer, clause)?;
@@ -75,10 +66,8 @@ pub(crate) fn put_clause<W: Write>(
     writer: &mut W,
     lits: &[Lit],
 ) -> Result<(), WriteFault>
-    ensures ok { OnOk result (PassesOn (W.contents writer.old) block.old (dimacs_clause lits.now)
-        (W.contents writer.new) block.new) }
-    ensures fault { OnErr result (AppendsPart (W.contents writer.old) (W.contents writer.new)
-        (block.old ++ dimacs_clause lits.now)) }
+    ensures { Puts result (W.contents writer.old) block.old (dimacs_clause lits.now)
+        (W.contents writer.new) block.new }
 {
     for lit in lits {
         block.put_spaced(writer, *lit)?;

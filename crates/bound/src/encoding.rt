@@ -1,11 +1,9 @@
 // The text of a formula, written while its clauses are made: memory holds only what the formula is
 // made of and the clauses of one cell, so the formula may be far larger than memory.
-ghost use Rattle.std.specs.Prelude.{◌≡◌, ◌+◌, ◌*◌, ◌<◌, ◌≤◌, ◌^◌, ◌++◌, length, All, IfOk, OnOk};
-ghost use Rattle.std.specs.Prelude.{OnErr, IfErr};
+ghost use Rattle.std.specs.Prelude.{◌≡◌, ◌+◌, ◌*◌, ◌<◌, ◌≤◌, ◌^◌, length, All, IfOk, IfErr};
 ghost use Rattle.std.specs.List.{flat_map};
-ghost use Rattle.std.specs.Io.KnownBytes.{Appends};
 ghost use Rattle.cnf.specs.declared.limits.TheConstants.{NUMBER_LIMIT};
-ghost use Rattle.text.specs.Writing.{AppendsPart, PassesOn};
+ghost use Rattle.text.specs.Writing.{Writes, Puts};
 ghost use Rattle.bound.specs.Bound.{kept, bound_as, cell_clauses, comparator_for, dimacs_clause};
 ghost use Rattle.bound.specs.Bound.{dimacs_text, relaxed_clauses, addition_as, addition_clauses};
 ghost use Rattle.bound.specs.Adding.{HasVariables, IsFit};
@@ -71,10 +69,8 @@ pub fn write_formula<W: Write>(
     writer: &mut WatchedWriter<'_, W>,
 ) -> Result<(), EncodeFault>
     requires { k ≤ NUMBER_LIMIT }
-    ensures ok { OnOk result (Appends (W.contents writer.old.writer.now)
-        (W.contents writer.new.writer.now) (dimacs_text (bound_as profile instance.now k))) }
-    ensures fault { OnErr result (AppendsPart (W.contents writer.old.writer.now)
-        (W.contents writer.new.writer.now) (dimacs_text (bound_as profile instance.now k))) }
+    ensures writes { Writes result (W.contents writer.old.writer.now)
+        (dimacs_text (bound_as profile instance.now k)) (W.contents writer.new.writer.now) }
     ensures why { IfErr result (λ fault. fault ≡ fault_by writer.new.has_failed) }
 {
     match write_parts(instance, k, profile, writer) {
@@ -102,10 +98,8 @@ fn write_parts<W: Write>(
     writer: &mut W,
 ) -> Result<(), EncodeFault>
     requires { k ≤ NUMBER_LIMIT }
-    ensures ok { OnOk result (Appends (W.contents writer.old) (W.contents writer.new)
-        (dimacs_text (bound_as profile instance.now k))) }
-    ensures fault { OnErr result (AppendsPart (W.contents writer.old) (W.contents writer.new)
-        (dimacs_text (bound_as profile instance.now k))) }
+    ensures { Writes result (W.contents writer.old) (dimacs_text (bound_as profile instance.now k))
+        (W.contents writer.new) }
 {
     let most = instance.vars() + instance.soft().len() as u32;
     let mut marks = Marks::new(instance.allocator(), most)?;
@@ -123,10 +117,8 @@ fn put_formula<W: Write>(
     requires places { 2 * instance.now.variables ≤ length marks.old }
     requires addition { IsFit outline.now.addition }
     requires count { outline.now.count ≡ length (outlined instance.now.hard outline.now).clauses }
-    ensures ok { OnOk result (Appends (W.contents writer.old) (W.contents writer.new)
-        (dimacs_text (outlined instance.now.hard outline.now))) }
-    ensures fault { OnErr result (AppendsPart (W.contents writer.old) (W.contents writer.new)
-        (dimacs_text (outlined instance.now.hard outline.now))) }
+    ensures { Writes result (W.contents writer.old)
+        (dimacs_text (outlined instance.now.hard outline.now)) (W.contents writer.new) }
 {
     let mut block = Block::new();
     put_header(&mut block, writer, outline.vars, outline.count)?;
@@ -262,10 +254,8 @@ fn put_hard<W: Write>(
     marks: &mut Marks,
 ) -> Result<(), WriteFault>
     requires { 2 * instance.now.variables ≤ length marks.old }
-    ensures ok { OnOk result (PassesOn (W.contents writer.old) block.old
-        (flat_map dimacs_clause (kept instance.now.hard)) (W.contents writer.new) block.new) }
-    ensures fault { OnErr result (AppendsPart (W.contents writer.old) (W.contents writer.new)
-        (block.old ++ flat_map dimacs_clause (kept instance.now.hard))) }
+    ensures { Puts result (W.contents writer.old) block.old
+        (flat_map dimacs_clause (kept instance.now.hard)) (W.contents writer.new) block.new }
 {
     instance.limits();
     for clause in instance.hard().iter() {
@@ -283,11 +273,8 @@ fn put_addition<W: Write>(
     addition: &Addition,
 ) -> Result<(), EncodeFault>
     requires { IsFit addition.now }
-    ensures ok { OnOk result (PassesOn (W.contents writer.old) block.old
-        (flat_map dimacs_clause (addition_clauses addition.now))
-        (W.contents writer.new) block.new) }
-    ensures fault { OnErr result (AppendsPart (W.contents writer.old) (W.contents writer.new)
-        (block.old ++ flat_map dimacs_clause (addition_clauses addition.now))) }
+    ensures { Puts result (W.contents writer.old) block.old
+        (flat_map dimacs_clause (addition_clauses addition.now)) (W.contents writer.new) block.new }
 {
     match addition {
         Addition::Network(network) => put_cells(block, writer, network),
@@ -301,10 +288,8 @@ fn put_kept<W: Write>(
     writer: &mut W,
     clauses: &ClauseList,
 ) -> Result<(), EncodeFault>
-    ensures ok { OnOk result (PassesOn (W.contents writer.old) block.old
-        (flat_map dimacs_clause (kept clauses.now)) (W.contents writer.new) block.new) }
-    ensures fault { OnErr result (AppendsPart (W.contents writer.old) (W.contents writer.new)
-        (block.old ++ flat_map dimacs_clause (kept clauses.now))) }
+    ensures { Puts result (W.contents writer.old) block.old
+        (flat_map dimacs_clause (kept clauses.now)) (W.contents writer.new) block.new }
 {
     let mut part = ClauseList::new(clauses.allocator());
     for clause in clauses.iter() {
@@ -322,11 +307,9 @@ fn put_cells<W: Write>(
     network: &Network,
 ) -> Result<(), EncodeFault>
     requires { All HasVariables network.now.cells }
-    ensures ok { OnOk result (PassesOn (W.contents writer.old) block.old
+    ensures { Puts result (W.contents writer.old) block.old
         (flat_map dimacs_clause (kept (flat_map cell_clauses network.now.cells)))
-        (W.contents writer.new) block.new) }
-    ensures fault { OnErr result (AppendsPart (W.contents writer.old) (W.contents writer.new)
-        (block.old ++ flat_map dimacs_clause (kept (flat_map cell_clauses network.now.cells)))) }
+        (W.contents writer.new) block.new }
 {
     let mut part = ClauseList::new(network.allocator());
     let cells = network.cells();

@@ -1,10 +1,10 @@
 -- One text after another, on a sheet.
 use Rattle.std.proofs.Common.{◌≡◌, ℕ, true, false, List, [], ◌++◌, Option, refl, sym, subst}
-use Rattle.std.proofs.Common.{append_assoc, append-nil, ◌∙◌, Bool}
+use Rattle.std.proofs.Common.{append_assoc, append-nil, ◌∙◌, Bool, Result, Ok, Err, OnOk, OnErr}
 use Rattle.std.proofs.lemmas.Bool.{false≢true}
 use Rattle.std.specs.Io.KnownBytes.{Appends}
 use Rattle.std.proofs.KnownBytes.{Appends-nil, Appends-trans}
-use Rattle.text.specs.Writing.{AppendsPart, PassesOn}
+use Rattle.text.specs.Writing.{AppendsPart, PassesOn, Writes}
 use Rattle.text.proofs.Laws.{passed-nil, passed-more, passed_part, passed_part-more}
 use Rattle.text.proofs.Laws.{passed_whole, part-more}
 use Rattle.explain.specs.declared.sheet.Sheet.{Sheet}
@@ -75,3 +75,11 @@ cut_off {a} {b} {c} {s} {t} {x} e h p q =
     by : (f : Bool) → t.has_failed ≡ f → AppendsPart a c (s.block ++ x)
     by false k = passed_part a b c s.block t.block x (p.whole h k) (q.part k)
     by true k = part_kept a b c (s.block ++ x) (p.part h k) (q.kept k)
+
+-- the same, by whether it went well
+pub written : {T E : Type 0} (r : Result T E) {a b : Option (List ℕ)} {s t : Sheet} {x : List ℕ}
+    (c : Option (List ℕ)) → s.block ≡ [] → s.has_failed ≡ false → Puts a s x b t
+    → OnOk r ((t.has_failed ≡ false) × Appends b c t.block) → OnErr r (IsCutOff b t c)
+    → Writes r a x c
+written (Ok v) c e h p q n = finished c e h p q
+written (Err w) c e h p q n = cut_off e h p n

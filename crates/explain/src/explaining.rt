@@ -1,8 +1,7 @@
 // What a person reads: the cost, what is given up for it, and what the bits break.
-ghost use Rattle.std.specs.Prelude.{◌≡◌, ◌<◌, ◌^◌, Ok, IsTrue, ◌↔◌, IfOk, IfErr, OnOk, OnErr};
+ghost use Rattle.std.specs.Prelude.{◌≡◌, ◌<◌, ◌^◌, Ok, IsTrue, ◌↔◌, IfOk, IfErr};
 ghost use Rattle.std.specs.Prelude.{length, sum_by};
-ghost use Rattle.std.specs.Io.KnownBytes.{Appends};
-ghost use Rattle.text.specs.Writing.{AppendsPart};
+ghost use Rattle.text.specs.Writing.{Writes};
 ghost use Rattle.wcnf.specs.Wcnf.{Reads};
 ghost use Rattle.lrat_result.specs.Result.{OptimumFound, report_of};
 ghost use Rattle.lrat_result.specs.Report.{reported};
@@ -224,10 +223,8 @@ fn write_listing<W: Write>(
     writer: &mut W,
 ) -> Result<(), WriteFault>
     requires { sum_by (λ g. g.weight) findings.now.given_up.items < 2 ^ 64 }
-    ensures ok { OnOk result (Appends (W.contents writer.old) (W.contents writer.new)
-        (listing_text text.now bits.now cost told all findings.now)) }
-    ensures fault { OnErr result (AppendsPart (W.contents writer.old) (W.contents writer.new)
-        (listing_text text.now bits.now cost told all findings.now)) }
+    ensures { Writes result (W.contents writer.old)
+        (listing_text text.now bits.now cost told all findings.now) (W.contents writer.new) }
 {
     let given_up = findings.given_up.as_slice();
     let soft = findings.lines.soft.as_slice();
@@ -243,10 +240,7 @@ fn write_listing<W: Write>(
 
 /// Writes that there are too few or too many bits.
 fn write_bits<W: Write>(bits: usize, vars: u32, writer: &mut W) -> Result<(), WriteFault>
-    ensures ok { OnOk result (Appends (W.contents writer.old) (W.contents writer.new)
-        (bits_line bits vars)) }
-    ensures fault { OnErr result (AppendsPart (W.contents writer.old) (W.contents writer.new)
-        (bits_line bits vars)) }
+    ensures { Writes result (W.contents writer.old) (bits_line bits vars) (W.contents writer.new) }
 {
     let mut sheet = Sheet::new();
     put_bits(&mut sheet, writer, bits, vars);

@@ -1,8 +1,7 @@
 //! What there is of an instance, for a person who has no result of it: how many variables and
 //! clauses, and the sum of the weights.
-ghost use Rattle.std.specs.Prelude.{◌≡◌, sum_by, OnOk, IfErr, OnErr};
-ghost use Rattle.std.specs.Io.KnownBytes.{Appends};
-ghost use Rattle.text.specs.Writing.{AppendsPart};
+ghost use Rattle.std.specs.Prelude.{◌≡◌, sum_by, OnOk, IfErr};
+ghost use Rattle.text.specs.Writing.{Writes};
 ghost use Rattle.explain.specs.Sheets.{Puts};
 ghost use Rattle.explain.specs.Summary.{Summarises, LeavesSummary, counts_text, summary_text};
 
@@ -38,10 +37,8 @@ pub fn write_summary<W: Write>(
 
 /// Writes what there is of an instance.
 fn write_counts<W: Write>(instance: &Instance, writer: &mut W) -> Result<(), WriteFault>
-    ensures ok { OnOk result (Appends (W.contents writer.old) (W.contents writer.new)
-        (summary_text instance.now)) }
-    ensures fault { OnErr result (AppendsPart (W.contents writer.old) (W.contents writer.new)
-        (summary_text instance.now)) }
+    ensures { Writes result (W.contents writer.old) (summary_text instance.now)
+        (W.contents writer.new) }
 {
     let hard = instance.hard().len();
     let soft = instance.soft().len();

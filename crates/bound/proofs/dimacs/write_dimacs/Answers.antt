@@ -1,9 +1,9 @@
 -- What was put before a fault is a beginning of the text.
 use Rattle.std.proofs.Common.{[], ◌++◌, ◌∙◌, ap, length}
-use Rattle.std.proofs.lemmas.Result.{err_from_is_err_and, on_ok_weaker, on_err_weaker}
+use Rattle.std.proofs.lemmas.Result.{err_from_is_err_and}
 use Rattle.bound.specs.Bound.{dimacs_text, header_line}
 use Rattle.bound.proofs.Streams.{IsPutUpTo, lines_of, dimacs_left, put_more, put_fault, all_put}
-use Rattle.bound.proofs.Streams.{part_from_empty, whole_from_empty, flush_from_empty}
+use Rattle.bound.proofs.Streams.{part_from_empty, writes_from_empty}
 use Rattle.bound.proofs.dimacs.write_dimacs.Given.{Over}
 use Rattle.bound.proofs.dimacs.write_dimacs.Goals as goal
 use Rattle.bound.proofs.dimacs.write_dimacs.Goals.{After-len}
@@ -19,36 +19,25 @@ begun g c =
     c.vars.ensures.vars (c.len.ensures ∙ ap length c.clauses-clauses.ensures)
     c.clauses-clauses.ensures (g.W.Write.contents c.args.writer.now) c.new-block.result
 
-pub returns-in_err-put_header-clause-fault : goal.returns-in_err-put_header-clause-fault
-returns-in_err-put_header-clause-fault g c =
+pub returns-in_err-put_header : goal.returns-in_err-put_header
+returns-in_err-put_header g c =
     let p = err_from_is_err_and c.from_residual.result c.from_residual.ensures.1 in
-    let start = begun g (goal.at.returns-in_err-put_header-clause-fault g c).After-len in
+    let start = begun g (goal.at.returns-in_err-put_header g c).After-len in
     rw (p.1) (part_from_empty _ _ _ _ c.new-block.ensures
-    (put_fault _ _ _ _ _ _ _ _ start c.in_err-put_header.ensures.fault))
+    (put_fault _ _ _ _ _ _ _ _ start c.in_err-put_header.ensures))
 
-pub returns-in_err-put_clauses-clause-fault : goal.returns-in_err-put_clauses-clause-fault
-returns-in_err-put_clauses-clause-fault g c =
+pub returns-in_err-put_clauses : goal.returns-in_err-put_clauses
+returns-in_err-put_clauses g c =
     let p = err_from_is_err_and c.from_residual-in_err-put_clauses.result
     c.from_residual-in_err-put_clauses.ensures.1 in
-    let start = begun g (goal.at.returns-in_err-put_clauses-clause-fault g c).After-len in
-    let headed = put_more _ _ _ _ _ _ _ _ start _ c.in_ok-put_header.ensures.ok in
+    let start = begun g (goal.at.returns-in_err-put_clauses g c).After-len in
+    let headed = put_more _ _ _ _ _ _ _ _ start _ c.in_ok-put_header.ensures in
     rw (p.1) (part_from_empty _ _ _ _ c.new-block.ensures
-    (put_fault _ _ _ _ _ _ _ _ headed c.in_err-put_clauses.ensures.fault))
+    (put_fault _ _ _ _ _ _ _ _ headed c.in_err-put_clauses.ensures))
 
-pub returns-clause-ok : goal.returns-clause-ok
-returns-clause-ok g c =
-    let start = begun g (goal.at.returns-clause-ok g c).After-len in
-    let headed = put_more _ _ _ _ _ _ _ _ start _ c.in_ok-put_header.ensures.ok in
-    let all =
-    all_put _ _ _ _ _ (put_more _ _ _ _ _ _ _ _ headed _ c.in_ok-put_clauses.ensures.ok) in
-    on_ok_weaker c.flush.result (λ q. whole_from_empty _ _ _ _ _ _ c.new-block.ensures all q)
-    c.flush.ensures.ok
-
-pub returns-clause-fault : goal.returns-clause-fault
-returns-clause-fault g c =
-    let start = begun g (goal.at.returns-clause-fault g c).After-len in
-    let headed = put_more _ _ _ _ _ _ _ _ start _ c.in_ok-put_header.ensures.ok in
-    let all =
-    all_put _ _ _ _ _ (put_more _ _ _ _ _ _ _ _ headed _ c.in_ok-put_clauses.ensures.ok) in
-    on_err_weaker c.flush.result (λ q. flush_from_empty _ _ _ _ _ _ c.new-block.ensures all q)
-    c.flush.ensures.fault
+pub returns : goal.returns
+returns g c =
+    let start = begun g (goal.at.returns g c).After-len in
+    let headed = put_more _ _ _ _ _ _ _ _ start _ c.in_ok-put_header.ensures in
+    let all = all_put _ _ _ _ _ (put_more _ _ _ _ _ _ _ _ headed _ c.in_ok-put_clauses.ensures) in
+    writes_from_empty c.flush.result _ _ _ _ _ _ c.new-block.ensures all c.flush.ensures.writes

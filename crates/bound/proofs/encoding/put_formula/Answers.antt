@@ -24,81 +24,81 @@ begun g c =
     o.comparator refl c.requires.count refl (g.W.Write.contents c.args.writer.now)
     c.new-block.result
 
-pub returns-in_err-put_header-clause-fault : goal.returns-in_err-put_header-clause-fault
-returns-in_err-put_header-clause-fault g c =
+pub returns-in_err-put_header : goal.returns-in_err-put_header
+returns-in_err-put_header g c =
     let p =
     err_from_is_err_and c.from_residual.result c.from_residual.ensures.1 in
-    let start = begun g (goal.at.returns-in_err-put_header-clause-fault g c).After-new-block in
+    let start = begun g (goal.at.returns-in_err-put_header g c).After-new-block in
     rw (p.1) (part_from_empty _ _ _ _ c.new-block.ensures
-    (put_fault _ _ _ _ _ _ _ _ start c.in_err-put_header.ensures.fault))
+    (put_fault _ _ _ _ _ _ _ _ start c.in_err-put_header.ensures))
 
-pub returns-in_err-put_hard-clause-fault : goal.returns-in_err-put_hard-clause-fault
-returns-in_err-put_hard-clause-fault g c =
+pub returns-in_err-put_hard : goal.returns-in_err-put_hard
+returns-in_err-put_hard g c =
     let p =
     err_from_is_err_and c.from_residual-in_err-put_hard.result
     c.from_residual-in_err-put_hard.ensures.1 in
-    let start = begun g (goal.at.returns-in_err-put_hard-clause-fault g c).After-new-block in
-    let header = put_more _ _ _ _ _ _ _ _ start _ c.in_ok-put_header.ensures.ok in
+    let start = begun g (goal.at.returns-in_err-put_hard g c).After-new-block in
+    let header = put_more _ _ _ _ _ _ _ _ start _ c.in_ok-put_header.ensures in
     rw (p.1) (part_from_empty _ _ _ _ c.new-block.ensures
-    (put_fault _ _ _ _ _ _ _ _ header c.in_err-put_hard.ensures.fault))
+    (put_fault _ _ _ _ _ _ _ _ header c.in_err-put_hard.ensures))
 
-pub returns-in_err-put_clauses-clause-fault : goal.returns-in_err-put_clauses-clause-fault
-returns-in_err-put_clauses-clause-fault g c =
+pub returns-in_err-put_clauses : goal.returns-in_err-put_clauses
+returns-in_err-put_clauses g c =
     let p =
     err_from_is_err_and c.from_residual-in_err-put_clauses.result
     c.from_residual-in_err-put_clauses.ensures.1 in
-    let start = begun g (goal.at.returns-in_err-put_clauses-clause-fault g c).After-new-block in
-    let header = put_more _ _ _ _ _ _ _ _ start _ c.in_ok-put_header.ensures.ok in
-    let hard = put_more _ _ _ _ _ _ _ _ header _ c.in_ok-put_hard.ensures.ok in
+    let start = begun g (goal.at.returns-in_err-put_clauses g c).After-new-block in
+    let header = put_more _ _ _ _ _ _ _ _ start _ c.in_ok-put_header.ensures in
+    let hard = put_more _ _ _ _ _ _ _ _ header _ c.in_ok-put_hard.ensures in
     rw (p.1) (part_from_empty _ _ _ _ c.new-block.ensures
-    (put_fault _ _ _ _ _ _ _ _ hard c.in_err-put_clauses.ensures.fault))
+    (put_fault _ _ _ _ _ _ _ _ hard c.in_err-put_clauses.ensures))
 
-pub returns-in_err-put_addition-clause-fault : goal.returns-in_err-put_addition-clause-fault
-returns-in_err-put_addition-clause-fault g c =
+pub returns-in_err-put_addition : goal.returns-in_err-put_addition
+returns-in_err-put_addition g c =
     let p =
     err_from_is_err_and c.from_residual-in_err-put_addition.result
     c.from_residual-in_err-put_addition.ensures.1 in
-    let start = begun g (goal.at.returns-in_err-put_addition-clause-fault g c).After-new-block in
-    let header = put_more _ _ _ _ _ _ _ _ start _ c.in_ok-put_header.ensures.ok in
-    let hard = put_more _ _ _ _ _ _ _ _ header _ c.in_ok-put_hard.ensures.ok in
-    let soft = put_more _ _ _ _ _ _ _ _ hard _ c.in_ok-put_clauses.ensures.ok in
+    let start = begun g (goal.at.returns-in_err-put_addition g c).After-new-block in
+    let header = put_more _ _ _ _ _ _ _ _ start _ c.in_ok-put_header.ensures in
+    let hard = put_more _ _ _ _ _ _ _ _ header _ c.in_ok-put_hard.ensures in
+    let soft = put_more _ _ _ _ _ _ _ _ hard _ c.in_ok-put_clauses.ensures in
     rw (p.1) (part_from_empty _ _ _ _ c.new-block.ensures
-    (put_fault _ _ _ _ _ _ _ _ soft c.in_err-put_addition.ensures.fault))
+    (put_fault _ _ _ _ _ _ _ _ soft c.in_err-put_addition.ensures))
 
-pub returns-in_err-put_clauses-2-clause-fault : goal.returns-in_err-put_clauses-2-clause-fault
-returns-in_err-put_clauses-2-clause-fault g c =
+pub returns-in_err-put_clauses-2 : goal.returns-in_err-put_clauses-2
+returns-in_err-put_clauses-2 g c =
     let p =
     err_from_is_err_and c.from_residual-in_err-put_clauses-2.result
     c.from_residual-in_err-put_clauses-2.ensures.1 in
-    let start = begun g (goal.at.returns-in_err-put_clauses-2-clause-fault g c).After-new-block in
-    let header = put_more _ _ _ _ _ _ _ _ start _ c.in_ok-put_header.ensures.ok in
-    let hard = put_more _ _ _ _ _ _ _ _ header _ c.in_ok-put_hard.ensures.ok in
-    let soft = put_more _ _ _ _ _ _ _ _ hard _ c.in_ok-put_clauses.ensures.ok in
-    let cells = put_more _ _ _ _ _ _ _ _ soft _ c.in_ok-put_addition.ensures.ok in
+    let start = begun g (goal.at.returns-in_err-put_clauses-2 g c).After-new-block in
+    let header = put_more _ _ _ _ _ _ _ _ start _ c.in_ok-put_header.ensures in
+    let hard = put_more _ _ _ _ _ _ _ _ header _ c.in_ok-put_hard.ensures in
+    let soft = put_more _ _ _ _ _ _ _ _ hard _ c.in_ok-put_clauses.ensures in
+    let cells = put_more _ _ _ _ _ _ _ _ soft _ c.in_ok-put_addition.ensures in
     rw (p.1) (part_from_empty _ _ _ _ c.new-block.ensures
-    (put_fault _ _ _ _ _ _ _ _ cells c.in_err-put_clauses-2.ensures.fault))
+    (put_fault _ _ _ _ _ _ _ _ cells c.in_err-put_clauses-2.ensures))
 
-pub returns-in_err-flush-clause-fault : goal.returns-in_err-flush-clause-fault
-returns-in_err-flush-clause-fault g c =
+pub returns-in_err-flush : goal.returns-in_err-flush
+returns-in_err-flush g c =
     let p =
     err_from_is_err_and c.from_residual-in_err-flush.result c.from_residual-in_err-flush.ensures.1
     in
-    let start = begun g (goal.at.returns-in_err-flush-clause-fault g c).After-new-block in
-    let header = put_more _ _ _ _ _ _ _ _ start _ c.in_ok-put_header.ensures.ok in
-    let hard = put_more _ _ _ _ _ _ _ _ header _ c.in_ok-put_hard.ensures.ok in
-    let soft = put_more _ _ _ _ _ _ _ _ hard _ c.in_ok-put_clauses.ensures.ok in
-    let cells = put_more _ _ _ _ _ _ _ _ soft _ c.in_ok-put_addition.ensures.ok in
-    let compared = put_more _ _ _ _ _ _ _ _ cells _ c.in_ok-put_clauses-2.ensures.ok in
+    let start = begun g (goal.at.returns-in_err-flush g c).After-new-block in
+    let header = put_more _ _ _ _ _ _ _ _ start _ c.in_ok-put_header.ensures in
+    let hard = put_more _ _ _ _ _ _ _ _ header _ c.in_ok-put_hard.ensures in
+    let soft = put_more _ _ _ _ _ _ _ _ hard _ c.in_ok-put_clauses.ensures in
+    let cells = put_more _ _ _ _ _ _ _ _ soft _ c.in_ok-put_addition.ensures in
+    let compared = put_more _ _ _ _ _ _ _ _ cells _ c.in_ok-put_clauses-2.ensures in
     rw (p.1) (flush_from_empty _ _ _ _ _ _ c.new-block.ensures (all_put _ _ _ _ _ compared)
-    c.in_err-flush.ensures.fault)
+    c.in_err-flush.ensures.writes)
 
-pub returns-clause-ok : goal.returns-clause-ok
-returns-clause-ok g c =
-    let start = begun g (goal.at.returns-clause-ok g c).After-new-block in
-    let header = put_more _ _ _ _ _ _ _ _ start _ c.in_ok-put_header.ensures.ok in
-    let hard = put_more _ _ _ _ _ _ _ _ header _ c.in_ok-put_hard.ensures.ok in
-    let soft = put_more _ _ _ _ _ _ _ _ hard _ c.in_ok-put_clauses.ensures.ok in
-    let cells = put_more _ _ _ _ _ _ _ _ soft _ c.in_ok-put_addition.ensures.ok in
-    let compared = put_more _ _ _ _ _ _ _ _ cells _ c.in_ok-put_clauses-2.ensures.ok in
+pub returns : goal.returns
+returns g c =
+    let start = begun g (goal.at.returns g c).After-new-block in
+    let header = put_more _ _ _ _ _ _ _ _ start _ c.in_ok-put_header.ensures in
+    let hard = put_more _ _ _ _ _ _ _ _ header _ c.in_ok-put_hard.ensures in
+    let soft = put_more _ _ _ _ _ _ _ _ hard _ c.in_ok-put_clauses.ensures in
+    let cells = put_more _ _ _ _ _ _ _ _ soft _ c.in_ok-put_addition.ensures in
+    let compared = put_more _ _ _ _ _ _ _ _ cells _ c.in_ok-put_clauses-2.ensures in
     whole_from_empty _ _ _ _ _ _ c.new-block.ensures (all_put _ _ _ _ _ compared)
-    c.in_ok-flush.ensures.ok
+    c.in_ok-flush.ensures.writes

@@ -6,20 +6,20 @@ use Rattle.bound.proofs.Streams.{lines_of, none_put, same_left, part_put, all_pu
 use Rattle.bound.proofs.Streams.{kept_put, kept_fault}
 use Rattle.bound.proofs.encoding.put_kept.Goals as goal
 
-pub returns-in_err-keep_short-clause-fault : goal.returns-in_err-keep_short-clause-fault
-returns-in_err-keep_short-clause-fault g c =
+pub returns-in_err-keep_short : goal.returns-in_err-keep_short
+returns-in_err-keep_short g c =
     let p = err_from_is_err_and c.from_residual.result c.from_residual.ensures.1 in
     rw (p.1) (part_put _ _ _ _ _ _ c.loop-clause.invariant)
 
-pub returns-in_err-put_clauses-clause-fault : goal.returns-in_err-put_clauses-clause-fault
-returns-in_err-put_clauses-clause-fault g c =
+pub returns-in_err-put_clauses : goal.returns-in_err-put_clauses
+returns-in_err-put_clauses g c =
     let p =
     err_from_is_err_and c.from_residual-in_err-put_clauses.result
     c.from_residual-in_err-put_clauses.ensures.1 in
     rw (p.1)
     (kept_fault c.in-Some.clause.now c.next.new.self _ c.in-Some.ensures.steps _ _
     c.clear.ensures c.in_ok-keep_short.ensures _ _ _ _ _ _ c.loop-clause.invariant
-    c.in_err-put_clauses.ensures.fault)
+    c.in_err-put_clauses.ensures)
 
 pub loop-clause-init : goal.loop-clause-init
 loop-clause-init g c =
@@ -31,9 +31,9 @@ pub loop-clause-preserved : goal.loop-clause-preserved
 loop-clause-preserved g c =
     kept_put c.in-Some.clause.now c.next.new.self _ c.in-Some.ensures.steps _ _ c.clear.ensures
     c.in_ok-keep_short.ensures _ _ _ _ _ _ c.loop-clause.invariant _
-    c.in_ok-put_clauses.ensures.ok
+    c.in_ok-put_clauses.ensures
 
-pub returns-clause-ok : goal.returns-clause-ok
-returns-clause-ok g c =
+pub returns : goal.returns
+returns g c =
     all_put _ _ _ _ _ (same_left _ _ _ _ _ _ _
     (ap (λ x. lines_of (kept x)) c.in-None.ensures.steps.0) c.loop-clause.invariant)

@@ -1,8 +1,7 @@
 -- What the outline says is the formula of the bound.
 use Rattle.std.proofs.Common.{◌≡◌, ◌++◌, length, sym, ◌∙◌, ap, subst, ℕ}
-use Rattle.std.proofs.lemmas.Result.{err_from_is_err_and, on_ok_weaker, on_err_weaker}
-use Rattle.std.specs.Io.KnownBytes.{Appends}
-use Rattle.text.specs.Writing.{AppendsPart}
+use Rattle.std.proofs.lemmas.Result.{err_from_is_err_and}
+use Rattle.text.specs.Writing.{Writes}
 use Rattle.cnf.specs.Formula.{Cnf}
 use Rattle.cnf.specs.Problem.{Problem}
 use Rattle.adder.specs.declared.cells.Profile.{Profile}
@@ -37,34 +36,23 @@ put_formula-requires-clause-count g c =
     c.in_ok-outline.ensures.comparator c.in_ok-outline.ensures.vars in
     c.in_ok-outline.ensures.count ∙ sym (ap (λ (f : Cnf). length f.clauses) is)
 
-pub returns-in_err-marks-clause-fault : goal.returns-in_err-marks-clause-fault
-returns-in_err-marks-clause-fault g c =
+pub returns-in_err-marks : goal.returns-in_err-marks
+returns-in_err-marks g c =
     let p = err_from_is_err_and c.from_residual.result c.from_residual.ensures.1 in
     rw (p.1) (nothing_put _ _)
 
-pub returns-in_err-outline-clause-fault : goal.returns-in_err-outline-clause-fault
-returns-in_err-outline-clause-fault g c =
+pub returns-in_err-outline : goal.returns-in_err-outline
+returns-in_err-outline g c =
     let p =
     err_from_is_err_and c.from_residual-in_err-outline.result
     c.from_residual-in_err-outline.ensures.1 in
     rw (p.1) (nothing_put _ _)
 
-pub returns-clause-ok : goal.returns-clause-ok
-returns-clause-ok g c =
+pub returns : goal.returns
+returns g c =
     let is =
     outlined_is c.args.profile c.args.instance.now c.args.k c.in_ok-outline.outline
     c.in_ok-outline.ensures.relaxed c.in_ok-outline.ensures.addition
     c.in_ok-outline.ensures.comparator c.in_ok-outline.ensures.vars in
-    on_ok_weaker c.put_formula.result
-    (λ q. subst (λ f. Appends (g.W.Write.contents c.args.writer.now)
-    (g.W.Write.contents c.put_formula.new.writer) (dimacs_text f)) is q) c.put_formula.ensures.ok
-
-pub returns-clause-fault : goal.returns-clause-fault
-returns-clause-fault g c =
-    let is =
-    outlined_is c.args.profile c.args.instance.now c.args.k c.in_ok-outline.outline
-    c.in_ok-outline.ensures.relaxed c.in_ok-outline.ensures.addition
-    c.in_ok-outline.ensures.comparator c.in_ok-outline.ensures.vars in
-    on_err_weaker c.put_formula.result
-    (λ q. subst (λ f. AppendsPart (g.W.Write.contents c.args.writer.now)
-    (g.W.Write.contents c.put_formula.new.writer) (dimacs_text f)) is q) c.put_formula.ensures.fault
+    subst (λ f. Writes c.put_formula.result (g.W.Write.contents c.args.writer.now) (dimacs_text f)
+    (g.W.Write.contents c.put_formula.new.writer)) is c.put_formula.ensures

@@ -19,7 +19,7 @@ returns-in-Ok-write_listing-clause-ok g c =
       is = listed c.args.text.now c.args.instance.now c.args.bits.now c.args.told c.in-Ok.findings
           c.cost-cost.result c.soft.result.now c.requires c.in-Ok.ensures
           (c.cost-cost.ensures (assignment_of c.args.bits.now) own) c.soft.ensures;
-      appended = c.in-Ok-write_listing.ensures.ok;
+      appended = c.in-Ok-write_listing.ensures;
       right = c.is_solution-is_right.ensures;
     }
 
@@ -31,5 +31,5 @@ returns-clause-fault g c =
       is = listed c.args.text.now c.args.instance.now c.args.bits.now c.args.told c.in-Ok.findings
           c.cost-cost.result c.soft.result.now c.requires c.in-Ok.ensures
           (c.cost-cost.ensures (assignment_of c.args.bits.now) own) c.soft.ensures;
-      part = c.in-Err.ensures.fault;
+      part = c.in-Err.ensures;
     }

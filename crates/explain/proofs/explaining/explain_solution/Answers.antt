@@ -11,5 +11,5 @@ returns-in-Err-clause-fault g c =
     rw (sym c.as_slice-bits.ensures.value) (record {
       explanation = _;
       is = miscounted c.args.text.now c.args.instance.now bits c.args.solution.now.cost.cost other;
-      part = rw (sym c.vars-2.ensures.vars) c.in-Err.ensures.fault;
+      part = rw (sym c.vars-2.ensures.vars) c.in-Err.ensures;
     })

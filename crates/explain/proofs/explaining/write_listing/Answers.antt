@@ -1,9 +1,8 @@
 -- What was put is what is written.
 use Rattle.std.proofs.Common.{sym}
-use Rattle.std.proofs.lemmas.Result.{on_ok_weaker, on_err_weaker}
 use Rattle.explain.specs.Sheets.{Puts}
 use Rattle.explain.specs.Explained.{listing_text}
-use Rattle.explain.proofs.Sheets.{finished, cut_off, more}
+use Rattle.explain.proofs.Sheets.{more, written}
 use Rattle.explain.proofs.explaining.write_listing.Given.{Over}
 use Rattle.explain.proofs.explaining.write_listing.Goals as goal
 use Rattle.explain.proofs.explaining.write_listing.Goals.{After-put_names}
@@ -23,14 +22,8 @@ put g c =
     (more c.put_cost.ensures (more c.put_count.ensures
     (more c.put_given_up.ensures (more c.put_broken.ensures c.put_names.ensures))))
 
-pub returns-clause-ok : goal.returns-clause-ok
-returns-clause-ok g c =
-    let whole = put g (goal.at.returns-clause-ok g c).After-put_names in
-    on_ok_weaker c.finish.result
-    (finished _ c.new-sheet.ensures.empty c.new-sheet.ensures.whole whole) c.finish.ensures.ok
-
-pub returns-clause-fault : goal.returns-clause-fault
-returns-clause-fault g c =
-    let whole = put g (goal.at.returns-clause-fault g c).After-put_names in
-    on_err_weaker c.finish.result
-    (cut_off c.new-sheet.ensures.empty c.new-sheet.ensures.whole whole) c.finish.ensures.fault
+pub returns : goal.returns
+returns g c =
+    let whole = put g (goal.at.returns g c).After-put_names in
+    written c.finish.result _ c.new-sheet.ensures.empty c.new-sheet.ensures.whole whole
+    c.finish.ensures.ok c.finish.ensures.fault

@@ -1,9 +1,8 @@
 -- What was put is what is written.
 use Rattle.std.proofs.Common.{rules, subst}
-use Rattle.std.proofs.lemmas.Result.{on_ok_weaker, on_err_weaker}
 use Rattle.explain.specs.Sheets.{Puts}
 use Rattle.explain.specs.Summary.{summary_text}
-use Rattle.explain.proofs.Sheets.{finished, cut_off}
+use Rattle.explain.proofs.Sheets.{written}
 use Rattle.explain.proofs.Counts.{counted}
 use Rattle.explain.proofs.summary.write_counts.Given.{Over}
 use Rattle.explain.proofs.summary.write_counts.Goals as goal
@@ -21,14 +20,8 @@ put g c =
     c.sum_weights.ensures)
     c.put_counts.ensures
 
-pub returns-clause-ok : goal.returns-clause-ok
-returns-clause-ok g c =
-    let whole = put g (goal.at.returns-clause-ok g c).After-put_counts in
-    on_ok_weaker c.finish.result
-    (finished _ c.new-sheet.ensures.empty c.new-sheet.ensures.whole whole) c.finish.ensures.ok
-
-pub returns-clause-fault : goal.returns-clause-fault
-returns-clause-fault g c =
-    let whole = put g (goal.at.returns-clause-fault g c).After-put_counts in
-    on_err_weaker c.finish.result
-    (cut_off c.new-sheet.ensures.empty c.new-sheet.ensures.whole whole) c.finish.ensures.fault
+pub returns : goal.returns
+returns g c =
+    let whole = put g (goal.at.returns g c).After-put_counts in
+    written c.finish.result _ c.new-sheet.ensures.empty c.new-sheet.ensures.whole whole
+    c.finish.ensures.ok c.finish.ensures.fault
