@@ -8,7 +8,7 @@ use Rattle.std.proofs.KnownBytes.{Appends-nil}
 use Rattle.std.proofs.lemmas.List.{drop_more, length-append}
 use Rattle.cnf.specs.Literal.{Literal}
 use Rattle.cnf.specs.Formula.{Cnf}
-use Rattle.cnf.specs.Clause.{has_repeat, has_opposites}
+use Rattle.cnf.specs.Clause.{has_repeat, is_tautology}
 use Rattle.text.specs.Writing.{PassesOn, AppendsPart, Writes}
 use Rattle.text.proofs.Laws.{flat_map-append}
 use Rattle.text.proofs.Laws.{passed-nil, passed-more, passed_fault, passed_whole, passed_part}
@@ -75,13 +75,14 @@ lines_of cs = flat_map dimacs_clause cs
 pub lines-append : (cs ds : List (List Literal)) → lines_of (cs ++ ds) ≡ lines_of cs ++ lines_of ds
 lines-append cs ds = flat_map-append dimacs_clause cs ds
 
--- of the hard clauses that are left, the first is kept exactly where it has no opposite pair
+-- of the hard clauses that are left, the first is kept exactly where it has no complementary
+-- literals
 pub kept_first : (c : List Literal) (cs : List (List Literal)) → has_repeat c ≡ false
-    → has_opposites c ≡ false → kept (c ∷ cs) ≡ c ∷ kept cs
+    → is_tautology c ≡ false → kept (c ∷ cs) ≡ c ∷ kept cs
 kept_first c cs h e = kept-append (c ∷ []) cs ∙ ap (λ x. x ++ kept cs) (kept_one c false h (sym e))
 
 pub kept_not_first : (c : List Literal) (cs : List (List Literal)) → has_repeat c ≡ false
-    → has_opposites c ≡ true → kept (c ∷ cs) ≡ kept cs
+    → is_tautology c ≡ true → kept (c ∷ cs) ≡ kept cs
 kept_not_first c cs h e =
     kept-append (c ∷ []) cs ∙ ap (λ x. x ++ kept cs) (kept_one c true h (sym e))
 
@@ -207,21 +208,21 @@ module _ (cells : List Cell) (i : ℕ) (cell : Cell) (lt : i < length cells)
 -- one hard clause more
 module _ (clause : List Literal) (rest : List (List Literal))
     (once : has_repeat clause ≡ false) where
-  pub hard_counted : has_opposites clause ≡ false
+  pub hard_counted : is_tautology clause ≡ false
       → length (kept (clause ∷ rest)) ≡ 1 + length (kept rest)
   hard_counted e = omega (arith, ap length (kept_first clause rest once e))
 
-  pub hard_passed : has_opposites clause ≡ true → length (kept (clause ∷ rest)) ≡ length (kept rest)
+  pub hard_passed : is_tautology clause ≡ true → length (kept (clause ∷ rest)) ≡ length (kept rest)
   hard_passed e = ap length (kept_not_first clause rest once e)
 
   module _ (a b : Option (List ℕ)) (h whole j : List ℕ) (left : List (List Literal))
       (steps : left ≡ clause ∷ rest) (p : IsPutUpTo a h whole (lines_of (kept left)) b j) where
-    pub hard_skipped : has_opposites clause ≡ true → IsPutUpTo a h whole (lines_of (kept rest)) b j
+    pub hard_skipped : is_tautology clause ≡ true → IsPutUpTo a h whole (lines_of (kept rest)) b j
     hard_skipped e =
         same_left a b h whole j _ _ (ap (λ x. lines_of (kept x)) steps
         ∙ ap lines_of (kept_not_first clause rest once e)) p
 
-    module _ (e : has_opposites clause ≡ false) (c : Option (List ℕ)) where
+    module _ (e : is_tautology clause ≡ false) (c : Option (List ℕ)) where
       hard_next : lines_of (kept left) ≡ dimacs_clause clause ++ lines_of (kept rest)
       hard_next = ap (λ x. lines_of (kept x)) steps ∙ ap lines_of (kept_first clause rest once e)
 
@@ -236,7 +237,7 @@ module _ (clause : List Literal) (rest : List (List Literal))
           put_fault a b h whole j c (dimacs_clause clause) (lines_of (kept rest))
           (same_left a b h whole j _ _ hard_next p) q
 
--- one clause more, which may have a repeat or an opposite pair, and was added to none
+-- one clause more, which may have a repeat or complementary literals, and was added to none
 module _ (clause : List Literal) (rest left : List (List Literal)) (steps : left ≡ clause ∷ rest)
     (none now : List (List Literal)) (empty : none ≡ []) (adds : now ≡ none ++ kept (clause ∷ []))
   where

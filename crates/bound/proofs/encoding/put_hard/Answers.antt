@@ -1,10 +1,10 @@
--- The next clause was put exactly where it has no opposite pair.
+-- The next clause was put exactly where it has no complementary literals.
 use Rattle.std.proofs.Common.{◌≡◌, ◌*◌, ◌≤◌, ◌∷◌, true, false, arith, ap, sym, ◌∙◌, subst, refl}
 use Rattle.std.proofs.Common.{length}
 use Rattle.std.proofs.lemmas.List.Elements.{All-head, All-tail}
 use Rattle.std.proofs.lemmas.Result.{err_from_is_err_and}
 use Rattle.std.specs.Prelude.{All}
-use Rattle.cnf.specs.Clause.{has_opposites}
+use Rattle.cnf.specs.Clause.{is_tautology}
 use Rattle.cnf.specs.Instance.{IsClauseWithin}
 use Rattle.cnf.proofs.Laws.{places_within}
 use Rattle.bound.specs.Bound.{kept}
@@ -12,8 +12,8 @@ use Rattle.bound.proofs.Streams.{lines_of, none_put, same_left, all_put, hard_pu
 use Rattle.bound.proofs.Streams.{hard_fault}
 use Rattle.bound.proofs.encoding.put_hard.Goals as goal
 
-pub are_opposed-requires : goal.are_opposed-requires
-are_opposed-requires g c =
+pub is_tautology_by-requires : goal.is_tautology_by-requires
+is_tautology_by-requires g c =
     let n = c.args.instance.now.variables in
     let left : All (IsClauseWithin n) (c.in-Some.clause.now ∷ c.next.new.self) =
     subst (All (IsClauseWithin n)) c.in-Some.ensures.steps c.loop-clause.invariant.left in
@@ -29,8 +29,8 @@ returns-in_err-put_clause g c =
     let left : All (IsClauseWithin n) (c.in-Some.clause.now ∷ c.next.new.self) =
     subst (All (IsClauseWithin n)) c.in-Some.ensures.steps c.loop-clause.invariant.left in
     let once = (All-head (IsClauseWithin n) c.in-Some.clause.now c.next.new.self left).0 in
-    let e : has_opposites c.in-Some.clause.now ≡ false = sym c.are_opposed.ensures.value
-    ∙ c.if-not-are_opposed.true in
+    let e : is_tautology c.in-Some.clause.now ≡ false = sym c.is_tautology_by.ensures.value
+    ∙ c.if-not-is_tautology_by.true in
     rw (p.1) (hard_fault _ _ once _ _ _ _ _ _ c.in-Some.ensures.steps c.loop-clause.invariant.put e
     _ c.in_err-put_clause.ensures)
 
@@ -53,13 +53,13 @@ loop-clause-preserved-in-Continue-1 g c =
     let left : All (IsClauseWithin n) (c.in-Some.clause.now ∷ c.next.new.self) =
     subst (All (IsClauseWithin n)) c.in-Some.ensures.steps c.loop-clause.invariant.left in
     let once = (All-head (IsClauseWithin n) c.in-Some.clause.now c.next.new.self left).0 in
-    let e : has_opposites c.in-Some.clause.now ≡ false = sym c.are_opposed.ensures.value
-    ∙ c.if-not-are_opposed.true in
+    let e : is_tautology c.in-Some.clause.now ≡ false = sym c.is_tautology_by.ensures.value
+    ∙ c.if-not-is_tautology_by.true in
     record {
       put =
           hard_put _ _ once _ _ _ _ _ _ c.in-Some.ensures.steps c.loop-clause.invariant.put e _ _
           c.in_ok-put_clause.ensures;
-      marks = c.are_opposed.ensures.marks ∙ c.loop-clause.invariant.marks;
+      marks = c.is_tautology_by.ensures.marks ∙ c.loop-clause.invariant.marks;
       left = All-tail (IsClauseWithin n) c.in-Some.clause.now c.next.new.self left;
     }
 
@@ -69,11 +69,11 @@ loop-clause-preserved g c =
     let left : All (IsClauseWithin n) (c.in-Some.clause.now ∷ c.next.new.self) =
     subst (All (IsClauseWithin n)) c.in-Some.ensures.steps c.loop-clause.invariant.left in
     let once = (All-head (IsClauseWithin n) c.in-Some.clause.now c.next.new.self left).0 in
-    let e : has_opposites c.in-Some.clause.now ≡ true = sym c.are_opposed.ensures.value
-    ∙ c.if-not-are_opposed.false in
+    let e : is_tautology c.in-Some.clause.now ≡ true = sym c.is_tautology_by.ensures.value
+    ∙ c.if-not-is_tautology_by.false in
     record {
       put = hard_skipped _ _ once _ _ _ _ _ _ c.in-Some.ensures.steps c.loop-clause.invariant.put e;
-      marks = c.are_opposed.ensures.marks ∙ c.loop-clause.invariant.marks;
+      marks = c.is_tautology_by.ensures.marks ∙ c.loop-clause.invariant.marks;
       left = All-tail (IsClauseWithin n) c.in-Some.clause.now c.next.new.self left;
     }
 
