@@ -36,13 +36,13 @@ resolve-requires-clause-plain_second g c =
     literals_plain c.args.simplifier.now c.args.store.now.slots (g.S.Sink.lines c.args.sink.now)
     c.requires.is_open.simplified c.args.second c.lits-2.result.now c.lits-2.ensures
 
-pub parents-requires-clause-first : goal.parents-requires-clause-first
-parents-requires-clause-first g c =
+pub parents-hints-requires-clause-first : goal.parents-hints-requires-clause-first
+parents-hints-requires-clause-first g c =
     is_named c.args.simplifier.now c.args.store.now.slots (g.S.Sink.lines c.args.sink.now)
     c.requires.is_open.simplified c.args.first c.lits.result.now c.lits.ensures
 
-pub parents-requires-clause-second : goal.parents-requires-clause-second
-parents-requires-clause-second g c =
+pub parents-hints-requires-clause-second : goal.parents-hints-requires-clause-second
+parents-hints-requires-clause-second g c =
     is_named c.args.simplifier.now c.args.store.now.slots (g.S.Sink.lines c.args.sink.now)
     c.requires.is_open.simplified c.args.second c.lits-2.result.now c.lits-2.ensures
 

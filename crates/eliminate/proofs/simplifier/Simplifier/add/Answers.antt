@@ -81,6 +81,12 @@ leaves g c start h =
       refuted = refl;
     }) start h)
 
+pub returns-in_err-reference-clause-passes : goal.returns-in_err-reference-clause-passes
+returns-in_err-reference-clause-passes g c =
+    MatchResult-from_err _ _ _ c.from_residual.ensures.0 (λ _ start h.
+    rw c.in_err-reference.ensures.err
+    (log_of start c.args.self.now c.args.store.now.slots (g.S.Sink.lines c.args.sink.now) h))
+
 pub returns-in_err-add-clause-passes : goal.returns-in_err-add-clause-passes
 returns-in_err-add-clause-passes g c =
     MatchResult-from_err _ _ _ c.from_residual-in_err-add.ensures.0
