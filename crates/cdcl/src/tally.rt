@@ -3,7 +3,8 @@ ghost use Rattle.std.specs.Prelude.{◌≡◌, [], ◌∷◌, ◌++◌, ◌<◌,
 ghost use Rattle.lrat_log.specs.Steps.{added_count};
 ghost use Rattle.cdcl_search.specs.Running.{is_refuted};
 
-use lrat_log::lines::Line;
+use cnf::types::Lit;
+use lrat_log::lines::{Hint, Kind};
 use lrat_log::sink::Sink;
 use std::alloc::AllocError;
 
@@ -24,14 +25,12 @@ pub(crate) struct Tally<S: Sink> {
 impl<S: Sink> Sink for Tally<S> {
     ghost lines = { λ t. S.lines t.sink };
 
-    fn append(&mut self, line: Line) -> Result<(), AllocError> {
+    fn append(&mut self, kind: Kind, lits: &[Lit], hints: &[Hint]) -> Result<(), AllocError> {
         self.sink.is_short();
-        let adds = !line.kind().is_delete();
-        let empty = line.lits().is_empty();
-        self.sink.append(line)?;
-        if adds {
+        self.sink.append(kind, lits, hints)?;
+        if !kind.is_delete() {
             self.additions += 1;
-            self.refuted = self.refuted || empty;
+            self.refuted = self.refuted || lits.is_empty();
         }
         Ok(())
     }

@@ -169,7 +169,7 @@ pub fn learn_core<S: Sink>(
     let hints = search.hints_of(clause.hints.as_slice())?;
     search.backtrack(0);
     let lits = clause.lits.as_slice();
-    let reference = search.add_line(sink, Kind::Learned, lits, hints)?;
+    let reference = search.add_line(sink, Kind::Learned, lits, &hints)?;
     search.policy.note_learned(
         reference,
         lits.len(),

@@ -33,7 +33,7 @@ pub fn learn<S: Sink>(
     let hints = search.hints_of(learned.hints.as_slice())?;
     let distance = search.learn_from(&learned);
     search.backtrack(learned.back_level);
-    let reference = search.add_line(sink, Kind::Learned, learned.lits.as_slice(), hints)?;
+    let reference = search.add_line(sink, Kind::Learned, learned.lits.as_slice(), &hints)?;
     search
         .policy
         .note_learned(reference, learned.lits.as_slice().len(), distance);

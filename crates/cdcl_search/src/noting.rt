@@ -9,7 +9,7 @@ ghost use Rattle.cdcl_search.specs.Parts.{LearnsNothing, NotesAll, NotesNext};
 use crate::input::Input;
 use crate::search::Search;
 use clauses::store::{CRef, MaybeCRef};
-use lrat_log::lines::{Kind, Line};
+use lrat_log::lines::Kind;
 use lrat_log::sink::Sink;
 use std::alloc::AllocError;
 
@@ -58,7 +58,7 @@ fn note_unit<S: Sink>(search: &mut Search, input: &Input, sink: &mut S) -> Resul
         unreachable!()
     };
     let hints = search.hints_of(&[reason])?;
-    let unit = search.add_line(sink, Kind::Unit, &[lit], hints)?;
+    let unit = search.add_line(sink, Kind::Unit, &[lit], &hints)?;
     search.units[place] = MaybeCRef::new(Some(unit));
     search.noted += 1;
     Ok(())
@@ -79,6 +79,5 @@ pub fn refute<S: Sink>(
 {
     note_units(search, input, sink)?;
     let hints = search.hints_of(&[conflict])?;
-    let none = Vec::new(search.store.allocator());
-    sink.append(Line::new(Kind::Empty, none, hints))
+    sink.append(Kind::Empty, &[], &hints)
 }

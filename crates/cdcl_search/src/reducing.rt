@@ -12,7 +12,7 @@ use crate::search::Search;
 use cdcl_order::deletions::Candidate;
 use clauses::store::CRef;
 use cnf::types::Lit;
-use lrat_log::lines::{Hint, Kind, Line, Name};
+use lrat_log::lines::{Hint, Kind, Name};
 use lrat_log::sink::Sink;
 use propagate::engine::Engine;
 use std::alloc::AllocError;
@@ -36,10 +36,8 @@ fn delete<S: Sink>(
     if !doomed[reference.index()] {
         return Ok(());
     }
-    let alloc = search.store.allocator();
-    let mut hints = Vec::new(alloc);
-    hints.push(Hint::Plain(search.names[reference.index()].name()))?;
-    sink.append(Line::new(Kind::Delete, Vec::new(alloc), hints))?;
+    let hint = Hint::Plain(search.names[reference.index()].name());
+    sink.append(Kind::Delete, &[], &[hint])?;
     search.store.delete(reference);
     search.policy.count_deleted();
     Ok(())

@@ -11,7 +11,7 @@ ghost use Rattle.cdcl_search.specs.Running.{IsReady, Stores};
 use crate::search::Search;
 use clauses::store::CRef;
 use cnf::types::Lit;
-use lrat_log::lines::{Hint, Kind, Line, Name, Number};
+use lrat_log::lines::{Hint, Kind, Name, Number};
 use lrat_log::packed_name::PackedName;
 use lrat_log::sink::Sink;
 use std::alloc::AllocError;
@@ -40,12 +40,12 @@ impl Search {
         sink: &mut S,
         kind: Kind,
         lits: &[Lit],
-        hints: Vec<Hint>,
+        hints: &[Hint],
     ) -> Result<CRef, AllocError>
         requires ready { IsReady self.old }
         requires within { IsWithin self.old.engine.variables lits.now }
         requires adds { is_delete kind ≡ false }
-        requires hints { All (λ h. IsId (number_in (name_of h))) hints.items }
+        requires hints { All (λ h. IsId (number_in (name_of h))) hints.now }
         requires counted { self.old.additions ≡ added_count (S.lines sink.old) }
         requires few { self.old.additions < 2 ^ 61 }
         ensures stored { OnOk result
@@ -56,14 +56,13 @@ impl Search {
         ensures lines { OnOk result (S.lines sink.new ≡ S.lines sink.old ++ record {
           kind = kind;
           clause = lits.now;
-          hints = hints.items;
+          hints = hints.now;
         } ∷ []) }
         ensures err { OnErr result (S.lines sink.new ≡ S.lines sink.old) }
     {
         let name = Name::Added(Number::new(self.additions + 1));
-        let owned = Vec::from_slice(self.store.allocator(), lits)?;
         let reference = self.attach_clause(name, lits)?;
-        sink.append(Line::new(kind, owned, hints))?;
+        sink.append(kind, lits, hints)?;
         sink.is_short();
         self.additions += 1;
         Ok(reference)

@@ -16,7 +16,7 @@ use eliminate_names::names::Names;
 use eliminate_tables::resolvents::resolve;
 use lrat_log::lines::{Hint, Kind};
 use lrat_log::sink::Sink;
-use std::alloc::{AllocError, Global};
+use std::alloc::AllocError;
 
 /// Adds the resolvent of two clauses, the first with the pivot and the second with its negation,
 /// where it has no complementary literals. The empty one ends everything.
@@ -52,24 +52,23 @@ pub(crate) fn add_resolvent<S: Sink>(
     if !is_plain {
         return Ok(None);
     }
-    let hints = parents(store.allocator(), &simplifier.names, first, second)?;
+    let hints = parents(&simplifier.names, first, second);
     let kind = kind_of(&simplifier.clause);
-    let reference = simplifier.add(store, sink, kind, hints)?;
+    let reference = simplifier.add(store, sink, kind, &hints)?;
     Ok(Some(reference))
 }
 
 /// The hints of a resolvent: the names of the parent with the pivot and of the other one.
-fn parents(alloc: Global, names: &Names, first: CRef, second: CRef) -> Result<Vec<Hint>, AllocError>
+fn parents(names: &Names, first: CRef, second: CRef) -> [Hint; 2]
     requires first { first < length names.now.names }
     requires second { second < length names.now.names }
-    ensures { IfOk result (λ hints.
-        hints.items ≡ Hint.Plain (name_at names.now.names first) ∷ Hint.Plain
-        (name_at names.now.names second) ∷ []) }
+    ensures { result ≡ Hint.Plain (name_at names.now.names first)
+        ∷ Hint.Plain (name_at names.now.names second) ∷ [] }
 {
-    let mut hints = Vec::with_capacity(alloc, 2)?;
-    hints.push(Hint::Plain(names.get(first)))?;
-    hints.push(Hint::Plain(names.get(second)))?;
-    Ok(hints)
+    [
+        Hint::Plain(names.get(first)),
+        Hint::Plain(names.get(second)),
+    ]
 }
 
 /// What the line of a resolvent with these literals is for.

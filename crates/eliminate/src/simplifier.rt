@@ -118,7 +118,7 @@ impl Simplifier {
         store: &mut Store,
         sink: &mut S,
         kind: Kind,
-        hints: Vec<Hint>,
+        hints: &[Hint],
     ) -> Result<CRef, AllocError>
         requires is_open { IsOpen self.old store.old.slots (S.lines sink.old) }
         requires line { (start : Start)
@@ -126,7 +126,7 @@ impl Simplifier {
             → IsAddableLine start self.old (S.lines sink.old) (record {
               kind = kind;
               clause = self.old.clause.items;
-              hints = hints.items;
+              hints = hints.now;
             }) }
         ensures reference { IfOk result (λ r. r ≡ length store.old.slots) }
         ensures slots { IfOk result (λ _.
@@ -139,9 +139,7 @@ impl Simplifier {
         ensures removals { OnOk result (self.new.removals ≡ self.old.removals) }
     {
         sink.is_short();
-        let mut lits = Vec::with_capacity(store.allocator(), self.clause.len())?;
-        lits.extend_from_slice(&self.clause)?;
-        let reference = add(store, &mut self.names, sink, kind, lits, hints)?;
+        let reference = add(store, &mut self.names, sink, kind, &self.clause, hints)?;
         self.occurrences.add(&self.clause, reference)?;
         self.schedule.enter(&self.clause)?;
         self.is_refuted = is_empty_clause(&self.clause);
@@ -173,8 +171,7 @@ impl Simplifier {
         ensures err { OnErr result (S.lines sink.new ≡ S.lines sink.old) }
     {
         self.schedule.leave(store.lits(reference))?;
-        let alloc = store.allocator();
-        delete(store, &self.names, sink, alloc, reference)?;
+        delete(store, &self.names, sink, reference)?;
         Ok(())
     }
 }

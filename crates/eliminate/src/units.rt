@@ -159,7 +159,7 @@ impl Units {
         let hints = self.hints(&simplifier.names, store, reference)?;
         simplifier.clause.clear();
         simplifier.clause.push(lit)?;
-        let unit = simplifier.add(store, sink, Kind::Unit, hints)?;
+        let unit = simplifier.add(store, sink, Kind::Unit, &hints)?;
         Ok(unit)
     }
 
@@ -182,7 +182,7 @@ impl Units {
     {
         let hints = self.hints(&simplifier.names, store, reference)?;
         simplifier.clause.clear();
-        simplifier.add(store, sink, Kind::Empty, hints)?;
+        simplifier.add(store, sink, Kind::Empty, &hints)?;
         Ok(())
     }
 

@@ -281,11 +281,10 @@ fn delete_all<S: Sink>(
     ensures err { OnErr result (KeepsLog names.now.names store.old.slots (S.lines sink.old)
         (S.lines sink.new)) }
 {
-    let alloc = store.allocator();
     for reference in references {
         if store.is_live(*reference) {
             schedule.leave(store.lits(*reference))?;
-            delete(store, names, sink, alloc, *reference)?;
+            delete(store, names, sink, *reference)?;
         }
     }
     Ok(())

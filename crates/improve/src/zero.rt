@@ -8,7 +8,7 @@ ghost use Rattle.improve.specs.Improving.{IsAcceptedOver, IsClauseCount, repeats
 use adder::cells::Profile;
 use bound::formulas::formula_as;
 use cnf::types::Instance;
-use lrat_log::lines::{Hint, Kind, Line, Name, Number};
+use lrat_log::lines::{Hint, Kind, Name, Number};
 use lrat_log::log::Log;
 use lrat_log::sink::Sink;
 use std::alloc::{AllocError, Global};
@@ -40,9 +40,8 @@ fn repeat_empty(alloc: Global, number: u64) -> Result<Log, AllocError>
     requires { IsId number }
     ensures { IfOk result (λ log. log ≡ repeats_empty number) }
 {
-    let mut hints = Vec::with_capacity(alloc, 1)?;
-    hints.push(Hint::Plain(Name::Formula(Number::new(number))))?;
+    let hint = Hint::Plain(Name::Formula(Number::new(number)));
     let mut log = Log::new(alloc);
-    log.append(Line::new(Kind::Empty, Vec::new(alloc), hints))?;
+    log.append(Kind::Empty, &[], &[hint])?;
     Ok(log)
 }

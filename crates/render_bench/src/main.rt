@@ -10,7 +10,7 @@ ghost use Rattle.cnf.specs.Lrat.{IsId};
 ghost use Rattle.lrat_log.specs.Log.{HasSmallIds, id_of, name_of, number_in};
 
 use cnf::types::Lit;
-use lrat_log::lines::{Hint, Kind, Line, Name, Number};
+use lrat_log::lines::{Hint, Kind, Name, Number};
 use lrat_log::log::{Log, write_to};
 use lrat_log::sink::Sink;
 use std::alloc::{AllocError, Global};
@@ -83,22 +83,15 @@ fn hints(alloc: Global, random: &mut Random) -> Result<Vec<Hint>, AllocError>
     Ok(hints)
 }
 
-fn line(alloc: Global, random: &mut Random) -> Result<Line, AllocError>
-    ensures { IfOk result (λ l. All (λ h. id_of BASE (name_of h) < NUMBER_LIMIT) l.hints) }
-{
-    let lits = lits(alloc, random)?;
-    let hints = hints(alloc, random)?;
-    Ok(Line::new(Kind::Learned, lits, hints))
-}
-
 fn log(alloc: Global, lines: u64) -> Result<Log, AllocError>
     ensures { IfOk result (λ log. HasSmallIds BASE log) }
 {
     let mut random = Random(88_172_645_463_325_252);
     let mut log = Log::new(alloc);
     for _k in 0..lines {
-        let next = line(alloc, &mut random)?;
-        log.append(next)?;
+        let lits = lits(alloc, &mut random)?;
+        let hints = hints(alloc, &mut random)?;
+        log.append(Kind::Learned, &lits, &hints)?;
     }
     Ok(log)
 }

@@ -58,8 +58,8 @@ add_line-requires-clause-hints g c =
     subst (IsRefutedBy slots D c.args.clause.now.lits.items) (sym c.as_slice.ensures.value)
     k.final.hints in
     let recorded = c.requires.runs.running.recorded in
-    hint_ids slots s.names.items s.engine.trail rs c.in_ok-hints.hints.items
-    c.in_ok-hints.ensures.hints recorded.names.as_many recorded.numbers
+    hint_ids slots s.names.items s.engine.trail rs c.deref.result.now
+    (rw c.deref.ensures.value c.in_ok-hints.ensures.hints) recorded.names.as_many recorded.numbers
     (refutes_live slots _ rs refutes)
 
 pub returns-clause-learns : goal.returns-clause-learns
@@ -71,13 +71,14 @@ returns-clause-learns g c =
     let k = c.requires.lesson in
     let lits = c.as_slice-lits.result.now in
     let rs = c.as_slice.result.now in
-    let hints = c.in_ok-hints.hints.items in
+    let hints = c.deref.result.now in
     let m = c.backtrack.new.self in
     let n = c.add_line.new.self in
     let l : LogLine = record { kind = Learned; clause = lits; hints = hints } in
     let adds =
     core_adds s p ls c.args.clause.now lits rs s.names.items hints c.requires.runs k
-    c.as_slice-lits.ensures c.as_slice.ensures.value refl c.in_ok-hints.ensures.hints in
+    c.as_slice-lits.ensures c.as_slice.ensures.value refl
+    (rw c.deref.ensures.value c.in_ok-hints.ensures.hints) in
     let goes : Search → Type 0 = λ (x : Search). IsRunning x.engine (x.store).slots p.stack
     (tables_of x) p.frozen.items p.first p.given ls in
     let stamped : goes c.hints_of.new.self =

@@ -87,12 +87,12 @@ add_line-requires-clause-hints g c =
     let slots = s.store.slots in
     let learned = c.in_ok-learned.learned in
     let rs = c.as_slice.result.now in
-    let h = c.in_ok-hints.ensures.hints in
     let refutes =
     subst (IsRefutedBy slots s.engine.trail learned.lits.items) (sym c.as_slice.ensures.value)
     c.in_ok-learned.ensures.hints in
     let recorded = c.requires.runs.running.recorded in
-    hint_ids slots s.names.items s.engine.trail rs c.in_ok-hints.hints.items h
+    hint_ids slots s.names.items s.engine.trail rs c.deref.result.now
+    (rw c.deref.ensures.value c.in_ok-hints.ensures.hints)
     recorded.names.as_many recorded.numbers (refutes_live slots _ rs refutes)
 
 pub returns-clause-learns : goal.returns-clause-learns
@@ -104,9 +104,10 @@ returns-clause-learns g c =
     let learned = c.in_ok-learned.learned in
     let lesson =
     is_lesson s p ls learned.lits.items c.as_slice-2.result.now learned.back_level
-    learned.hints.items c.as_slice.result.now _ c.in_ok-hints.hints.items c.requires.runs
+    learned.hints.items c.as_slice.result.now _ c.deref.result.now c.requires.runs
     c.requires.deep
-    c.in_ok-learned.ensures.asserting c.in_ok-learned.ensures.hints c.in_ok-hints.ensures.hints
+    c.in_ok-learned.ensures.asserting c.in_ok-learned.ensures.hints
+    (rw c.deref.ensures.value c.in_ok-hints.ensures.hints)
     c.as_slice-2.ensures c.as_slice.ensures.value refl in
     let m = c.backtrack.new.self in
     let n = c.add_line.new.self in
@@ -114,7 +115,7 @@ returns-clause-learns g c =
     record {
       kind = Learned;
       clause = c.as_slice-2.result.now;
-      hints = c.in_ok-hints.hints.items;
+      hints = c.deref.result.now;
     } in
     let goes : Search → Type 0 = λ (x : Search). IsRunning x.engine (x.store).slots p.stack
     (tables_of x) p.frozen.items p.first p.given ls in

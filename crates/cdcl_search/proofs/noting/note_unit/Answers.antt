@@ -102,8 +102,8 @@ add_line-requires-clause-hints g c =
     let s = c.args.search.now in
     let r = c.in-Some.reason in
     let n = next g (goal.at.add_line-requires-clause-hints g c).In-Some in
-    let h = c.in_ok-hints.ensures.hints in
-    hint_ids (s.store).slots (s.names).items (s.engine).trail (r ∷ []) c.in_ok-hints.hints.items h
+    hint_ids (s.store).slots (s.names).items (s.engine).trail (r ∷ []) c.deref.result.now
+    (rw c.deref.ensures.value c.in_ok-hints.ensures.hints)
     c.requires.runs.running.recorded.names.as_many c.requires.runs.running.recorded.numbers
     ((n.clause, n.here), tt)
 
@@ -131,14 +131,14 @@ returns-clause-notes g c =
     let run = c.requires.runs.running in
     let reasons = run.searches.fits.reasons in
     let n = next g (goal.at.returns-clause-notes g c).In-Some in
-    let h = c.in_ok-hints.ensures.hints in
     let small = named g (goal.at.returns-clause-notes g c).After-index-trail-search in
     let few_k : k.variable < 2 ^ 27 =
     (let a = c.variable.ensures.small in let b = c.variable.ensures.variable in omega arith) in
     let adds =
     adds_unit slots T (s.names).items c.args.input.now.given
-    (g.S.Sink.lines c.args.sink.now) c.in_ok-hints.hints.items k s.noted r reasons
-    c.requires.flat n run.recorded.names h few_k in
+    (g.S.Sink.lines c.args.sink.now) c.deref.result.now k s.noted r reasons
+    c.requires.flat n run.recorded.names
+    (rw c.deref.ensures.value c.in_ok-hints.ensures.hints) few_k in
     let stamped : Search = record s { stamps = (c.hints_of.new.self).stamps } in
     let only : c.hints_of.new.self ≡ stamped = c.hints_of.ensures.only_stamps in
     let room : HasRoom stamped = subst HasRoom only c.hints_of.ensures.ready.room in
@@ -151,13 +151,13 @@ returns-clause-notes g c =
     (let long : length A ≡ length T = length-map T (λ (x : Assigned). x.literal) in
     omega (arith, c.requires.next)) in
     let l : LogLine =
-    record { kind = UnitKind; clause = k ∷ []; hints = c.in_ok-hints.hints.items } in
+    record { kind = UnitKind; clause = k ∷ []; hints = c.deref.result.now } in
     record {
       runs =
           subst (Runs _ c.args.input.now) (sym c.in_ok-unit.ensures.lines)
           (runs_noted stamped
           c.add_line.new.self _ c.args.input.now (g.S.Sink.lines c.args.sink.now)
-          c.in_ok-hints.hints.items k (c.variable.result - 1) c.in_ok-unit.unit run room
+          c.deref.result.now k (c.variable.result - 1) c.in_ok-unit.unit run room
           c.hints_of.ensures.past
           c.requires.flat c.requires.next at adds stored
           (c.in_ok-unit.ensures.additions ∙ ap (λ (x : Search). x.additions + 1) only)

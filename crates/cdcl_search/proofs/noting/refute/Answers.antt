@@ -6,7 +6,7 @@ use Rattle.cnf.specs.Literal.{Literal}
 use Rattle.propagate.specs.Trail.{depth_of}
 use Rattle.propagate.specs.Watches.{is_attached}
 use Rattle.lrat_log.specs.declared.lines.Kind.TheVariants.{Empty}
-use Rattle.lrat_log.specs.Log.{LogLine, IsLine}
+use Rattle.lrat_log.specs.Log.{LogLine}
 use Rattle.cdcl_search.specs.Running.{IsEnded, StaysOpen, Writes}
 use Rattle.cdcl_search.proofs.HintNames.{hint_ids}
 use Rattle.cdcl_search.proofs.Placing.{adding_line}
@@ -29,19 +29,19 @@ hints_of-requires-clause-noted g c =
     all_noted s c.args.input.now (g.S.Sink.lines c.note_units.new.sink) (c.args.conflict ∷ [])
     c.in_ok-note_units.ensures.leaves.keeps.runs c.in_ok-note_units.ensures.leaves.all
 
-pub new-requires : goal.new-requires
-new-requires g c =
+pub append-requires : goal.append-requires
+append-requires g c =
     let s = c.note_units.new.search in
     let e = c.in_ok-note_units.ensures.leaves.keeps in
     let w = e.false_stays c.args.conflict c.requires.conflict in
-    let h = c.in_ok-hints.ensures.hints in
-    subst (λ x. IsLine (record { kind = Empty; clause = x; hints = c.in_ok-hints.hints.items }))
-    (sym c.new-none.ensures.items)
-    (adding_line Empty [] c.in_ok-hints.hints.items (s.engine).variables refl e.runs.room.few
-    (All-nil (λ (l : Literal). 0 < l.variable), omega arith)
-    (hint_ids (s.store).slots (s.names).items (s.engine).trail (c.args.conflict ∷ [])
-    c.in_ok-hints.hints.items h e.runs.running.recorded.names.as_many
-    e.runs.running.recorded.numbers ((w.0, w.1), tt)))
+    record {
+      line = adding_line Empty [] c.deref.result.now (s.engine).variables refl e.runs.room.few
+          (All-nil (λ (l : Literal). 0 < l.variable), omega arith)
+          (hint_ids (s.store).slots (s.names).items (s.engine).trail (c.args.conflict ∷ [])
+          c.deref.result.now (rw c.deref.ensures.value c.in_ok-hints.ensures.hints)
+          e.runs.running.recorded.names.as_many
+          e.runs.running.recorded.numbers ((w.0, w.1), tt));
+    }
 
 pub returns-in_err-hints : goal.returns-in_err-hints
 returns-in_err-hints g c =
@@ -59,26 +59,20 @@ returns g c =
     let ls = g.S.Sink.lines c.note_units.new.sink in
     let e = c.in_ok-note_units.ensures in
     let k = e.leaves.keeps in
-    let h = c.in_ok-hints.ensures.hints in
     let adds =
-    adds_empty s p ls c.in_ok-hints.hints.items c.args.conflict k.runs (ap depth_of k.trail
-    ∙ c.requires.flat) (k.false_stays c.args.conflict c.requires.conflict) h in
-    let l : LogLine = record { kind = Empty; clause = []; hints = c.in_ok-hints.hints.items } in
-    let line : c.new.result ≡ l =
-    c.new.ensures ∙ ap (λ x. record {
-      kind = Empty;
-      clause = x;
-      hints = c.in_ok-hints.hints.items;
-    }) c.new-none.ensures.items in
+    adds_empty s p ls c.deref.result.now c.args.conflict k.runs (ap depth_of k.trail
+    ∙ c.requires.flat) (k.false_stays c.args.conflict c.requires.conflict)
+    (rw c.deref.ensures.value c.in_ok-hints.ensures.hints) in
+    let l : LogLine = record { kind = Empty; clause = []; hints = c.deref.result.now } in
     let log = k.runs.running.recorded.log in
     record {
       leaves =
           on_ok_weaker c.append.result
-          (λ a. subst (IsEnded p) (sym (a ∙ ap (λ x. ls ++ x ∷ []) line))
-          (is_ended s p ls c.in_ok-hints.hints.items k.runs adds)) c.append.ensures.ok;
+          (λ a. subst (IsEnded p) (sym a)
+          (is_ended s p ls c.deref.result.now k.runs adds)) c.append.ensures.ok;
       writes =
           either c.append.result c.append.ensures.ok c.append.ensures.err
-          (λ a. subst (λ x. Writes p.given old x 0) (sym (a ∙ ap (λ x. ls ++ x ∷ []) line))
+          (λ a. subst (λ x. Writes p.given old x 0) (sym a)
           (writes_join p.given old ls (ls ++ l ∷ []) 0 0 e.writes
           (writes_short p.given ls l refl (omega arith))))
           (λ b. subst (λ x. Writes p.given old x 0) (sym b) e.writes);

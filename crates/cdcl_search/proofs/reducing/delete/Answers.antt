@@ -42,8 +42,8 @@ returns-then-not-doomed-index-clause-deletes g c =
       writes = writes_none c.args.input.now.given (g.S.Sink.lines c.args.sink.now);
     }
 
-pub new-requires-2 : goal.new-requires-2
-new-requires-2 g c =
+pub append-requires : goal.append-requires
+append-requires g c =
     let s : Search = c.args.search.now in
     let r = c.args.reference in
     let recorded = c.requires.deleting.recorded in
@@ -53,10 +53,10 @@ new-requires-2 g c =
     let name : c.name.result ≡ name_at s.names.items r =
     c.name.ensures ∙ named_at s.names.items c.index-2.result r c.index-3.result.now
     c.index-2.ensures c.index-3.ensures lt in
-    deleting_line c.new.result.items c.push.new.self.items c.name.result c.new.ensures.items
-    (c.in_ok-push.ensures.items
-    ∙ ap (λ x. x ++ Plain c.name.result ∷ []) c.new-hints.ensures.items)
-    (subst (λ n. IsId (number_in n)) (sym name) (recorded.numbers r (Formula 0) lt))
+    record {
+      line = deleting_line [] (Plain c.name.result ∷ []) c.name.result refl refl
+          (subst (λ n. IsId (number_in n)) (sym name) (recorded.numbers r (Formula 0) lt));
+    }
 
 pub returns-clause-deletes : goal.returns-clause-deletes
 returns-clause-deletes g c =
@@ -72,19 +72,16 @@ returns-clause-deletes g c =
     let name : c.name.result ≡ name_at s.names.items r =
     c.name.ensures ∙ named_at s.names.items c.index-2.result r c.index-3.result.now
     c.index-2.ensures c.index-3.ensures lt in
-    let hints = c.in_ok-push.ensures.items
-    ∙ ap (λ x. x ++ Plain c.name.result ∷ []) c.new-hints.ensures.items
-    ∙ ap (λ n. Plain n ∷ []) name in
+    let hints = ap (λ n. Plain n ∷ []) name in
     let on : is_doomed doomed r ≡ true =
     subst (λ k. is_doomed doomed k ≡ true) c.index.ensures c.if-not-doomed-index.false in
     let l : LogLine =
-    record { kind = Delete; clause = c.new.result.items; hints = c.push.new.self.items } in
+    record { kind = Delete; clause = []; hints = Plain c.name.result ∷ [] } in
     let k = c.count_deleted.new.self in
     let more =
     deleting_more s k p ls l doomed r live.0 d live.1 on refl hints
     c.count_deleted.ensures.unchanged in
-    let written : g.S.Sink.lines c.append.new.self ≡ ls ++ l ∷ [] =
-    c.in_ok-append.ensures.ok ∙ ap (λ x. ls ++ x ∷ []) c.new-2.ensures in
+    let written : g.S.Sink.lines c.append.new.self ≡ ls ++ l ∷ [] = c.in_ok-append.ensures.ok in
     let store = c.delete.ensures in
     record {
       deleting =
@@ -106,5 +103,5 @@ returns-clause-deletes g c =
       policy = c.count_deleted.ensures.unchanged;
       writes =
           subst (λ x. Writes p.given ls x 0) (sym written)
-          (writes_short p.given ls l refl (omega (arith, ap length c.new.ensures.items)));
+          (writes_short p.given ls l refl (omega arith));
     }

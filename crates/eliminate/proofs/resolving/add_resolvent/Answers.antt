@@ -36,13 +36,13 @@ resolve-requires-clause-plain_second g c =
     literals_plain c.args.simplifier.now c.args.store.now.slots (g.S.Sink.lines c.args.sink.now)
     c.requires.is_open.simplified c.args.second c.lits-2.result.now c.lits-2.ensures
 
-pub parents-requires-clause-first : goal.parents-requires-clause-first
-parents-requires-clause-first g c =
+pub parents-hints-requires-clause-first : goal.parents-hints-requires-clause-first
+parents-hints-requires-clause-first g c =
     is_named c.args.simplifier.now c.args.store.now.slots (g.S.Sink.lines c.args.sink.now)
     c.requires.is_open.simplified c.args.first c.lits.result.now c.lits.ensures
 
-pub parents-requires-clause-second : goal.parents-requires-clause-second
-parents-requires-clause-second g c =
+pub parents-hints-requires-clause-second : goal.parents-hints-requires-clause-second
+parents-hints-requires-clause-second g c =
     is_named c.args.simplifier.now c.args.store.now.slots (g.S.Sink.lines c.args.sink.now)
     c.requires.is_open.simplified c.args.second c.lits-2.result.now c.lits-2.ensures
 
@@ -67,9 +67,9 @@ add-requires-clause-line g c start h =
     c.requires.second.2 in
     resolvent_addable start t slots (g.S.Sink.lines c.args.sink.now) p d e c.args.first
     c.args.second h c.lits.ensures c.lits-2.ensures c.kind_of-kind.result c.resolve.new.out.items
-    c.in_ok-hints.hints.items
+    c.parents-hints.result
     kind.0 kind.1 has has_not (not-true _ (sym plain ∙ is_plain))
-    (c.in_ok-is_plain.ensures.built is_plain) c.in_ok-hints.ensures
+    (c.in_ok-is_plain.ensures.built is_plain) c.parents-hints.ensures
 
 pub returns-in_err-reference-clause-passes : goal.returns-in_err-reference-clause-passes
 returns-in_err-reference-clause-passes g c =

@@ -30,13 +30,6 @@ add-requires-2 g c =
     (clause_places w.0 s c.args.store.now.slots (g.S.Sink.lines c.args.sink.now) s.clause.items
     w.1 clause))
 
--- the clause was copied as it was built
-copied : (g : Over) (c : In_ok-reference g)
-    → c.extend_from_slice.new.self.items ≡ c.args.self.now.clause.items
-copied g c = c.in_ok-extend_from_slice.ensures.items
-    ∙ ap (λ (xs : List Literal). xs ++ c.deref.result.now) c.in_ok-lits.ensures.items
-    ∙ c.deref.ensures.value
-
 -- tables that have the clause are a simplified form
 added : (g : Over) (c : In_ok-reference g) (t : Simplifier)
     → HasAdded c.args.self.now t c.args.store.now.slots c.args.self.now.clause.items
@@ -48,16 +41,16 @@ added g c t has start h =
     let slots : Slots = c.args.store.now.slots in
     let ls : List LogLine = g.S.Sink.lines c.args.sink.now in
     let line : LogLine =
-    record { kind = c.args.kind; clause = s.clause.items; hints = c.args.hints.items } in
+    record { kind = c.args.kind; clause = s.clause.items; hints = c.args.hints.now } in
     let lines : g.S.Sink.lines c.add.new.sink ≡ ls ++ line ∷ [] = c.in_ok-reference.ensures.lines
     ∙ ap (λ (xs : List Literal). ls ++ record {
       kind = c.args.kind;
       clause = xs;
-      hints = c.args.hints.items;
-    } ∷ []) (copied g c) in
+      hints = c.args.hints.now;
+    } ∷ []) c.deref.ensures.value in
     let slotted : c.add.new.store.slots ≡ slots ++ Some s.clause.items ∷ [] =
     c.in_ok-reference.ensures.slots
-    ∙ ap (λ (xs : List Literal). slots ++ Some xs ∷ []) (copied g c) in
+    ∙ ap (λ (xs : List Literal). slots ++ Some xs ∷ []) c.deref.ensures.value in
     subst (λ (xs : Slots). IsSimplified start t xs (g.S.Sink.lines c.add.new.sink)) (sym slotted)
     (subst (IsSimplified start t (slots ++ Some s.clause.items ∷ [])) (sym lines)
     (simplified_added start s t slots ls line h c.requires.is_open.going (c.requires.line start h)
@@ -87,6 +80,12 @@ leaves g c start h =
       marks = refl;
       refuted = refl;
     }) start h)
+
+pub returns-in_err-reference-clause-passes : goal.returns-in_err-reference-clause-passes
+returns-in_err-reference-clause-passes g c =
+    MatchResult-from_err _ _ _ c.from_residual.ensures.0 (λ _ start h.
+    rw c.in_err-reference.ensures.err
+    (log_of start c.args.self.now c.args.store.now.slots (g.S.Sink.lines c.args.sink.now) h))
 
 pub returns-in_err-add-clause-passes : goal.returns-in_err-add-clause-passes
 returns-in_err-add-clause-passes g c =

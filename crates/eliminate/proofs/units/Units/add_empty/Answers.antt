@@ -1,5 +1,5 @@
 -- The empty clause follows by the units.
-use Rattle.std.proofs.Common.{[], List, refl, sym, subst}
+use Rattle.std.proofs.Common.{[], ◌∙◌, List, refl, sym, subst}
 use Rattle.std.proofs.lemmas.Result.{MatchResult-from_err}
 use Rattle.lrat_log.specs.declared.lines.Kind.TheVariants.{Empty}
 use Rattle.lrat_log.specs.Log.{LogLine}
@@ -20,10 +20,10 @@ add-requires-clause-line g c start h =
     let ls : List LogLine = g.S.Sink.lines c.args.sink.now in
     let d = c.requires.live.0 in
     let at = c.requires.live.1 in
-    addable_at start s ls Empty c.clear.new.self.items [] c.in_ok-hints.hints.items _
-    c.clear.ensures.items (c.in_ok-hints.ensures d at) (empty_addable start s c.args.store.now.slots
-    ls c.args.self.now h c.requires.propagating.units d c.args.reference at
-    (c.requires.falsified d at))
+    addable_at start s ls Empty c.clear.new.self.items [] c.deref.result.now _
+    c.clear.ensures.items (c.deref.ensures.value ∙ c.in_ok-hints.ensures d at)
+    (empty_addable start s c.args.store.now.slots ls c.args.self.now h
+    c.requires.propagating.units d c.args.reference at (c.requires.falsified d at))
 
 pub returns-in_err-add-clause-passes : goal.returns-in_err-add-clause-passes
 returns-in_err-add-clause-passes g c =

@@ -38,8 +38,9 @@ add-requires-clause-line g c start h =
     let ls : List LogLine = g.S.Sink.lines c.args.sink.now in
     let d = c.requires.live.0 in
     let at = c.requires.live.1 in
-    addable_at start s ls Unit c.push.new.self.items (c.args.lit ∷ []) c.in_ok-hints.hints.items _
-    (alone g (goal.at.add-requires-clause-line g c).In_ok-push) (c.in_ok-hints.ensures d at)
+    addable_at start s ls Unit c.push.new.self.items (c.args.lit ∷ []) c.deref.result.now _
+    (alone g (goal.at.add-requires-clause-line g c).In_ok-push)
+    (c.deref.ensures.value ∙ c.in_ok-hints.ensures d at)
     (unit_addable start s c.args.store.now.slots ls c.args.self.now h c.requires.propagating.units d
     c.args.reference at c.args.lit (c.requires.unit d at))
 
