@@ -1,9 +1,11 @@
 -- What was written of what was found.
 use Rattle.std.proofs.Common.{◌≡◌, ℕ, Bool, List, ◌++◌, Option, Result, Ok, Err, sym, ◌∙◌, ap}
 use Rattle.std.proofs.Common.{subst}
-use Rattle.std.specs.Prelude.{IfErr, OnErr}
-use Rattle.std.specs.Io.KnownBytes.{Appends}
-use Rattle.text.specs.Writing.{AppendsPart}
+use Rattle.std.proofs.lemmas.Bool.{false≢true}
+use Rattle.std.specs.Prelude.{IfErr, IsOk, OnOk}
+use Rattle.std.specs.Io.KnownBytes.{Appends, Keeps}
+use Rattle.text.specs.Writing.{AppendsPart, Writes}
+use Rattle.text.proofs.Laws.{part-kept, writes_kept}
 use Rattle.improve.specs.declared.found.Found.{Found}
 use Rattle.report.specs.declared.fault.RunFault.{RunFault}
 use Rattle.report.specs.declared.fault.RunFault.TheVariants.{Output}
@@ -18,11 +20,25 @@ end_is status words bits first last e d f =
     ap (λ z. words_text z last) (e ∙ ap (λ z. status ++ bits_word z) d)
     ∙ ap (words_text (status ++ bits_word bits)) f
 
--- a fault of this kind, with what stands after it
-pub err_with : {T E : Type 0} (r : Result T E) (P R : E → Type 0) (Q : Type 0)
-    → ((e : E) → P e → Q → R e) → IfErr r P → OnErr r Q → IfErr r R
-err_with (Ok x) P R Q f h k = tt
-err_with (Err e) P R Q f h k = f e h k
+-- the whole text, where it went well
+pub ok_with : {T E : Type 0} (r : Result T E) (Q : Type 0) (a b : Option (List ℕ)) (x : List ℕ)
+    → (Appends a b x → Q) → Writes r a x b → OnOk r Q
+ok_with (Ok v) Q a b x f k = f k
+ok_with (Err e) Q a b x f k = tt
+
+-- a fault of this kind, with a beginning of the text
+pub err_with : {T E : Type 0} (r : Result T E) (P R : E → Type 0) (a b : Option (List ℕ))
+    (x : List ℕ) → ((e : E) → P e → AppendsPart a b x → R e) → IfErr r P → Writes r a x b
+    → IfErr r R
+err_with (Ok v) P R a b x f h k = tt
+err_with (Err e) P R a b x f h k = f e h k
+
+-- a text that was written, and then flushed where that went well
+pub delivered : {T E F : Type 0} (written : Result T E) (r : Result T F) (a b c : Option (List ℕ))
+    (x : List ℕ) → Writes written a x b → OnOk r (IsOk written) → Keeps b c → Writes r a x c
+delivered (Ok v) r a b c x p h k = writes_kept r a b c x p k
+delivered (Err e) (Ok v) a b c x p h k = absurd (false≢true h)
+delivered (Err e) (Err f) a b c x p h k = part-kept a b c x p k
 
 module _ (found same : Found) (is : found ≡ same) (a b c d : Option (List ℕ)) where
   pub output_left : (fault : RunFault) → fault ≡ Output → AppendsPart a b (end_text same)

@@ -1,12 +1,12 @@
 -- A core line, as it is put together.
 use Rattle.std.proofs.Common.{◌≡◌, ℕ, ◌+◌, ◌<◌, ◌≤◌, List, [], ◌∷◌, ◌++◌, length, map, take}
-use Rattle.std.proofs.Common.{get_or, Option, refl, sym, ◌∙◌, ap, append_assoc, append-nil}
+use Rattle.std.proofs.Common.{get_or, Option, Result, refl, sym, ◌∙◌, ap, append_assoc, append-nil}
 use Rattle.std.specs.List.{flat_map}
 use Rattle.std.specs.Fmt.{decimal}
 use lib.Chars.{codes}
-use Rattle.text.specs.Writing.{PassesOn, AppendsPart}
-use Rattle.text.proofs.Laws.{items_more, items_fault, all_taken, first_fault, passed-more}
-use Rattle.text.proofs.Laws.{passed_part-more, spaced-last}
+use Rattle.text.specs.Writing.{PassesOn, AppendsPart, Puts}
+use Rattle.text.proofs.Laws.{items_more, items_fault, all_taken, first_fault}
+use Rattle.text.proofs.Laws.{passed_part-more, puts_after, spaced-last}
 use Rattle.cores.specs.Cores.{Core}
 use Rattle.cores.specs.Spelling.{core_word}
 use Rattle.report.specs.Heading.{core_line, word_text}
@@ -67,11 +67,6 @@ module _ (a b d : Option (List ℕ)) (h j : List ℕ) (c : Core) where
         rw (line_split c) (items_fault word_text a b d h j (front_of c) (word_text x) []
         (codes "0\n") c.inputs i x lt is (sym (append-nil (word_text x))) p q)
 
-    pub end_fault : length c.inputs ≤ i → AppendsPart b d (j ++ codes "0\n")
-        → AppendsPart a d (h ++ core_line c)
-    end_fault le q = rw (line_split c, ← all_taken word_text c.inputs i le)
-        (passed_part-more a b d h j (front_of c ++ words_of (take i c.inputs)) (codes "0\n") p q)
-
     module _ (k : List ℕ) where
       pub input_more : (x : ℕ) → i < length c.inputs → x ≡ get_or c.inputs i x
           → PassesOn b j (word_text x) d k
@@ -79,7 +74,7 @@ module _ (a b d : Option (List ℕ)) (h j : List ℕ) (c : Core) where
       input_more x lt is q = items_more word_text a b d h j k (front_of c) c.inputs i x lt is p q
 
       -- the end of the line
-      pub line_end : length c.inputs ≤ i → PassesOn b j (codes "0\n") d k
-          → PassesOn a h (core_line c) d k
-      line_end le q = rw (line_split c, ← all_taken word_text c.inputs i le)
-          (passed-more a b d h j k (front_of c ++ words_of (take i c.inputs)) (codes "0\n") p q)
+      pub line_end : {T E : Type 0} (r : Result T E) → length c.inputs ≤ i
+          → Puts r b j (codes "0\n") d k → Puts r a h (core_line c) d k
+      line_end r le q = rw (line_split c, ← all_taken word_text c.inputs i le)
+          (puts_after r a b d h j k (front_of c ++ words_of (take i c.inputs)) (codes "0\n") p q)

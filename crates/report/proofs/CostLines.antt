@@ -4,8 +4,8 @@ use Rattle.std.proofs.Common.{set, get_or, Option, Some, Bool, false, sym, ◌�
 use Rattle.std.proofs.Common.{subst, arith, append_assoc, append-nil}
 use Rattle.std.specs.Fmt.{decimal}
 use Rattle.std.proofs.lemmas.Fmt.{length-decimal-le}
-use Rattle.std.specs.Io.KnownBytes.{Appends, Keeps}
-use Rattle.std.proofs.KnownBytes.{Appends-trans, Appends-kept}
+use Rattle.std.specs.Io.KnownBytes.{Appends}
+use Rattle.std.proofs.KnownBytes.{Appends-trans}
 use Rattle.std.proofs.lemmas.List.{drop-set, drop_more, drop_all, length-set}
 use Rattle.text.specs.Writing.{spaced, AppendsPart}
 use Rattle.std.proofs.lemmas.Grind.{flat_map-append}
@@ -54,11 +54,6 @@ line_begun first old now costs c p q =
       ),
       Appends-trans first old now (cost_lines costs) q.0 p q.2,
     )
-
--- a whole text is a beginning of it, also where the flush after it fails
-pub whole_part : (a b c : Option (List ℕ)) (bs text : List ℕ) → bs ≡ text → Appends a b bs
-    → Keeps b c → AppendsPart a c text
-whole_part a b c bs text e p k = (bs, ([], sym e ∙ sym (append-nil bs)), Appends-kept a b c bs p k)
 
 -- a first failure of the writer
 pub broke : (first old now : Option (List ℕ)) (costs new : List ℕ) (cost : ℕ) (failed : Option ℕ)

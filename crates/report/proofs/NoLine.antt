@@ -1,9 +1,8 @@
 -- A line of words, a number and a line feed, as it is put together.
-use Rattle.std.proofs.Common.{ℕ, List, [], ◌++◌, Option, refl, sym, ◌∙◌, ap, subst, append_assoc}
-use Rattle.std.proofs.Common.{append-nil}
-use Rattle.std.specs.Io.KnownBytes.{Appends}
-use Rattle.text.specs.Writing.{PassesOn, AppendsPart}
-use Rattle.text.proofs.Laws.{first_fault, passed-more, passed_fault, passed_part, passed_whole}
+use Rattle.std.proofs.Common.{ℕ, List, [], ◌++◌, Option, Result, refl, sym, ◌∙◌, ap, subst}
+use Rattle.std.proofs.Common.{append_assoc, append-nil}
+use Rattle.text.specs.Writing.{PassesOn, AppendsPart, Writes}
+use Rattle.text.proofs.Laws.{first_fault, passed-more, passed_fault, writes_after}
 
 module _ (a b : Option (List ℕ)) (x d e : List ℕ) where
   pub words_fault : AppendsPart a b ([] ++ x) → AppendsPart a b (x ++ (d ++ e))
@@ -28,8 +27,6 @@ module _ (a b : Option (List ℕ)) (x d e : List ℕ) where
             subst (λ z. PassesOn a [] z f k) (append_assoc x d e)
             (passed-more a c f [] j k (x ++ d) e numbered r)
 
-        pub line_whole : Appends f g k → Appends a g (x ++ (d ++ e))
-        line_whole h = passed_whole a f g [] k (x ++ (d ++ e)) ended h
-
-        pub line_part : AppendsPart f g k → AppendsPart a g (x ++ (d ++ e))
-        line_part h = passed_part a f g [] k (x ++ (d ++ e)) ended h
+        pub line_written : {T E : Type 0} (result : Result T E) → Writes result f k g
+            → Writes result a (x ++ (d ++ e)) g
+        line_written result h = writes_after result a f g [] k (x ++ (d ++ e)) ended h

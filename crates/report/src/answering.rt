@@ -1,11 +1,10 @@
 // What was found, on its way to the writers: the certificate first, whole and flushed, then the
 // lines of the status and the bits.
 ghost use Rattle.std.specs.Prelude.{◌≡◌, ◌+◌, ◌<◌, ◌^◌, ◌++◌, ◌∷◌, []};
-ghost use Rattle.std.specs.Prelude.{length, codes, OnOk, OnErr, IfErr, All};
-ghost use Rattle.std.specs.Io.KnownBytes.{Appends};
+ghost use Rattle.std.specs.Prelude.{length, codes, OnOk, IfErr, All};
 ghost use Rattle.cnf.specs.declared.limits.TheConstants.{CLAUSE_LIMIT, NUMBER_LIMIT};
 ghost use Rattle.text.specs.LratText.{IsTextOf};
-ghost use Rattle.text.specs.Writing.{AppendsPart, PassesOn};
+ghost use Rattle.text.specs.Writing.{Puts, Writes};
 ghost use Rattle.lrat_log.specs.Log.{HasSmallIds, numbered_lines, text_of};
 ghost use Rattle.lrat_result.specs.Result.{digit_of};
 ghost use Rattle.cores.specs.Spelling.{HasCoreNumbers};
@@ -72,11 +71,9 @@ pub(crate) fn deliver_headed<P: Write>(
     requires few { clauses < CLAUSE_LIMIT }
     requires ids { clauses + length log.now < NUMBER_LIMIT → HasSmallIds clauses log.now }
     requires numbers { All HasCoreNumbers cores.now }
-    ensures ok { OnOk result (Appends (P.contents proof.old) (P.contents proof.new)
-        (head_text cores.now ++ text_of clauses log.now)) }
+    ensures writes { Writes result (P.contents proof.old)
+        (head_text cores.now ++ text_of clauses log.now) (P.contents proof.new) }
     ensures fault { IfErr result (λ fault. fault ≡ RunFault.ProofOutput) }
-    ensures part { OnErr result (AppendsPart (P.contents proof.old) (P.contents proof.new)
-        (head_text cores.now ++ text_of clauses log.now)) }
     ensures lines { IsHeadedText (head_text cores.now ++ text_of clauses log.now) cores.now
         (numbered_lines clauses log.now) }
 {
@@ -100,11 +97,9 @@ fn is_spelled(log: &Log, clauses: u64)
 fn deliver_proof<P: Write>(log: &Log, clauses: u64, proof: &mut P) -> Result<(), RunFault>
     requires few { clauses < CLAUSE_LIMIT }
     requires ids { clauses + length log.now < NUMBER_LIMIT → HasSmallIds clauses log.now }
-    ensures ok { OnOk result (Appends (P.contents proof.old) (P.contents proof.new)
-        (text_of clauses log.now)) }
+    ensures writes { Writes result (P.contents proof.old) (text_of clauses log.now)
+        (P.contents proof.new) }
     ensures fault { IfErr result (λ fault. fault ≡ RunFault.ProofOutput) }
-    ensures part { OnErr result (AppendsPart (P.contents proof.old) (P.contents proof.new)
-        (text_of clauses log.now)) }
     ensures lines { IsTextOf (text_of clauses log.now) (numbered_lines clauses log.now) }
 {
     log.is_short();
@@ -114,11 +109,9 @@ fn deliver_proof<P: Write>(log: &Log, clauses: u64, proof: &mut P) -> Result<(),
 
 /// Writes the words, the digits of the bits and a line feed, and flushes.
 fn deliver_end<O: Write>(words: &[u8], bits: &[bool], out: &mut O) -> Result<(), RunFault>
-    ensures ok { OnOk result (Appends (O.contents out.old) (O.contents out.new)
-        (words_text words.now bits.now)) }
+    ensures writes { Writes result (O.contents out.old) (words_text words.now bits.now)
+        (O.contents out.new) }
     ensures fault { IfErr result (λ fault. fault ≡ RunFault.Output) }
-    ensures part { OnErr result (AppendsPart (O.contents out.old) (O.contents out.new)
-        (words_text words.now bits.now)) }
 {
     let written = write_end(words, bits, out);
     deliver(written, out)
@@ -130,10 +123,8 @@ fn deliver_end<O: Write>(words: &[u8], bits: &[bool], out: &mut O) -> Result<(),
 ///
 /// `WriteFault` where the writer failed. It has then a beginning of them.
 pub fn write_end<O: Write>(words: &[u8], bits: &[bool], out: &mut O) -> Result<(), WriteFault>
-    ensures ok { OnOk result (Appends (O.contents out.old) (O.contents out.new)
-        (words_text words.now bits.now)) }
-    ensures fault { OnErr result (AppendsPart (O.contents out.old) (O.contents out.new)
-        (words_text words.now bits.now)) }
+    ensures { Writes result (O.contents out.old) (words_text words.now bits.now)
+        (O.contents out.new) }
 {
     let mut block = Block::new();
     block.put(out, words)?;
@@ -144,10 +135,8 @@ pub fn write_end<O: Write>(words: &[u8], bits: &[bool], out: &mut O) -> Result<(
 
 /// Puts a digit for each bit.
 fn put_bits<O: Write>(block: &mut Block, out: &mut O, bits: &[bool]) -> Result<(), WriteFault>
-    ensures ok { OnOk result (PassesOn (O.contents out.old) block.old (digits_text bits.now)
-        (O.contents out.new) block.new) }
-    ensures fault { OnErr result (AppendsPart (O.contents out.old) (O.contents out.new)
-        (block.old ++ digits_text bits.now)) }
+    ensures { Puts result (O.contents out.old) block.old (digits_text bits.now) (O.contents out.new)
+        block.new }
 {
     for bit in bits {
         block.put(out, spell_digit(*bit))?;

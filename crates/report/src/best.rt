@@ -1,7 +1,6 @@
 //! The best solution so far as a text of its own: a whole result, which states only its own cost.
-ghost use Rattle.std.specs.Prelude.{◌≡◌, ◌++◌, [], ◌∷◌, OnOk, OnErr};
-ghost use Rattle.std.specs.Io.KnownBytes.{Appends};
-ghost use Rattle.text.specs.Writing.{AppendsPart, spaced};
+ghost use Rattle.std.specs.Prelude.{◌≡◌, ◌++◌, [], ◌∷◌};
+ghost use Rattle.text.specs.Writing.{Writes, spaced};
 ghost use Rattle.cdcl_order.specs.Watch.{with_seen};
 ghost use Rattle.lrat_result.specs.Result.{Satisfiable, Unknown, cost_tokens};
 ghost use Rattle.improve.specs.Improving.{IsSolution};
@@ -41,10 +40,7 @@ impl Keep for Silent {
 ///
 /// `WriteFault` where the writer failed. It has then a beginning of the text.
 pub fn write_unknown<W: Write>(writer: &mut W) -> Result<(), WriteFault>
-    ensures ok { OnOk result (Appends (W.contents writer.old) (W.contents writer.new)
-        (best_text Unknown)) }
-    ensures fault { OnErr result (AppendsPart (W.contents writer.old) (W.contents writer.new)
-        (best_text Unknown)) }
+    ensures { Writes result (W.contents writer.old) (best_text Unknown) (W.contents writer.new) }
 {
     write_words(b"s UNKNOWN", &[], writer)
 }
@@ -61,10 +57,8 @@ pub fn write_best<W: Write>(
     writer: &mut W,
 ) -> Result<(), WriteFault>
     requires { IsSolution instance.now bits.now cost }
-    ensures ok { OnOk result (Appends (W.contents writer.old) (W.contents writer.new)
-        (best_text (Satisfiable cost bits.now))) }
-    ensures fault { OnErr result (AppendsPart (W.contents writer.old) (W.contents writer.new)
-        (best_text (Satisfiable cost bits.now))) }
+    ensures writes { Writes result (W.contents writer.old) (best_text (Satisfiable cost bits.now))
+        (W.contents writer.new) }
     ensures true_text { IsTrueText instance.now (best_text (Satisfiable cost bits.now)) }
 {
     instance.limits();
@@ -82,10 +76,8 @@ pub fn write_found<W: Write>(
     writer: &mut W,
 ) -> Result<(), WriteFault>
     requires { IsFound instance.now found.now }
-    ensures ok { OnOk result (Appends (W.contents writer.old) (W.contents writer.new)
-        (best_text (said_of found.now))) }
-    ensures fault { OnErr result (AppendsPart (W.contents writer.old) (W.contents writer.new)
-        (best_text (said_of found.now))) }
+    ensures writes { Writes result (W.contents writer.old) (best_text (said_of found.now))
+        (W.contents writer.new) }
     ensures true_text { IsTrueText instance.now (best_text (said_of found.now)) }
 {
     instance.limits();
@@ -108,10 +100,8 @@ fn write_solution<W: Write>(
     bits: &[bool],
     writer: &mut W,
 ) -> Result<(), WriteFault>
-    ensures ok { OnOk result (Appends (W.contents writer.old) (W.contents writer.new)
-        (spaced (cost_tokens cost) ++ words_text words.now bits.now)) }
-    ensures fault { OnErr result (AppendsPart (W.contents writer.old) (W.contents writer.new)
-        (spaced (cost_tokens cost) ++ words_text words.now bits.now)) }
+    ensures { Writes result (W.contents writer.old)
+        (spaced (cost_tokens cost) ++ words_text words.now bits.now) (W.contents writer.new) }
 {
     write_cost(writer, cost)?;
     write_words(words, bits, writer)
@@ -119,10 +109,8 @@ fn write_solution<W: Write>(
 
 /// Writes the words, the digits of the bits and a line feed, and flushes.
 fn write_words<W: Write>(words: &[u8], bits: &[bool], writer: &mut W) -> Result<(), WriteFault>
-    ensures ok { OnOk result (Appends (W.contents writer.old) (W.contents writer.new)
-        (words_text words.now bits.now)) }
-    ensures fault { OnErr result (AppendsPart (W.contents writer.old) (W.contents writer.new)
-        (words_text words.now bits.now)) }
+    ensures { Writes result (W.contents writer.old) (words_text words.now bits.now)
+        (W.contents writer.new) }
 {
     write_end(words, bits, writer)?;
     writer.flush().map_err(|_| WriteFault)

@@ -1,7 +1,5 @@
 // The head of a certificate: a line for each core.
-ghost use Rattle.std.specs.Prelude.{◌≡◌, ◌++◌, OnOk, OnErr};
-ghost use Rattle.std.specs.Io.KnownBytes.{Appends};
-ghost use Rattle.text.specs.Writing.{AppendsPart, PassesOn};
+ghost use Rattle.text.specs.Writing.{Puts, Writes};
 ghost use Rattle.report.specs.Heading.{core_line, head_text, word_text};
 
 use cores::types::Core;
@@ -16,10 +14,7 @@ use text::output::{Block, WriteFault};
 /// `WriteFault` where the writer answered `Err`, or took none of the bytes that it was given. It
 /// then has a beginning of the lines.
 pub(crate) fn write_head<W: Write>(cores: &[Core], writer: &mut W) -> Result<(), WriteFault>
-    ensures ok { OnOk result (Appends (W.contents writer.old) (W.contents writer.new)
-        (head_text cores.now)) }
-    ensures fault { OnErr result (AppendsPart (W.contents writer.old) (W.contents writer.new)
-        (head_text cores.now)) }
+    ensures { Writes result (W.contents writer.old) (head_text cores.now) (W.contents writer.new) }
 {
     let mut block = Block::new();
     put_cores(&mut block, writer, cores)?;
@@ -28,10 +23,8 @@ pub(crate) fn write_head<W: Write>(cores: &[Core], writer: &mut W) -> Result<(),
 
 /// Puts the line of each core.
 fn put_cores<W: Write>(block: &mut Block, writer: &mut W, cores: &[Core]) -> Result<(), WriteFault>
-    ensures ok { OnOk result (PassesOn (W.contents writer.old) block.old (head_text cores.now)
-        (W.contents writer.new) block.new) }
-    ensures fault { OnErr result (AppendsPart (W.contents writer.old) (W.contents writer.new)
-        (block.old ++ head_text cores.now)) }
+    ensures { Puts result (W.contents writer.old) block.old (head_text cores.now)
+        (W.contents writer.new) block.new }
 {
     for core in cores {
         put_core(block, writer, core)?;
@@ -41,10 +34,8 @@ fn put_cores<W: Write>(block: &mut Block, writer: &mut W, cores: &[Core]) -> Res
 
 /// Puts the line of a core.
 fn put_core<W: Write>(block: &mut Block, writer: &mut W, core: &Core) -> Result<(), WriteFault>
-    ensures ok { OnOk result (PassesOn (W.contents writer.old) block.old (core_line core.now)
-        (W.contents writer.new) block.new) }
-    ensures fault { OnErr result (AppendsPart (W.contents writer.old) (W.contents writer.new)
-        (block.old ++ core_line core.now)) }
+    ensures { Puts result (W.contents writer.old) block.old (core_line core.now)
+        (W.contents writer.new) block.new }
 {
     block.put(writer, b"core ")?;
     put_word(block, writer, core.weight)?;
@@ -57,10 +48,8 @@ fn put_core<W: Write>(block: &mut Block, writer: &mut W, core: &Core) -> Result<
 
 /// Puts a number and a space.
 fn put_word<W: Write>(block: &mut Block, writer: &mut W, number: u64) -> Result<(), WriteFault>
-    ensures ok { OnOk result (PassesOn (W.contents writer.old) block.old (word_text number)
-        (W.contents writer.new) block.new) }
-    ensures fault { OnErr result (AppendsPart (W.contents writer.old) (W.contents writer.new)
-        (block.old ++ word_text number)) }
+    ensures { Puts result (W.contents writer.old) block.old (word_text number)
+        (W.contents writer.new) block.new }
 {
     block.put_number(writer, number)?;
     block.put(writer, b" ")

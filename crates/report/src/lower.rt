@@ -1,7 +1,5 @@
 //! The certificate of a lower bound, as a text of its own.
-ghost use Rattle.std.specs.Prelude.{OnOk, OnErr};
-ghost use Rattle.std.specs.Io.KnownBytes.{Appends};
-ghost use Rattle.text.specs.Writing.{AppendsPart};
+ghost use Rattle.text.specs.Writing.{Writes};
 ghost use Rattle.improve.specs.Standing.{IsCoreProof};
 ghost use Rattle.report.specs.Lower.{ShowsAtLeast, certificate_text};
 
@@ -22,10 +20,8 @@ pub fn write_lower<W: Write>(
     writer: &mut W,
 ) -> Result<(), WriteFault>
     requires { IsCoreProof instance.now proof.now.worth proof.now }
-    ensures ok { OnOk result (Appends (W.contents writer.old) (W.contents writer.new)
-        (certificate_text proof.now)) }
-    ensures fault { OnErr result (AppendsPart (W.contents writer.old) (W.contents writer.new)
-        (certificate_text proof.now)) }
+    ensures writes { Writes result (W.contents writer.old) (certificate_text proof.now)
+        (W.contents writer.new) }
     ensures shows { ShowsAtLeast instance.now (certificate_text proof.now) proof.now.worth }
 {
     instance.limits();

@@ -1,8 +1,8 @@
 //! What the program prints, and its exit statuses.
-ghost use Rattle.std.specs.Prelude.{◌≡◌, ◌++◌, OnOk, OnErr, IfErr, IsOk, codes};
+ghost use Rattle.std.specs.Prelude.{◌≡◌, ◌++◌, OnOk, IfErr, IsOk, codes};
 ghost use Rattle.std.specs.Fmt.{decimal};
-ghost use Rattle.std.specs.Io.KnownBytes.{Appends, Keeps};
-ghost use Rattle.text.specs.Writing.{AppendsPart};
+ghost use Rattle.std.specs.Io.KnownBytes.{Keeps};
+ghost use Rattle.text.specs.Writing.{Writes};
 ghost use Rattle.report.specs.Codes.{code_of_verdict, code_of_fault, code_of_lower};
 ghost use Rattle.report.specs.Printing.{gap_text, lower_text, no_text, verdict_text};
 
@@ -20,10 +20,8 @@ use wcnf::faults::{FaultKind, ReadFault};
 ///
 /// `WriteFault` where the writer failed. It has then a beginning of the line.
 pub fn print_verdict<W: Write>(verdict: &Verdict, writer: &mut W) -> Result<(), WriteFault>
-    ensures ok { OnOk result (Appends (W.contents writer.old) (W.contents writer.new)
-        (verdict_text verdict.now)) }
-    ensures fault { OnErr result (AppendsPart (W.contents writer.old) (W.contents writer.new)
-        (verdict_text verdict.now)) }
+    ensures { Writes result (W.contents writer.old) (verdict_text verdict.now)
+        (W.contents writer.new) }
 {
     match verdict {
         Verdict::Yes => write_piece(writer, b"YES\n"),
@@ -38,10 +36,8 @@ pub fn print_verdict<W: Write>(verdict: &Verdict, writer: &mut W) -> Result<(), 
 ///
 /// `WriteFault` where the writer failed. It has then a beginning of the line.
 pub fn print_lower<W: Write>(verdict: &LowerVerdict, writer: &mut W) -> Result<(), WriteFault>
-    ensures ok { OnOk result (Appends (W.contents writer.old) (W.contents writer.new)
-        (lower_text verdict.now)) }
-    ensures fault { OnErr result (AppendsPart (W.contents writer.old) (W.contents writer.new)
-        (lower_text verdict.now)) }
+    ensures { Writes result (W.contents writer.old) (lower_text verdict.now)
+        (W.contents writer.new) }
 {
     match verdict {
         LowerVerdict::AtLeast(lower) => print_numbered(b"at least ", *lower, writer),
@@ -56,20 +52,15 @@ pub fn print_lower<W: Write>(verdict: &LowerVerdict, writer: &mut W) -> Result<(
 ///
 /// `WriteFault` where the writer failed. It has then a beginning of the line.
 pub fn print_gap<W: Write>(cost: u64, lower: u64, writer: &mut W) -> Result<(), WriteFault>
-    ensures ok { OnOk result (Appends (W.contents writer.old) (W.contents writer.new)
-        (gap_text cost lower)) }
-    ensures fault { OnErr result (AppendsPart (W.contents writer.old) (W.contents writer.new)
-        (gap_text cost lower)) }
+    ensures { Writes result (W.contents writer.old) (gap_text cost lower) (W.contents writer.new) }
 {
     print_numbered(b"gap ", cost.saturating_sub(lower), writer)
 }
 
 /// Writes the words, the number and a line feed.
 fn print_numbered<W: Write>(words: &[u8], number: u64, writer: &mut W) -> Result<(), WriteFault>
-    ensures ok { OnOk result (Appends (W.contents writer.old) (W.contents writer.new)
-        (words.now ++ (decimal number ++ codes "\n"))) }
-    ensures fault { OnErr result (AppendsPart (W.contents writer.old) (W.contents writer.new)
-        (words.now ++ (decimal number ++ codes "\n"))) }
+    ensures { Writes result (W.contents writer.old) (words.now ++ (decimal number ++ codes "\n"))
+        (W.contents writer.new) }
 {
     let mut block = Block::new();
     block.put(writer, words)?;

@@ -1,9 +1,8 @@
 // What a run tells of its solutions: an `o` line for each, as soon as it is known. Whoever reads at
 // the other end of a pipe has the line before the search goes on, and an interrupted run leaves
 // whole lines: a line is one write of at most 23 bytes.
-ghost use Rattle.std.specs.Prelude.{◌≡◌, ◌+◌, ◌<◌, ◌^◌, [], Some, drop, slice_index, OnOk, OnErr};
-ghost use Rattle.std.specs.Io.KnownBytes.{Appends};
-ghost use Rattle.text.specs.Writing.{AppendsPart, spaced};
+ghost use Rattle.std.specs.Prelude.{◌≡◌, ◌+◌, ◌<◌, ◌^◌, [], Some, drop, slice_index};
+ghost use Rattle.text.specs.Writing.{Writes, spaced};
 ghost use Rattle.lrat_result.specs.Result.{cost_tokens};
 ghost use Rattle.report.specs.Told.{Tells, fault_of_telling};
 
@@ -124,10 +123,8 @@ impl<'a, W: Write> Progress for Told<'a, W> {
 ///
 /// `WriteFault` where the writer failed, or its flush. It has then a beginning of the line.
 pub fn write_cost<W: Write>(writer: &mut W, cost: u64) -> Result<(), WriteFault>
-    ensures ok { OnOk result (Appends (W.contents writer.old) (W.contents writer.new)
-        (spaced (cost_tokens cost))) }
-    ensures fault { OnErr result (AppendsPart (W.contents writer.old) (W.contents writer.new)
-        (spaced (cost_tokens cost))) }
+    ensures { Writes result (W.contents writer.old) (spaced (cost_tokens cost))
+        (W.contents writer.new) }
 {
     let mut room = [b'\n'; LINE_ROOM];
     let start = spell_cost(cost, &mut room);

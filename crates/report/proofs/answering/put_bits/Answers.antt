@@ -7,14 +7,14 @@ use Rattle.lrat_result.specs.Result.{digit_of}
 use Rattle.lrat_log.proofs.Laws.{item_fault}
 use Rattle.report.proofs.answering.put_bits.Goals as goal
 
-pub returns-in_err-put-clause-fault : goal.returns-in_err-put-clause-fault
-returns-in_err-put-clause-fault g c =
+pub returns-in_err-put : goal.returns-in_err-put
+returns-in_err-put g c =
     let p = err_from_is_err_and c.from_residual.result c.from_residual.ensures.1 in
     rw (p.1) (item_fault (λ b. digit_of b ∷ []) _ _ _ _ _ c.args.bits.now c.loop-bit.bit-index
     (get_or c.args.bits.now c.loop-bit.bit-index false) (search rules)
     (get_or_default c.args.bits.now c.loop-bit.bit-index false
     (get_or c.args.bits.now c.loop-bit.bit-index false) (search rules)) c.loop-bit.invariant
-    (rw c.spell_digit.ensures at c.in_err-put.ensures.fault))
+    (rw c.spell_digit.ensures at c.in_err-put.ensures.puts))
 
 pub loop-bit-preserved : goal.loop-bit-preserved
 loop-bit-preserved g c =
@@ -22,4 +22,4 @@ loop-bit-preserved g c =
     (get_or c.args.bits.now c.loop-bit.bit-index false) (search rules)
     (get_or_default c.args.bits.now c.loop-bit.bit-index false
     (get_or c.args.bits.now c.loop-bit.bit-index false) (search rules)) c.loop-bit.invariant
-    (rw c.spell_digit.ensures at c.in_ok-put.ensures.ok)
+    (rw c.spell_digit.ensures at c.in_ok-put.ensures.puts)

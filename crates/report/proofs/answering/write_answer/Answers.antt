@@ -1,11 +1,10 @@
 -- The end of the result, by its words and bits.
 use Rattle.std.proofs.Common.{subst}
 use lib.Chars.{codes}
-use Rattle.std.proofs.lemmas.Result.{on_ok_weaker}
 use Rattle.std.proofs.KnownBytes.{Appends-nil}
 use Rattle.std.specs.Io.KnownBytes.{Appends}
 use Rattle.text.specs.Writing.{AppendsPart}
-use Rattle.report.proofs.Answered.{end_is, err_with, output_left, answers}
+use Rattle.report.proofs.Answered.{end_is, ok_with, err_with, output_left, answers}
 use Rattle.report.proofs.answering.write_answer.Goals as goal
 
 pub returns-in_ok-deliver_headed-in-Optimum-clause-ok
@@ -14,10 +13,10 @@ returns-in_ok-deliver_headed-in-Optimum-clause-ok g c =
     let e = end_is (codes "s OPTIMUM FOUND\n") _ c.in-Optimum.bits.items _ _ c.spell_optimum.ensures
     c.deref-in-Optimum.ensures.value c.deref-in-Optimum-2.ensures.value in
     let k = c.in_ok-deliver_headed-in-Optimum.ensures in
-    let grows = rw c.deref.ensures.value at k.ok in
+    let grows = rw c.deref.ensures.value at k.writes in
     let spelled = rw c.deref.ensures.value at k.lines in
-    on_ok_weaker c.deliver_end.result (λ h. answers c.args.found.now _ c.in-Optimum.is _ _ _ _
-    (subst (Appends _ _) e h) grows spelled) c.deliver_end.ensures.ok
+    ok_with c.deliver_end.result _ _ _ _ (λ h. answers c.args.found.now _ c.in-Optimum.is _ _ _ _
+    (subst (Appends _ _) e h) grows spelled) c.deliver_end.ensures.writes
 
 pub returns-in_ok-deliver_headed-in-Optimum-clause-fault
     : goal.returns-in_ok-deliver_headed-in-Optimum-clause-fault
@@ -25,51 +24,51 @@ returns-in_ok-deliver_headed-in-Optimum-clause-fault g c =
     let e = end_is (codes "s OPTIMUM FOUND\n") _ c.in-Optimum.bits.items _ _ c.spell_optimum.ensures
     c.deref-in-Optimum.ensures.value c.deref-in-Optimum-2.ensures.value in
     let k = c.in_ok-deliver_headed-in-Optimum.ensures in
-    let grows = rw c.deref.ensures.value at k.ok in
+    let grows = rw c.deref.ensures.value at k.writes in
     let spelled = rw c.deref.ensures.value at k.lines in
-    err_with c.deliver_end.result _ _ _ (λ fault is h. output_left c.args.found.now _
+    err_with c.deliver_end.result _ _ _ _ _ (λ fault is h. output_left c.args.found.now _
     c.in-Optimum.is _ _ _ _ fault is (subst (AppendsPart _ _) e h) grows spelled)
-    c.deliver_end.ensures.fault c.deliver_end.ensures.part
+    c.deliver_end.ensures.fault c.deliver_end.ensures.writes
 
 pub returns-in_ok-deliver_proof-in-Unsat-clause-ok
     : goal.returns-in_ok-deliver_proof-in-Unsat-clause-ok
 returns-in_ok-deliver_proof-in-Unsat-clause-ok g c =
     let k = c.in_ok-deliver_proof-in-Unsat.ensures in
-    on_ok_weaker c.deliver_end-in-Unsat.result (λ h. answers c.args.found.now _ c.in-Unsat.is
-    _ _ _ _ h k.ok k.lines) c.deliver_end-in-Unsat.ensures.ok
+    ok_with c.deliver_end-in-Unsat.result _ _ _ _ (λ h. answers c.args.found.now _ c.in-Unsat.is
+    _ _ _ _ h k.writes k.lines) c.deliver_end-in-Unsat.ensures.writes
 
 pub returns-in_ok-deliver_proof-in-Unsat-clause-fault
     : goal.returns-in_ok-deliver_proof-in-Unsat-clause-fault
 returns-in_ok-deliver_proof-in-Unsat-clause-fault g c =
     let k = c.in_ok-deliver_proof-in-Unsat.ensures in
-    err_with c.deliver_end-in-Unsat.result _ _ _ (λ fault is h. output_left c.args.found.now _
-    c.in-Unsat.is _ _ _ _ fault is h k.ok k.lines)
-    c.deliver_end-in-Unsat.ensures.fault c.deliver_end-in-Unsat.ensures.part
+    err_with c.deliver_end-in-Unsat.result _ _ _ _ _ (λ fault is h. output_left c.args.found.now _
+    c.in-Unsat.is _ _ _ _ fault is h k.writes k.lines)
+    c.deliver_end-in-Unsat.ensures.fault c.deliver_end-in-Unsat.ensures.writes
 
 pub returns-in-Best-clause-ok : goal.returns-in-Best-clause-ok
 returns-in-Best-clause-ok g c =
     let e =
     end_is (codes "s SATISFIABLE\n") _ c.in-Best.bits.items _ _ c.spell_satisfiable.ensures
     c.deref-in-Best.ensures.value c.deref-in-Best-2.ensures.value in
-    on_ok_weaker c.deliver_end-in-Best.result (λ h. answers c.args.found.now _ c.in-Best.is _ _ _ _
-    (subst (Appends _ _) e h) (Appends-nil _) tt) c.deliver_end-in-Best.ensures.ok
+    ok_with c.deliver_end-in-Best.result _ _ _ _ (λ h. answers c.args.found.now _ c.in-Best.is
+    _ _ _ _ (subst (Appends _ _) e h) (Appends-nil _) tt) c.deliver_end-in-Best.ensures.writes
 
 pub returns-in-Best-clause-fault : goal.returns-in-Best-clause-fault
 returns-in-Best-clause-fault g c =
     let e =
     end_is (codes "s SATISFIABLE\n") _ c.in-Best.bits.items _ _ c.spell_satisfiable.ensures
     c.deref-in-Best.ensures.value c.deref-in-Best-2.ensures.value in
-    err_with c.deliver_end-in-Best.result _ _ _ (λ fault is h. output_left c.args.found.now _
+    err_with c.deliver_end-in-Best.result _ _ _ _ _ (λ fault is h. output_left c.args.found.now _
     c.in-Best.is _ _ _ _ fault is (subst (AppendsPart _ _) e h) (Appends-nil _) tt)
-    c.deliver_end-in-Best.ensures.fault c.deliver_end-in-Best.ensures.part
+    c.deliver_end-in-Best.ensures.fault c.deliver_end-in-Best.ensures.writes
 
 pub returns-in-Nothing-clause-ok : goal.returns-in-Nothing-clause-ok
 returns-in-Nothing-clause-ok g c =
-    on_ok_weaker c.deliver_end-in-Nothing.result (λ h. answers c.args.found.now _ c.in-Nothing.is
-    _ _ _ _ h (Appends-nil _) tt) c.deliver_end-in-Nothing.ensures.ok
+    ok_with c.deliver_end-in-Nothing.result _ _ _ _ (λ h. answers c.args.found.now _ c.in-Nothing.is
+    _ _ _ _ h (Appends-nil _) tt) c.deliver_end-in-Nothing.ensures.writes
 
 pub returns-in-Nothing-clause-fault : goal.returns-in-Nothing-clause-fault
 returns-in-Nothing-clause-fault g c =
-    err_with c.deliver_end-in-Nothing.result _ _ _ (λ fault is h. output_left c.args.found.now _
+    err_with c.deliver_end-in-Nothing.result _ _ _ _ _ (λ fault is h. output_left c.args.found.now _
     c.in-Nothing.is _ _ _ _ fault is h (Appends-nil _) tt)
-    c.deliver_end-in-Nothing.ensures.fault c.deliver_end-in-Nothing.ensures.part
+    c.deliver_end-in-Nothing.ensures.fault c.deliver_end-in-Nothing.ensures.writes

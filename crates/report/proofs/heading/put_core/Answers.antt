@@ -1,31 +1,31 @@
 -- Where a fault came, a beginning of the line was put.
 use Rattle.std.proofs.Common.{◌≡◌, get_or, append-nil, sym, ap, subst, rules}
-use Rattle.std.proofs.lemmas.Result.{err_from_is_err_and, on_ok_weaker, on_err_weaker}
+use Rattle.std.proofs.lemmas.Result.{err_from_is_err_and}
 use Rattle.std.proofs.lemmas.List.{get_or_default}
 use Rattle.cores.specs.Cores.{Core}
 use Rattle.text.specs.Writing.{PassesOn}
 use Rattle.text.proofs.Laws.{passed-more}
-use Rattle.report.proofs.CoreLines.{word_fault, weight_fault, outputs_fault, input_fault, end_fault}
+use Rattle.report.proofs.CoreLines.{word_fault, weight_fault, outputs_fault, input_fault}
 use Rattle.report.proofs.CoreLines.{input_more, line_end, front_of}
 use Rattle.report.proofs.heading.put_core.Goals as goal
 
-pub returns-in_err-put-clause-fault : goal.returns-in_err-put-clause-fault
-returns-in_err-put-clause-fault g c =
+pub returns-in_err-put : goal.returns-in_err-put
+returns-in_err-put g c =
     let p = err_from_is_err_and c.from_residual.result c.from_residual.ensures.1 in
-    rw (p.1) (word_fault _ _ _ c.args.core.now c.in_err-put.ensures.fault)
+    rw (p.1) (word_fault _ _ _ c.args.core.now c.in_err-put.ensures.puts)
 
-pub returns-in_err-put_word-clause-fault : goal.returns-in_err-put_word-clause-fault
-returns-in_err-put_word-clause-fault g c =
+pub returns-in_err-put_word : goal.returns-in_err-put_word
+returns-in_err-put_word g c =
     let p =
     err_from_is_err_and c.from_residual-in_err-put_word.result
     c.from_residual-in_err-put_word.ensures.1 in
     let w : c.core.inside.weight ≡ (c.args.core.now).weight =
     ap (λ (k : Core). k.weight) c.core.view_is in
-    rw (p.1) (weight_fault _ _ _ _ _ c.args.core.now c.in_ok-put.ensures.ok
-    (rw w at c.in_err-put_word.ensures.fault))
+    rw (p.1) (weight_fault _ _ _ _ _ c.args.core.now c.in_ok-put.ensures.puts
+    (rw w at c.in_err-put_word.ensures))
 
-pub returns-in_err-put_word-2-clause-fault : goal.returns-in_err-put_word-2-clause-fault
-returns-in_err-put_word-2-clause-fault g c =
+pub returns-in_err-put_word-2 : goal.returns-in_err-put_word-2
+returns-in_err-put_word-2 g c =
     let p =
     err_from_is_err_and c.from_residual-in_err-put_word-2.result
     c.from_residual-in_err-put_word-2.ensures.1 in
@@ -34,9 +34,9 @@ returns-in_err-put_word-2-clause-fault g c =
     let o : c.core.inside.outputs ≡ (c.args.core.now).outputs =
     ap (λ (k : Core). k.outputs) c.core.view_is in
     let first =
-    passed-more _ _ _ _ _ _ _ _ c.in_ok-put.ensures.ok (rw w at c.in_ok-put_word.ensures.ok) in
+    passed-more _ _ _ _ _ _ _ _ c.in_ok-put.ensures.puts (rw w at c.in_ok-put_word.ensures) in
     rw (p.1) (outputs_fault _ _ _ _ _ c.args.core.now first
-    (rw o at c.in_err-put_word-2.ensures.fault))
+    (rw o at c.in_err-put_word-2.ensures))
 
 pub loop-input-init : goal.loop-input-init
 loop-input-init g c =
@@ -45,14 +45,14 @@ loop-input-init g c =
     let o : c.core.inside.outputs ≡ (c.args.core.now).outputs =
     ap (λ (k : Core). k.outputs) c.core.view_is in
     let first =
-    passed-more _ _ _ _ _ _ _ _ c.in_ok-put.ensures.ok (rw w at c.in_ok-put_word.ensures.ok) in
+    passed-more _ _ _ _ _ _ _ _ c.in_ok-put.ensures.puts (rw w at c.in_ok-put_word.ensures) in
     subst (λ z. PassesOn (g.W.Write.contents c.args.writer.now) c.args.block.now z
     (g.W.Write.contents c.put_word-2.new.writer) c.put_word-2.new.block)
     (sym (append-nil (front_of c.args.core.now)))
-    (passed-more _ _ _ _ _ _ _ _ first (rw o at c.in_ok-put_word-2.ensures.ok))
+    (passed-more _ _ _ _ _ _ _ _ first (rw o at c.in_ok-put_word-2.ensures))
 
-pub returns-in_err-put_word-3-clause-fault : goal.returns-in_err-put_word-3-clause-fault
-returns-in_err-put_word-3-clause-fault g c =
+pub returns-in_err-put_word-3 : goal.returns-in_err-put_word-3
+returns-in_err-put_word-3 g c =
     let p =
     err_from_is_err_and c.from_residual-in_err-put_word-3.result
     c.from_residual-in_err-put_word-3.ensures.1 in
@@ -62,7 +62,7 @@ returns-in_err-put_word-3-clause-fault g c =
     let i = c.loop-input.input-index in
     rw (p.1) (input_fault _ _ _ _ _ c.args.core.now i c.loop-input.invariant (get_or inputs i 0)
     (search rules) (get_or_default inputs i 0 (get_or inputs i 0) (search rules))
-    (rw (c.deref-input-items.ensures.value, x) at c.in_err-put_word-3.ensures.fault))
+    (rw (c.deref-input-items.ensures.value, x) at c.in_err-put_word-3.ensures))
 
 pub loop-input-preserved : goal.loop-input-preserved
 loop-input-preserved g c =
@@ -72,14 +72,9 @@ loop-input-preserved g c =
     let i = c.loop-input.input-index in
     input_more _ _ _ _ _ c.args.core.now i c.loop-input.invariant _ (get_or inputs i 0)
     (search rules) (get_or_default inputs i 0 (get_or inputs i 0) (search rules))
-    (rw (c.deref-input-items.ensures.value, x) at c.in_ok-put_word-3.ensures.ok)
+    (rw (c.deref-input-items.ensures.value, x) at c.in_ok-put_word-3.ensures)
 
-pub returns-clause-ok : goal.returns-clause-ok
-returns-clause-ok g c =
-    on_ok_weaker c.put-2.result (line_end _ _ _ _ _ c.args.core.now c.loop-input.input-index
-    c.loop-input.invariant _ (search rules)) c.put-2.ensures.ok
-
-pub returns-clause-fault : goal.returns-clause-fault
-returns-clause-fault g c =
-    on_err_weaker c.put-2.result (end_fault _ _ _ _ _ c.args.core.now c.loop-input.input-index
-    c.loop-input.invariant (search rules)) c.put-2.ensures.fault
+pub returns : goal.returns
+returns g c =
+    line_end _ _ _ _ _ c.args.core.now c.loop-input.input-index c.loop-input.invariant _
+    c.put-2.result (search rules) c.put-2.ensures.puts

@@ -6,15 +6,15 @@ use Rattle.lrat_log.proofs.Laws.{item_fault}
 use Rattle.report.specs.Heading.{core_line}
 use Rattle.report.proofs.heading.put_cores.Goals as goal
 
-pub returns-in_err-put_core-clause-fault : goal.returns-in_err-put_core-clause-fault
-returns-in_err-put_core-clause-fault g c =
+pub returns-in_err-put_core : goal.returns-in_err-put_core
+returns-in_err-put_core g c =
     let p = err_from_is_err_and c.from_residual.result c.from_residual.ensures.1 in
     rw (p.1) (item_fault core_line _ _ _ _ _ c.args.cores.now c.loop-core.core-index
     c.core-item.result (search rules) c.core-item.is c.loop-core.invariant
-    c.in_err-put_core.ensures.fault)
+    c.in_err-put_core.ensures)
 
 pub loop-core-preserved : goal.loop-core-preserved
 loop-core-preserved g c =
     items_more core_line _ _ _ _ _ _ [] c.args.cores.now c.loop-core.core-index
     c.core-item.result (search rules) c.core-item.is c.loop-core.invariant
-    c.in_ok-put_core.ensures.ok
+    c.in_ok-put_core.ensures
