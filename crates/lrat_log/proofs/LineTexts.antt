@@ -1,20 +1,20 @@
 -- The text of a line, in the pieces in which it is put.
 use Rattle.std.proofs.Common.{◌≡◌, ℕ, zero, suc, ◌+◌, ◌-◌, ◌<◌, ◌≤◌, Bool, true, false, List, []}
-use Rattle.std.proofs.Common.{◌∷◌, ◌++◌, length, map, take, drop, get_or, Option, refl, sym, ◌∙◌}
+use Rattle.std.proofs.Common.{◌∷◌, ◌++◌, length, map, take, drop, get_or, Option, Result, refl}
+use Rattle.std.proofs.Common.{sym, ◌∙◌}
 use Rattle.std.proofs.Common.{ap, subst, arith, append_assoc, append-nil, add-zero, add-one}
 use Rattle.std.specs.Prelude.{All, slice_set, if◌then◌else◌}
 use Rattle.std.specs.List.{flat_map, AllByRecursion}
 use Rattle.std.specs.Fmt.{decimal}
-use Rattle.std.specs.Io.KnownBytes.{Appends}
 use Rattle.std.proofs.lemmas.List.Elements.{recursion_from_All}
 use lib.Chars.{codes}
 use Rattle.cnf.specs.Literal.{Literal}
 use Rattle.text.specs.Text.{literal_text}
-use Rattle.text.specs.Writing.{PassesOn, AppendsPart}
+use Rattle.text.specs.Writing.{PassesOn, AppendsPart, Puts, Writes}
 use Rattle.cnf.specs.Lrat.{ProofLine, Addition, Deletion}
 use Rattle.text.specs.LratText.{group_tokens}
-use Rattle.text.proofs.Laws.{spaced-last, first_fault, passed-more, passed_fault, passed_part-more}
-use Rattle.text.proofs.Laws.{passed_whole, passed_part}
+use Rattle.text.proofs.Laws.{spaced-last, first_fault, passed-more, passed_fault}
+use Rattle.text.proofs.Laws.{puts_after, writes_after}
 use Rattle.text.proofs.Laws.{flat_map-append, items_fault, items_more, all_taken}
 use Rattle.lrat_log.specs.declared.lines.Hint.{Hint}
 use Rattle.lrat_log.specs.declared.lines.Hint.TheVariants.{Plain, Group}
@@ -128,17 +128,12 @@ module _ (a b c d : Option (List ℕ)) (h i j k word : List ℕ) (base : ℕ) (h
       passed_fault a b c h i word (hints_text base hs) (codes "0\n") (end_text word base hs) p q
       (append_assoc word (hints_text base hs) (codes "0\n"))
 
-  pub end_put : PassesOn a h word b i → PassesOn b i (hints_text base hs) c j
-      → PassesOn c j (48 ∷ 10 ∷ []) d k → PassesOn a h (end_text word base hs) d k
-  end_put p q r =
-      passed-more a c d h j k (word ++ hints_text base hs) (codes "0\n")
-      (passed-more a b c h i j word (hints_text base hs) p q) r
-
-  pub end_fault : PassesOn a h word b i → PassesOn b i (hints_text base hs) c j
-      → AppendsPart c d (j ++ 48 ∷ 10 ∷ []) → AppendsPart a d (h ++ end_text word base hs)
-  end_fault p q r =
-      passed_part-more a c d h j (word ++ hints_text base hs) (codes "0\n")
-      (passed-more a b c h i j word (hints_text base hs) p q) r
+  pub end_puts : {T E : Type 0} (r : Result T E) → PassesOn a h word b i
+      → PassesOn b i (hints_text base hs) c j → Puts r c j (48 ∷ 10 ∷ []) d k
+      → Puts r a h (end_text word base hs) d k
+  end_puts r p q s =
+      puts_after r a c d h j k (word ++ hints_text base hs) (codes "0\n")
+      (passed-more a b c h i j word (hints_text base hs) p q) s
 
 -- a deletion
 module _ (a b c : Option (List ℕ)) (h i j : List ℕ) (base lead : ℕ) (hs : List Hint)
@@ -154,17 +149,12 @@ module _ (a b c : Option (List ℕ)) (h i j : List ℕ) (base lead : ℕ) (hs : 
   lead_fault q =
       first_fault a b h (number_text false lead) rest line q (deletion_text base lead hs plain)
 
-  pub deletion_put : PassesOn a h (number_text false lead) b i → PassesOn b i rest c j
-      → PassesOn a h (line_text (Deletion lead (map (λ x. id_of base (name_of x)) hs))) c j
-  deletion_put p q =
-      subst (λ z. PassesOn a h z c j) (sym (deletion_text base lead hs plain))
-      (passed-more a b c h i j (number_text false lead) rest p q)
-
-  pub deletion_fault : PassesOn a h (number_text false lead) b i → AppendsPart b c (i ++ rest)
-      → AppendsPart a c (h ++ line_text (Deletion lead (map (λ x. id_of base (name_of x)) hs)))
-  deletion_fault p q =
-      subst (λ z. AppendsPart a c (h ++ z)) (sym (deletion_text base lead hs plain))
-      (passed_part-more a b c h i (number_text false lead) rest p q)
+  pub deletion_puts : {T E : Type 0} (r : Result T E) → PassesOn a h (number_text false lead) b i
+      → Puts r b i rest c j
+      → Puts r a h (line_text (Deletion lead (map (λ x. id_of base (name_of x)) hs))) c j
+  deletion_puts r p q =
+      subst (λ z. Puts r a h z c j) (sym (deletion_text base lead hs plain))
+      (puts_after r a b c h i j (number_text false lead) rest p q)
 
 -- an addition
 module _ (a b c d : Option (List ℕ)) (h i j k : List ℕ) (base id : ℕ) (lits : List Literal)
@@ -191,22 +181,13 @@ module _ (a b c d : Option (List ℕ)) (h i j k : List ℕ) (base id : ℕ) (lit
   literals_fault p q =
       passed_fault a b c h i (number_text false id) (literals_text lits) after added p q pieces
 
-  pub addition_put : PassesOn a h (number_text false id) b i → PassesOn b i (literals_text lits) c j
-      → PassesOn c j after d k
-      → PassesOn a h (line_text (Addition id lits (leading_ids base hs) (group_ids base hs))) d k
-  addition_put p q r =
-      subst (λ z. PassesOn a h z d k) (sym (addition_text base id lits hs))
-      (passed-more a c d h j k (number_text false id ++ literals_text lits) after
-      (passed-more a b c h i j (number_text false id) (literals_text lits) p q) r)
-
-  pub addition_fault : PassesOn a h (number_text false id) b i
-      → PassesOn b i (literals_text lits) c j → AppendsPart c d (j ++ after)
-      → AppendsPart a d (h ++ line_text
-      (Addition id lits (leading_ids base hs) (group_ids base hs)))
-  addition_fault p q r =
-      subst (λ z. AppendsPart a d (h ++ z)) (sym (addition_text base id lits hs))
-      (passed_part-more a c d h j (number_text false id ++ literals_text lits) after
-      (passed-more a b c h i j (number_text false id) (literals_text lits) p q) r)
+  pub addition_puts : {T E : Type 0} (r : Result T E) → PassesOn a h (number_text false id) b i
+      → PassesOn b i (literals_text lits) c j → Puts r c j after d k
+      → Puts r a h (line_text (Addition id lits (leading_ids base hs) (group_ids base hs))) d k
+  addition_puts r p q s =
+      subst (λ z. Puts r a h z d k) (sym (addition_text base id lits hs))
+      (puts_after r a c d h j k (number_text false id ++ literals_text lits) after
+      (passed-more a b c h i j (number_text false id) (literals_text lits) p q) s)
 
 -- a line after those that gave the last id
 pub line_deletes : (base last : ℕ) (l : LogLine) (hs : List Hint) → is_delete l.kind ≡ true
@@ -319,19 +300,12 @@ module _ (a b c : Option (List ℕ)) (i j : List ℕ) (base last : ℕ) (ls : Li
       item_fault line_text a b c [] i (numbered_lines base ls) k this (omega arith)
       (this_is h e) p q
 
-  pub text_whole : length ls ≤ k → PassesOn a [] (put_before base ls k) b i → Appends b c i
-      → Appends a c (text_of base ls)
-  text_whole h p q =
+  pub text_written : {T E : Type 0} (r : Result T E) → length ls ≤ k
+      → PassesOn a [] (put_before base ls k) b i → Writes r b i c → Writes r a (text_of base ls) c
+  text_written r h p q =
       let n = length-numbered_lines base ls in
-      subst (Appends a c) (all_taken line_text (numbered_lines base ls) k (omega arith))
-      (passed_whole a b c [] i (put_before base ls k) p q)
-
-  pub text_part : length ls ≤ k → PassesOn a [] (put_before base ls k) b i → AppendsPart b c i
-      → AppendsPart a c (text_of base ls)
-  text_part h p q =
-      let n = length-numbered_lines base ls in
-      subst (AppendsPart a c) (all_taken line_text (numbered_lines base ls) k (omega arith))
-      (passed_part a b c [] i (put_before base ls k) p q)
+      subst (λ z. Writes r a z c) (all_taken line_text (numbered_lines base ls) k (omega arith))
+      (writes_after r a b c [] i (put_before base ls k) p q)
 
 pub last_next : (base last next : ℕ) (ls : List LogLine) (k : ℕ) → k < length ls
     → last ≡ last_on base ls k → next ≡ last_after last (line_at ls k)

@@ -8,10 +8,9 @@
 // What is left is mostly literals, whose slices are lent as they lie.
 ghost use Rattle.std.specs.Prelude.{◌≡◌, ℕ, ◌+◌, ◌<◌, ◌≤◌, ◌^◌, ◌++◌, List, [], Some, length, All};
 ghost use Rattle.std.specs.Prelude.{IfOk, OnOk, OnErr, slice_get, slice_range, ◌==◌};
-ghost use Rattle.std.specs.Io.KnownBytes.{Appends};
 ghost use Rattle.cnf.specs.declared.limits.TheConstants.{NUMBER_LIMIT};
 ghost use Rattle.text.specs.LratText.{IsTextOf};
-ghost use Rattle.text.specs.Writing.{AppendsPart, PassesOn};
+ghost use Rattle.text.specs.Writing.{Writes, Puts};
 ghost use Rattle.lrat_log.specs.Steps.{HoldsAtEachBase, added_count};
 ghost use Rattle.lrat_log.specs.Log.{LogLine, IsLine, IsLog, HasSmallIds, line_at, numbered_lines};
 ghost use Rattle.lrat_log.specs.Log.{text_of, id_of, name_of};
@@ -272,10 +271,8 @@ pub fn render(log: &Log, base: u64) -> Result<Vec<u8>, AllocError>
 pub fn write_to<W: Write>(log: &Log, base: u64, writer: &mut W) -> Result<(), WriteFault>
     requires room { base + added_count log.now < NUMBER_LIMIT }
     requires ids { HasSmallIds base log.now }
-    ensures ok { OnOk result (Appends (W.contents writer.old) (W.contents writer.new)
-        (text_of base log.now)) }
-    ensures fault { OnErr result (AppendsPart (W.contents writer.old) (W.contents writer.new)
-        (text_of base log.now)) }
+    ensures writes { Writes result (W.contents writer.old) (text_of base log.now)
+        (W.contents writer.new) }
     ensures lines { IsTextOf (text_of base log.now) (numbered_lines base log.now) }
 
     // Numbering at another base renames ids alone.
@@ -303,10 +300,8 @@ fn put_line<W: Write>(
     requires line { IsLine line.now }
     requires last { last < NUMBER_LIMIT }
     requires ids { All (λ h. id_of base (name_of h) < NUMBER_LIMIT) line.now.hints }
-    ensures ok { OnOk result (PassesOn (W.contents writer.old) block.old
-        (line_text (numbered_after base last line.now)) (W.contents writer.new) block.new) }
-    ensures fault { OnErr result (AppendsPart (W.contents writer.old) (W.contents writer.new)
-        (block.old ++ line_text (numbered_after base last line.now))) }
+    ensures puts { Puts result (W.contents writer.old) block.old
+        (line_text (numbered_after base last line.now)) (W.contents writer.new) block.new }
     ensures last { IfOk result (λ next. next ≡ last_after last line.now) }
 {
     if line.kind.is_delete() {

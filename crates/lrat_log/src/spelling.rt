@@ -1,9 +1,8 @@
 // The lines of a certificate, on their way to a writer.
 ghost use Rattle.std.specs.Prelude.{◌≡◌, ◌<◌, ◌≤◌, ◌^◌, ◌++◌, length, map, drop, slice_index, All};
-ghost use Rattle.std.specs.Prelude.{OnOk, OnErr};
 ghost use Rattle.cnf.specs.declared.limits.TheConstants.{NUMBER_LIMIT};
 ghost use Rattle.cnf.specs.Lrat.{Addition, Deletion};
-ghost use Rattle.text.specs.Writing.{AppendsPart, PassesOn};
+ghost use Rattle.text.specs.Writing.{Puts};
 ghost use Rattle.lrat_log.specs.Log.{IsPlain, id_of, name_of, leading_ids, group_ids};
 ghost use Rattle.lrat_log.specs.Texts.{number_text, literals_text, hint_text, hints_text, end_text};
 ghost use Rattle.lrat_log.specs.Texts.{line_text};
@@ -28,12 +27,9 @@ pub fn put_addition<W: Write>(
     hints: &HintSlice<'_>,
 ) -> Result<(), WriteFault>
     requires { All (λ h. id_of base (name_of h) < NUMBER_LIMIT) hints.now }
-    ensures ok { OnOk result (PassesOn (W.contents writer.old) block.old
+    ensures { Puts result (W.contents writer.old) block.old
         (line_text (Addition id lits.now (leading_ids base hints.now)
-        (group_ids base hints.now))) (W.contents writer.new) block.new) }
-    ensures fault { OnErr result (AppendsPart (W.contents writer.old) (W.contents writer.new)
-        (block.old ++ line_text (Addition id lits.now (leading_ids base hints.now)
-        (group_ids base hints.now)))) }
+        (group_ids base hints.now))) (W.contents writer.new) block.new }
 {
     put_number(block, writer, false, id)?;
     put_literals(block, writer, lits)?;
@@ -50,11 +46,9 @@ pub fn put_deletion<W: Write>(
 ) -> Result<(), WriteFault>
     requires small { All (λ h. id_of base (name_of h) < NUMBER_LIMIT) hints.now }
     requires plain { All IsPlain hints.now }
-    ensures ok { OnOk result (PassesOn (W.contents writer.old) block.old
+    ensures { Puts result (W.contents writer.old) block.old
         (line_text (Deletion lead (map (λ h. id_of base (name_of h)) hints.now)))
-        (W.contents writer.new) block.new) }
-    ensures fault { OnErr result (AppendsPart (W.contents writer.old) (W.contents writer.new)
-        (block.old ++ line_text (Deletion lead (map (λ h. id_of base (name_of h)) hints.now)))) }
+        (W.contents writer.new) block.new }
 {
     put_number(block, writer, false, lead)?;
     put_end(block, writer, b"d ", base, hints)
@@ -69,10 +63,8 @@ fn put_end<W: Write>(
     hints: &HintSlice<'_>,
 ) -> Result<(), WriteFault>
     requires { All (λ h. id_of base (name_of h) < NUMBER_LIMIT) hints.now }
-    ensures ok { OnOk result (PassesOn (W.contents writer.old) block.old
-        (end_text word.now base hints.now) (W.contents writer.new) block.new) }
-    ensures fault { OnErr result (AppendsPart (W.contents writer.old) (W.contents writer.new)
-        (block.old ++ end_text word.now base hints.now)) }
+    ensures { Puts result (W.contents writer.old) block.old
+        (end_text word.now base hints.now) (W.contents writer.new) block.new }
 {
     block.put(writer, word)?;
     put_hints(block, writer, base, hints)?;
@@ -87,10 +79,8 @@ fn put_hints<W: Write>(
     hints: &HintSlice<'_>,
 ) -> Result<(), WriteFault>
     requires { All (λ h. id_of base (name_of h) < NUMBER_LIMIT) hints.now }
-    ensures ok { OnOk result (PassesOn (W.contents writer.old) block.old
-        (hints_text base hints.now) (W.contents writer.new) block.new) }
-    ensures fault { OnErr result (AppendsPart (W.contents writer.old) (W.contents writer.new)
-        (block.old ++ hints_text base hints.now)) }
+    ensures { Puts result (W.contents writer.old) block.old
+        (hints_text base hints.now) (W.contents writer.new) block.new }
 {
     for narrow in hints.narrow {
         put_hint(block, writer, base, narrow.widen())?;
@@ -109,20 +99,16 @@ fn put_hint<W: Write>(
     hint: PackedHint,
 ) -> Result<(), WriteFault>
     requires { id_of base (name_of hint) < NUMBER_LIMIT }
-    ensures ok { OnOk result (PassesOn (W.contents writer.old) block.old
-        (hint_text base hint) (W.contents writer.new) block.new) }
-    ensures fault { OnErr result (AppendsPart (W.contents writer.old) (W.contents writer.new)
-        (block.old ++ hint_text base hint)) }
+    ensures { Puts result (W.contents writer.old) block.old
+        (hint_text base hint) (W.contents writer.new) block.new }
 {
     put_number(block, writer, hint.is_group(), hint.id(base))
 }
 
 /// Puts the literals, each with a space behind it.
 fn put_literals<W: Write>(block: &mut Block, writer: &mut W, lits: &[Lit]) -> Result<(), WriteFault>
-    ensures ok { OnOk result (PassesOn (W.contents writer.old) block.old
-        (literals_text lits.now) (W.contents writer.new) block.new) }
-    ensures fault { OnErr result (AppendsPart (W.contents writer.old) (W.contents writer.new)
-        (block.old ++ literals_text lits.now)) }
+    ensures { Puts result (W.contents writer.old) block.old
+        (literals_text lits.now) (W.contents writer.new) block.new }
 {
     for lit in lits {
         put_number(block, writer, lit.is_negated(), u64::from(lit.variable()))?;
@@ -137,10 +123,8 @@ fn put_number<W: Write>(
     negative: bool,
     number: u64,
 ) -> Result<(), WriteFault>
-    ensures ok { OnOk result (PassesOn (W.contents writer.old) block.old
-        (number_text negative number) (W.contents writer.new) block.new) }
-    ensures fault { OnErr result (AppendsPart (W.contents writer.old) (W.contents writer.new)
-        (block.old ++ number_text negative number)) }
+    ensures { Puts result (W.contents writer.old) block.old
+        (number_text negative number) (W.contents writer.new) block.new }
 {
     let mut room = [b' '; NUMBER_ROOM];
     let start = spell(negative, number, &mut room);

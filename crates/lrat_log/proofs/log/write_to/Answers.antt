@@ -1,8 +1,8 @@
 -- What was put before a fault is a beginning of the text.
 use Rattle.std.proofs.Common.{◌<◌, ◌≤◌, [], length, arith}
-use Rattle.std.proofs.lemmas.Result.{err_from_is_err_and, on_ok_weaker, on_err_weaker}
-use Rattle.lrat_log.proofs.LineTexts.{last_on-few, last_next, lines_more, line_fault, text_whole}
-use Rattle.lrat_log.proofs.LineTexts.{text_part}
+use Rattle.std.proofs.lemmas.Result.{err_from_is_err_and}
+use Rattle.lrat_log.proofs.LineTexts.{last_on-few, last_next, lines_more, line_fault}
+use Rattle.lrat_log.proofs.LineTexts.{text_written}
 use Rattle.lrat_log.proofs.Text.{text_of-lines}
 use Rattle.lrat_log.proofs.Numbering.{holds_at_each_base}
 use Rattle.lrat_log.proofs.log.write_to.Goals as goal
@@ -13,8 +13,8 @@ put_line-requires-clause-last g c =
     let here : c.loop-line.line < length c.args.log.now = omega arith in
     omega (arith, c.loop-line.invariant.0)
 
-pub returns-in_err-last-clause-fault : goal.returns-in_err-last-clause-fault
-returns-in_err-last-clause-fault g c =
+pub returns-in_err-last-clause-writes : goal.returns-in_err-last-clause-writes
+returns-in_err-last-clause-writes g c =
     let p = err_from_is_err_and c.from_residual.result c.from_residual.ensures.1 in
     let here : c.loop-line.line < length c.args.log.now = omega arith in
     let q =
@@ -22,7 +22,7 @@ returns-in_err-last-clause-fault g c =
     (g.W.Write.contents c.put_line.new.writer) c.loop-line.block [] c.args.base c.loop-line.last
     c.args.log.now c.loop-line.line
     here c.loop-line.invariant.0 c.loop-line.invariant.1
-    (rw (← c.line_from-slice.ensures.line) c.in_err-last.ensures.fault) in
+    (rw (← c.line_from-slice.ensures.line) c.in_err-last.ensures.puts) in
     rw (p.1) q
 
 pub returns-in_err-last-clause-lines : goal.returns-in_err-last-clause-lines
@@ -37,27 +37,17 @@ loop-line-preserved g c =
           c.loop-line.invariant.0 (rw (← c.line_from-slice.ensures.line) c.in_ok-last.ensures.last),
       lines_more _ _ _ _ _ c.args.base c.loop-line.last c.args.log.now c.loop-line.line here
           c.loop-line.invariant.0 c.loop-line.invariant.1
-          (rw (← c.line_from-slice.ensures.line) c.in_ok-last.ensures.ok),
+          (rw (← c.line_from-slice.ensures.line) c.in_ok-last.ensures.puts),
       (c.line_from-slice.ensures.lits, c.line_from-slice.ensures.hints),
     )
 
-pub returns-clause-ok : goal.returns-clause-ok
-returns-clause-ok g c =
+pub returns-clause-writes : goal.returns-clause-writes
+returns-clause-writes g c =
     let done : length c.args.log.now ≤ c.loop-line.line = omega arith in
-    on_ok_weaker c.flush.result
-    (text_whole (g.W.Write.contents c.args.writer.now) (g.W.Write.contents c.loop-line.writer)
+    text_written (g.W.Write.contents c.args.writer.now) (g.W.Write.contents c.loop-line.writer)
     (g.W.Write.contents c.flush.new.writer) c.loop-line.block [] c.args.base c.loop-line.last
-    c.args.log.now c.loop-line.line done c.loop-line.invariant.1)
-    c.flush.ensures.ok
-
-pub returns-clause-fault : goal.returns-clause-fault
-returns-clause-fault g c =
-    let done : length c.args.log.now ≤ c.loop-line.line = omega arith in
-    on_err_weaker c.flush.result
-    (text_part (g.W.Write.contents c.args.writer.now) (g.W.Write.contents c.loop-line.writer)
-    (g.W.Write.contents c.flush.new.writer) c.loop-line.block [] c.args.base c.loop-line.last
-    c.args.log.now c.loop-line.line done c.loop-line.invariant.1)
-    c.flush.ensures.fault
+    c.args.log.now c.loop-line.line c.flush.result done c.loop-line.invariant.1
+    c.flush.ensures.writes
 
 pub returns-clause-lines : goal.returns-clause-lines
 returns-clause-lines g c =

@@ -26,20 +26,20 @@ wide g c =
     stands_last c.hints.inside.narrow.now c.hints.inside.wide.now c.args.hints.now c.hints.view_is
     c.loop-wide.wide-index c.wide-item.result (omega arith) c.wide-item.is
 
-pub returns-in_err-put_hint-clause-fault : goal.returns-in_err-put_hint-clause-fault
-returns-in_err-put_hint-clause-fault g c =
+pub returns-in_err-put_hint : goal.returns-in_err-put_hint
+returns-in_err-put_hint g c =
     let p = err_from_is_err_and c.from_residual.result c.from_residual.ensures.1 in
-    let s = narrow g (goal.at.returns-in_err-put_hint-clause-fault g c).After-narrow-item in
+    let s = narrow g (goal.at.returns-in_err-put_hint g c).After-narrow-item in
     rw (p.1) (item_fault (hint_text c.args.base) _ _ _ _ _ c.args.hints.now
     c.loop-narrow.narrow-index c.narrow-item.result s.within s.here c.loop-narrow.invariant
-    (rw c.widen.ensures at c.in_err-put_hint.ensures.fault))
+    (rw c.widen.ensures at c.in_err-put_hint.ensures))
 
 pub loop-narrow-preserved : goal.loop-narrow-preserved
 loop-narrow-preserved g c =
     let s = narrow g (goal.at.loop-narrow-preserved g c).After-narrow-item in
     items_more (hint_text c.args.base) _ _ _ _ _ _ [] c.args.hints.now c.loop-narrow.narrow-index
     c.narrow-item.result s.within s.here c.loop-narrow.invariant
-    (rw c.widen.ensures at c.in_ok-put_hint.ensures.ok)
+    (rw c.widen.ensures at c.in_ok-put_hint.ensures)
 
 pub loop-wide-init : goal.loop-wide-init
 loop-wide-init g c =
@@ -55,14 +55,14 @@ put_hint-requires-in-loop-wide g c =
     subst (λ (h : Hint). id_of c.args.base (name_of h) < 2 ^ 62) (sym s.here)
     (c.requires _ c.wide-item.result s.within)
 
-pub returns-in_err-put_hint-2-clause-fault : goal.returns-in_err-put_hint-2-clause-fault
-returns-in_err-put_hint-2-clause-fault g c =
+pub returns-in_err-put_hint-2 : goal.returns-in_err-put_hint-2
+returns-in_err-put_hint-2 g c =
     let p =
     err_from_is_err_and c.from_residual-in_err-put_hint-2.result
     c.from_residual-in_err-put_hint-2.ensures.1 in
-    let s = wide g (goal.at.returns-in_err-put_hint-2-clause-fault g c).After-wide-item in
+    let s = wide g (goal.at.returns-in_err-put_hint-2 g c).After-wide-item in
     rw (p.1) (item_fault (hint_text c.args.base) _ _ _ _ _ c.args.hints.now _ c.wide-item.result
-    s.within s.here c.loop-wide.invariant c.in_err-put_hint-2.ensures.fault)
+    s.within s.here c.loop-wide.invariant c.in_err-put_hint-2.ensures)
 
 pub loop-wide-preserved : goal.loop-wide-preserved
 loop-wide-preserved g c =
@@ -71,10 +71,10 @@ loop-wide-preserved g c =
     let e : place + (c.loop-wide.wide-index + 1) ≡ place + c.loop-wide.wide-index + 1 =
     omega arith in
     rw e (items_more (hint_text c.args.base) _ _ _ _ _ _ [] c.args.hints.now _ c.wide-item.result
-    s.within s.here c.loop-wide.invariant c.in_ok-put_hint-2.ensures.ok)
+    s.within s.here c.loop-wide.invariant c.in_ok-put_hint-2.ensures)
 
-pub returns-clause-ok : goal.returns-clause-ok
-returns-clause-ok g c =
+pub returns : goal.returns
+returns g c =
     let n = length-append c.hints.inside.narrow.now c.hints.inside.wide.now in
     let whole = ap length c.hints.view_is in
     let k = length c.args.hints.now - length c.hints.inside.wide.now + c.loop-wide.wide-index in
