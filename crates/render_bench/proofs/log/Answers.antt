@@ -10,4 +10,4 @@ pub loop-k-preserved : goal.loop-k-preserved
 loop-k-preserved c =
     rw c.in_ok-append.ensures.ok
     (All-push (λ (l : LogLine). All (λ h. id_of BASE (name_of h) < 2 ^ 62) l.hints) _ _
-    c.loop-k.invariant (rw c.deref-2.ensures.value c.in_ok-hints.ensures.ids))
+    c.loop-k.invariant (rw c.deref-in-loop-k.ensures.value c.in_ok-hints.ensures.ids))
