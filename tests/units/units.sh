@@ -25,6 +25,6 @@ for crate; do
     out=$(cd "$work/crates/$crate" && "${RT:-rt}" try --test --steps 1000 --seconds 400 2>&1)
     ran=$(grep -cE '^test .* \.\.\. ok$' <<< "$out")
     ok "$crate: $ran of $wanted tests" [ "$ran" = "$wanted" ]
-    [ "$ran" = "$wanted" ] || grep -E '^test .*FAILED|^error|panicked' <<< "$out" | head -n 20
+    [ "$ran" = "$wanted" ] || grep -E '^test .*FAILED|^error|: error\[|panicked' <<< "$out" | head -n 20
 done
 totals
