@@ -1,8 +1,8 @@
 -- What was written of what was found.
 use Rattle.std.proofs.Common.{◌≡◌, ℕ, Bool, List, ◌++◌, Option, Result, Ok, Err, sym, ◌∙◌, ap}
-use Rattle.std.proofs.Common.{subst}
+use Rattle.std.proofs.Common.{true, false, subst}
 use Rattle.std.proofs.lemmas.Bool.{false≢true}
-use Rattle.std.specs.Prelude.{IfErr, IsOk, OnOk}
+use Rattle.std.specs.Prelude.{IfErr, IsOk, OnOk, is_ok}
 use Rattle.std.specs.Io.KnownBytes.{Appends, Keeps}
 use Rattle.text.specs.Writing.{AppendsPart, Writes}
 use Rattle.text.proofs.Laws.{part-kept, writes_kept}
@@ -19,6 +19,17 @@ pub end_is : (status words : List ℕ) (bits first last : List Bool)
 end_is status words bits first last e d f =
     ap (λ z. words_text z last) (e ∙ ap (λ z. status ++ bits_word z) d)
     ∙ ap (words_text (status ++ bits_word bits)) f
+
+-- what was written, by a result that is Ok together with that of the writing
+pub all_written : {T E : Type 0} (r : Result T E) (a b : Option (List ℕ)) (x : List ℕ)
+    → true ≡ is_ok r → Writes r a x b → Appends a b x
+all_written (Ok v) a b x e k = k
+all_written (Err d) a b x e k = absurd (false≢true (sym e))
+
+pub part_written : {T E : Type 0} (r : Result T E) (a b : Option (List ℕ)) (x : List ℕ)
+    → false ≡ is_ok r → Writes r a x b → AppendsPart a b x
+part_written (Ok v) a b x e k = absurd (false≢true e)
+part_written (Err d) a b x e k = k
 
 -- the whole text, where it went well
 pub ok_with : {T E : Type 0} (r : Result T E) (Q : Type 0) (a b : Option (List ℕ)) (x : List ℕ)

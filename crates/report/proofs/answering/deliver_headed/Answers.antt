@@ -1,9 +1,9 @@
 -- The core lines, and then the log.
-use Rattle.std.proofs.Common.{Ok, Err}
 use Rattle.std.proofs.lemmas.Result.{err_from_is_err_and}
-use Rattle.text.proofs.Laws.{part-more, writes_alike, writes_next}
+use Rattle.text.proofs.Laws.{part-more, writes_next}
 use Rattle.lrat_log.specs.Log.{text_of, numbered_lines}
 use Rattle.report.specs.Heading.{head_text}
+use Rattle.report.proofs.Answered.{all_written, part_written}
 use Rattle.report.proofs.HeadedTexts.{headed_text}
 use Rattle.report.proofs.answering.deliver_headed.Goals as goal
 
@@ -11,7 +11,7 @@ pub returns-in_err-map_err-clause-writes : goal.returns-in_err-map_err-clause-wr
 returns-in_err-map_err-clause-writes g c =
     let p = err_from_is_err_and c.from_residual.result c.from_residual.ensures.1 in
     rw (p.1) (part-more _ _ (head_text c.args.cores.now) (text_of c.args.clauses c.args.log.now)
-    (writes_alike c.write_head.result (Err _) _ _ _ c.in_err-map_err.ensures.variant
+    (part_written c.write_head.result _ _ _ c.in_err-map_err.ensures.variant
     c.write_head.ensures))
 
 pub returns-in_err-map_err-clause-lines : goal.returns-in_err-map_err-clause-lines
@@ -23,7 +23,7 @@ pub returns-clause-writes : goal.returns-clause-writes
 returns-clause-writes g c =
     writes_next c.deliver_proof.result _ _ _ (head_text c.args.cores.now)
     (text_of c.args.clauses c.args.log.now)
-    (writes_alike c.write_head.result (Ok _) _ _ _ c.in_ok-map_err.ensures.variant
+    (all_written c.write_head.result _ _ _ c.in_ok-map_err.ensures.variant
     c.write_head.ensures) c.deliver_proof.ensures.writes
 
 pub returns-clause-lines : goal.returns-clause-lines

@@ -10,12 +10,12 @@ pub returns-in_err-write_piece : goal.returns-in_err-write_piece
 returns-in_err-write_piece g c =
     let p = err_from_is_err_and c.from_residual.result c.from_residual.ensures.1 in
     rw (p.1) (subst (AppendsPart _ _)
-    (take_all _ _ (omega (arith, length-drop {A = ℕ}, c.spell_cost-start.auto.room))
+    (take_all _ _ (omega (arith, length-drop {A = ℕ}))
     ∙ c.spell_cost-start.ensures.text) c.in_err-write_piece.ensures)
 
 pub returns : goal.returns
 returns g c =
     writes_as c.map_err.result _ _
-    (take_all _ _ (omega (arith, length-drop {A = ℕ}, c.spell_cost-start.auto.room))
+    (take_all _ _ (omega (arith, length-drop {A = ℕ}))
     ∙ c.spell_cost-start.ensures.text)
     (writes_kept c.map_err.result _ _ _ _ c.in_ok-write_piece.ensures c.flush.ensures.bytes)
