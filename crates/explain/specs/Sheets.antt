@@ -6,7 +6,7 @@ use Rattle.explain.specs.declared.sheet.Sheet.{Sheet}
 
 -- The text was put: what the writer had and has, and the sheet before and after. A sheet whose
 -- writer failed puts nothing more.
-pub record Puts (out : Option (List ℕ)) (sheet : Sheet) (text : List ℕ) (out' : Option (List ℕ))
+pub record Displays (out : Option (List ℕ)) (sheet : Sheet) (text : List ℕ) (out' : Option (List ℕ))
     (sheet' : Sheet) : Type 0 where
   pub whole : sheet.has_failed ≡ false → sheet'.has_failed ≡ false
       → PassesOn out sheet.block text out' sheet'.block

@@ -1,7 +1,7 @@
 //! What is shown of a faulty text, for the person who has to mend it: the line, the word, and what
 //! would mend it.
 ghost use Rattle.std.specs.Prelude.{◌≡◌, ℕ, List, take, OnOk, OnErr};
-ghost use Rattle.explain.specs.Sheets.{Puts};
+ghost use Rattle.explain.specs.Sheets.{Displays};
 ghost use Rattle.explain.specs.Mending.{BreaksMending, Mends, cut_text, line_of, place_text};
 ghost use Rattle.explain.specs.Mending.{shown_line, word_line};
 
@@ -71,7 +71,7 @@ fn find_header(text: &[u8], number: u64) -> &[u8] {
 
 /// The line, on a line of its own.
 fn put_line<W: Write>(sheet: &mut Sheet, writer: &mut W, line: &[u8])
-    ensures { Puts (W.contents writer.old) sheet.old (shown_line line.now)
+    ensures { Displays (W.contents writer.old) sheet.old (shown_line line.now)
         (W.contents writer.new) sheet.new }
 {
     sheet.put(writer, b"  ");
@@ -81,7 +81,7 @@ fn put_line<W: Write>(sheet: &mut Sheet, writer: &mut W, line: &[u8])
 
 /// The first bytes.
 fn put_cut<W: Write>(sheet: &mut Sheet, writer: &mut W, bytes: &[u8])
-    ensures { Puts (W.contents writer.old) sheet.old (cut_text bytes.now)
+    ensures { Displays (W.contents writer.old) sheet.old (cut_text bytes.now)
         (W.contents writer.new) sheet.new }
 {
     if bytes.len() <= MOST_SHOWN {
@@ -105,7 +105,7 @@ fn cut(bytes: &[u8], most: usize) -> &[u8]
 
 /// The word, if there is one, and the sentence.
 fn put_advice<W: Write>(sheet: &mut Sheet, writer: &mut W, advice: &Advice<'_>)
-    ensures { (text : List ℕ) × Puts (W.contents writer.old) sheet.old text
+    ensures { (text : List ℕ) × Displays (W.contents writer.old) sheet.old text
         (W.contents writer.new) sheet.new }
 {
     put_word(sheet, writer, advice.word, advice.column);
@@ -116,7 +116,7 @@ fn put_advice<W: Write>(sheet: &mut Sheet, writer: &mut W, advice: &Advice<'_>)
 
 /// A word, if there is one, on a line of its own.
 fn put_word<W: Write>(sheet: &mut Sheet, writer: &mut W, word: &[u8], column: usize)
-    ensures { Puts (W.contents writer.old) sheet.old (word_line column word.now)
+    ensures { Displays (W.contents writer.old) sheet.old (word_line column word.now)
         (W.contents writer.new) sheet.new }
 {
     if word.is_empty() {
@@ -129,7 +129,7 @@ fn put_word<W: Write>(sheet: &mut Sheet, writer: &mut W, word: &[u8], column: us
 
 /// What stands before a word, with its column if there is one to tell.
 fn put_place<W: Write>(sheet: &mut Sheet, writer: &mut W, column: usize)
-    ensures { Puts (W.contents writer.old) sheet.old (place_text column)
+    ensures { Displays (W.contents writer.old) sheet.old (place_text column)
         (W.contents writer.new) sheet.new }
 {
     if column == 0 {

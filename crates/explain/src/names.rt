@@ -1,7 +1,7 @@
 // The names that comments give to variables, as `c 7 = Ann Tue`: those of true ones are written.
 ghost use Rattle.std.specs.Prelude.{◌≡◌, ◌∷◌};
 ghost use Rattle.text.specs.Text.{tokens_of};
-ghost use Rattle.explain.specs.Sheets.{Puts};
+ghost use Rattle.explain.specs.Sheets.{Displays};
 ghost use Rattle.explain.specs.Names.{is_true_variable, name_line, name_text, names_text};
 ghost use Rattle.explain.specs.Names.{words_text};
 
@@ -21,7 +21,7 @@ const IS: &[u8] = b"=";
 
 /// A line for each true variable that a comment names, in the order of the comments.
 pub(crate) fn put_names<W: Write>(sheet: &mut Sheet, writer: &mut W, text: &[u8], bits: &[bool])
-    ensures { Puts (W.contents writer.old) sheet.old (names_text bits.now text.now)
+    ensures { Displays (W.contents writer.old) sheet.old (names_text bits.now text.now)
         (W.contents writer.new) sheet.new }
 {
     let mut rest = lines(text);
@@ -32,7 +32,7 @@ pub(crate) fn put_names<W: Write>(sheet: &mut Sheet, writer: &mut W, text: &[u8]
 
 /// The name that the line gives to a true variable, if it does.
 fn put_name<W: Write>(sheet: &mut Sheet, writer: &mut W, line: &[u8], bits: &[bool])
-    ensures { Puts (W.contents writer.old) sheet.old (name_text bits.now (tokens_of line.now))
+    ensures { Displays (W.contents writer.old) sheet.old (name_text bits.now (tokens_of line.now))
         (W.contents writer.new) sheet.new }
 {
     let mut rest = tokens(line);
@@ -76,7 +76,7 @@ fn is_true_variable(token: &[u8], bits: &[bool]) -> bool
 
 /// The line of a name with this first word.
 fn put_line<W: Write>(sheet: &mut Sheet, writer: &mut W, word: &[u8], rest: Tokens<'_>)
-    ensures { Puts (W.contents writer.old) sheet.old (name_line (word.now ∷ rest.entry))
+    ensures { Displays (W.contents writer.old) sheet.old (name_line (word.now ∷ rest.entry))
         (W.contents writer.new) sheet.new }
 {
     sheet.put(writer, b"true:");
@@ -87,7 +87,7 @@ fn put_line<W: Write>(sheet: &mut Sheet, writer: &mut W, word: &[u8], rest: Toke
 
 /// The words that are left of a name, and the end of the line.
 fn put_words<W: Write>(sheet: &mut Sheet, writer: &mut W, words: Tokens<'_>)
-    ensures { Puts (W.contents writer.old) sheet.old (words_text words.entry)
+    ensures { Displays (W.contents writer.old) sheet.old (words_text words.entry)
         (W.contents writer.new) sheet.new }
 {
     let mut rest = words;

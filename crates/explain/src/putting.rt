@@ -1,7 +1,7 @@
 // The lines of an explanation.
 ghost use Rattle.std.specs.Prelude.{◌≡◌, ◌<◌, ◌^◌, sum_by};
 ghost use Rattle.std.specs.List.{flat_map};
-ghost use Rattle.explain.specs.Sheets.{Puts};
+ghost use Rattle.explain.specs.Sheets.{Displays};
 ghost use Rattle.explain.specs.Explanation.{bits_line, broken_line, comment_text, cost_line};
 ghost use Rattle.explain.specs.Explanation.{count_line, is_control, left_behind, paid_line};
 ghost use Rattle.explain.specs.Explanation.{paid_lines, shown, shown_text, source_text};
@@ -14,7 +14,7 @@ use std::io::Write;
 
 /// There are too few or too many bits.
 pub(crate) fn put_bits<W: Write>(sheet: &mut Sheet, writer: &mut W, bits: usize, vars: u32)
-    ensures { Puts (W.contents writer.old) sheet.old (bits_line bits vars)
+    ensures { Displays (W.contents writer.old) sheet.old (bits_line bits vars)
         (W.contents writer.new) sheet.new }
 {
     sheet.put(writer, b"the result has ");
@@ -26,7 +26,7 @@ pub(crate) fn put_bits<W: Write>(sheet: &mut Sheet, writer: &mut W, bits: usize,
 
 /// What the bits cost, and whether that was told.
 pub(crate) fn put_cost<W: Write>(sheet: &mut Sheet, writer: &mut W, cost: u64, told: u64)
-    ensures { Puts (W.contents writer.old) sheet.old (cost_line cost told)
+    ensures { Displays (W.contents writer.old) sheet.old (cost_line cost told)
         (W.contents writer.new) sheet.new }
 {
     sheet.put(writer, b"cost ");
@@ -37,7 +37,7 @@ pub(crate) fn put_cost<W: Write>(sheet: &mut Sheet, writer: &mut W, cost: u64, t
 
 /// What was told, where that is another cost.
 fn put_told<W: Write>(sheet: &mut Sheet, writer: &mut W, cost: u64, told: u64)
-    ensures { Puts (W.contents writer.old) sheet.old (told_text cost told)
+    ensures { Displays (W.contents writer.old) sheet.old (told_text cost told)
         (W.contents writer.new) sheet.new }
 {
     if cost == told {
@@ -49,7 +49,7 @@ fn put_told<W: Write>(sheet: &mut Sheet, writer: &mut W, cost: u64, told: u64)
 
 /// How many of the soft clauses are given up.
 pub(crate) fn put_count<W: Write>(sheet: &mut Sheet, writer: &mut W, count: usize, all: usize)
-    ensures { Puts (W.contents writer.old) sheet.old (count_line count all)
+    ensures { Displays (W.contents writer.old) sheet.old (count_line count all)
         (W.contents writer.new) sheet.new }
 {
     sheet.put(writer, b"given up: ");
@@ -67,7 +67,7 @@ pub(crate) fn put_given_up<W: Write>(
     soft: &[ClauseLine<'_>],
 )
     requires { sum_by (λ g. g.weight) given_up.now < 2 ^ 64 }
-    ensures { Puts (W.contents writer.old) sheet.old (paid_lines soft.now 0 given_up.now)
+    ensures { Displays (W.contents writer.old) sheet.old (paid_lines soft.now 0 given_up.now)
         (W.contents writer.new) sheet.new }
 {
     let mut paid: u64 = 0;
@@ -86,7 +86,7 @@ fn put_paid<W: Write>(
     soft: &[ClauseLine<'_>],
     place: usize,
 )
-    ensures { Puts (W.contents writer.old) sheet.old
+    ensures { Displays (W.contents writer.old) sheet.old
         (paid_line weight paid (source_text_at soft.now place)) (W.contents writer.new) sheet.new }
 {
     sheet.put(writer, b"+ ");
@@ -99,7 +99,7 @@ fn put_paid<W: Write>(
 
 /// The line at this place.
 fn put_source_at<W: Write>(sheet: &mut Sheet, writer: &mut W, soft: &[ClauseLine<'_>], place: usize)
-    ensures { Puts (W.contents writer.old) sheet.old (source_text_at soft.now place)
+    ensures { Displays (W.contents writer.old) sheet.old (source_text_at soft.now place)
         (W.contents writer.new) sheet.new }
 {
     if let Some(clause_line) = soft.get(place) {
@@ -109,7 +109,7 @@ fn put_source_at<W: Write>(sheet: &mut Sheet, writer: &mut W, soft: &[ClauseLine
 
 /// The hard clauses that are broken.
 pub(crate) fn put_broken<W: Write>(sheet: &mut Sheet, writer: &mut W, hard: &[ClauseLine<'_>])
-    ensures { Puts (W.contents writer.old) sheet.old (flat_map broken_line hard.now)
+    ensures { Displays (W.contents writer.old) sheet.old (flat_map broken_line hard.now)
         (W.contents writer.new) sheet.new }
 {
     for clause_line in hard {
@@ -120,7 +120,7 @@ pub(crate) fn put_broken<W: Write>(sheet: &mut Sheet, writer: &mut W, hard: &[Cl
 
 /// A line of the text with its number, and the comment above it.
 fn put_source<W: Write>(sheet: &mut Sheet, writer: &mut W, clause_line: &ClauseLine<'_>)
-    ensures { Puts (W.contents writer.old) sheet.old (source_text clause_line.now)
+    ensures { Displays (W.contents writer.old) sheet.old (source_text clause_line.now)
         (W.contents writer.new) sheet.new }
 {
     sheet.put(writer, b"line ");
@@ -133,7 +133,7 @@ fn put_source<W: Write>(sheet: &mut Sheet, writer: &mut W, clause_line: &ClauseL
 
 /// A comment, where there is one.
 fn put_comment<W: Write>(sheet: &mut Sheet, writer: &mut W, comment: &[u8])
-    ensures { Puts (W.contents writer.old) sheet.old (comment_text comment.now)
+    ensures { Displays (W.contents writer.old) sheet.old (comment_text comment.now)
         (W.contents writer.new) sheet.new }
 {
     if comment.is_empty() {
@@ -146,7 +146,7 @@ fn put_comment<W: Write>(sheet: &mut Sheet, writer: &mut W, comment: &[u8])
 
 /// A line, with a question mark for each byte that would command a terminal.
 pub(crate) fn put_shown<W: Write>(sheet: &mut Sheet, writer: &mut W, line: &[u8])
-    ensures { Puts (W.contents writer.old) sheet.old (shown_text line.now)
+    ensures { Displays (W.contents writer.old) sheet.old (shown_text line.now)
         (W.contents writer.new) sheet.new }
 {
     let mut left = 0;

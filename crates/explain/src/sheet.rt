@@ -4,7 +4,7 @@
 ghost use Rattle.std.specs.Prelude.{◌≡◌, [], false, OnOk, OnErr};
 ghost use Rattle.std.specs.Fmt.{decimal};
 ghost use Rattle.std.specs.Io.KnownBytes.{Appends};
-ghost use Rattle.explain.specs.Sheets.{IsCutOff, Puts};
+ghost use Rattle.explain.specs.Sheets.{IsCutOff, Displays};
 
 use std::io::Write;
 use text::output::{Block, WriteFault};
@@ -32,7 +32,8 @@ impl Sheet {
 
     /// Puts the text.
     pub(crate) fn put<W: Write>(&mut self, writer: &mut W, text: &[u8])
-        ensures { Puts (W.contents writer.old) self.old text.now (W.contents writer.new) self.new }
+        ensures { Displays (W.contents writer.old) self.old text.now (W.contents writer.new)
+            self.new }
     {
         if !self.has_failed {
             self.has_failed = self.block.put(writer, text).is_err();
@@ -41,7 +42,7 @@ impl Sheet {
 
     /// Puts the number in decimal digits.
     pub(crate) fn put_number<W: Write>(&mut self, writer: &mut W, number: u64)
-        ensures { Puts (W.contents writer.old) self.old (decimal number)
+        ensures { Displays (W.contents writer.old) self.old (decimal number)
             (W.contents writer.new) self.new }
     {
         if !self.has_failed {

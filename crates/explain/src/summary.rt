@@ -2,7 +2,7 @@
 //! clauses, and the sum of the weights.
 ghost use Rattle.std.specs.Prelude.{◌≡◌, sum_by, OnOk, IfErr};
 ghost use Rattle.text.specs.Writing.{Writes};
-ghost use Rattle.explain.specs.Sheets.{Puts};
+ghost use Rattle.explain.specs.Sheets.{Displays};
 ghost use Rattle.explain.specs.Summary.{Summarises, LeavesSummary, counts_text, summary_text};
 
 use crate::explaining::{ExplainFault, read_text};
@@ -71,7 +71,7 @@ fn put_counts<W: Write>(
     soft: usize,
     weights: u64,
 )
-    ensures { Puts (W.contents writer.old) sheet.old (counts_text vars hard soft weights)
+    ensures { Displays (W.contents writer.old) sheet.old (counts_text vars hard soft weights)
         (W.contents writer.new) sheet.new }
 {
     sheet.put(writer, b"variables: ");

@@ -1,6 +1,6 @@
 -- What was put is what is written.
 use Rattle.std.proofs.Common.{sym}
-use Rattle.explain.specs.Sheets.{Puts}
+use Rattle.explain.specs.Sheets.{Displays}
 use Rattle.explain.specs.Explained.{listing_text}
 use Rattle.explain.proofs.Sheets.{more, written}
 use Rattle.explain.proofs.explaining.write_listing.Given.{Over}
@@ -9,7 +9,7 @@ use Rattle.explain.proofs.explaining.write_listing.Goals.{After-put_names}
 
 -- one part after another
 put : (g : Over) (c : After-put_names g)
-    → Puts (g.W.Write.contents c.args.writer.now) c.new-sheet.result
+    → Displays (g.W.Write.contents c.args.writer.now) c.new-sheet.result
     (listing_text c.args.text.now c.args.bits.now c.args.cost c.args.told c.args.all
     c.args.findings.now)
     (g.W.Write.contents c.put_names.new.writer) c.put_names.new.sheet

@@ -1,7 +1,7 @@
 -- The bytes are too many.
 use Rattle.std.proofs.Common.{subst}
 use Rattle.explain.specs.Explanation.{shown_text}
-use Rattle.explain.specs.Sheets.{Puts}
+use Rattle.explain.specs.Sheets.{Displays}
 use Rattle.explain.proofs.Sheets.{more}
 use Rattle.explain.proofs.Words.{cut_long}
 use Rattle.explain.proofs.mending.put_cut.Goals as goal
@@ -10,7 +10,7 @@ pub returns : goal.returns
 returns g c =
     rw (cut_long c.args.bytes.now c.if-bytes-le-MOST_SHOWN.false)
     (more
-    (subst (λ z. Puts (g.W.Write.contents c.args.writer.now) c.args.sheet.now (shown_text z)
+    (subst (λ z. Displays (g.W.Write.contents c.args.writer.now) c.args.sheet.now (shown_text z)
     (g.W.Write.contents c.put_shown-2.new.writer) c.put_shown-2.new.sheet) c.cut.ensures
     c.put_shown-2.ensures)
     c.put.ensures)

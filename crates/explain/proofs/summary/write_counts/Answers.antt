@@ -1,6 +1,6 @@
 -- What was put is what is written.
 use Rattle.std.proofs.Common.{rules, subst}
-use Rattle.explain.specs.Sheets.{Puts}
+use Rattle.explain.specs.Sheets.{Displays}
 use Rattle.explain.specs.Summary.{summary_text}
 use Rattle.explain.proofs.Sheets.{written}
 use Rattle.explain.proofs.Counts.{counted}
@@ -9,12 +9,12 @@ use Rattle.explain.proofs.summary.write_counts.Goals as goal
 use Rattle.explain.proofs.summary.write_counts.Goals.{After-put_counts}
 
 put : (g : Over) (c : After-put_counts g)
-    → Puts (g.W.Write.contents c.args.writer.now) c.new-sheet.result
+    → Displays (g.W.Write.contents c.args.writer.now) c.new-sheet.result
     (summary_text c.args.instance.now)
     (g.W.Write.contents c.put_counts.new.writer) c.put_counts.new.sheet
 put g c =
     subst
-    (λ z. Puts (g.W.Write.contents c.args.writer.now) c.new-sheet.result z
+    (λ z. Displays (g.W.Write.contents c.args.writer.now) c.new-sheet.result z
     (g.W.Write.contents c.put_counts.new.writer) c.put_counts.new.sheet)
     (counted c.args.instance.now _ _ _ _ c.vars.ensures.vars (search rules) (search rules)
     c.sum_weights.ensures)
