@@ -16,7 +16,7 @@ use std::io::Write;
 use text::output::WriteFault;
 
 /// Looks on while a run goes, and is shown how it ended.
-pub trait Keep: Watch {
+pub trait RunWatch: Watch {
     /// The search is over with this, and nothing of its end is written yet.
     fn searched(&mut self, found: &Found)
         ensures quiet { Self.seen self.new ≡ Self.seen self.old };
@@ -28,7 +28,7 @@ pub trait Keep: Watch {
             ≡ with_seen (end_of instance.now found.now ∷ []) (Self.seen self.old) };
 }
 
-impl Keep for Silent {
+impl RunWatch for Silent {
     fn searched(&mut self, _found: &Found) {}
 
     fn ended(&mut self, _instance: &Instance, _found: &Found) {}

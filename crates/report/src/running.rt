@@ -7,7 +7,7 @@ ghost use Rattle.report.specs.Running.{EndsAs, Leaves, Searches, outcome_of};
 ghost use Rattle.report.specs.Seen.{IsSeenAs, IsShownFor};
 
 use crate::answering::write_answer;
-use crate::best::Keep;
+use crate::best::RunWatch;
 use crate::fault::RunFault;
 use crate::status::Status;
 use crate::told::{Finished, Told};
@@ -98,7 +98,7 @@ pub fn run_as<R: Read, O: Write, P: Write>(
 /// # Errors
 ///
 /// Those of `run`.
-pub fn run_watched<R: Read, O: Write, P: Write, K: Keep>(
+pub fn run_watched<R: Read, O: Write, P: Write, K: RunWatch>(
     alloc: Global,
     input: &mut R,
     budget: &mut Budget,
@@ -127,7 +127,7 @@ pub fn run_watched<R: Read, O: Write, P: Write, K: Keep>(
 /// # Errors
 ///
 /// Those of `run`.
-pub fn run_from<R: Read, O: Write, P: Write, K: Keep>(
+pub fn run_from<R: Read, O: Write, P: Write, K: RunWatch>(
     alloc: Global,
     input: &mut R,
     start: Option<Vec<bool>>,
@@ -158,7 +158,7 @@ pub fn run_from<R: Read, O: Write, P: Write, K: Keep>(
 }
 
 /// Looks for an optimum, and tells the cost of each better solution.
-fn find_best<O: Write, K: Keep>(
+fn find_best<O: Write, K: RunWatch>(
     alloc: Global,
     instance: &Instance,
     start: Option<Vec<bool>>,
@@ -183,7 +183,7 @@ fn find_best<O: Write, K: Keep>(
 }
 
 /// Looks for an optimum, from the start if that is a solution.
-fn search<T: Progress, K: Keep>(
+fn search<T: Progress, K: RunWatch>(
     instance: &Instance,
     start: Option<Vec<bool>>,
     budget: &mut Budget,

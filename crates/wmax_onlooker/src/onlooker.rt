@@ -10,7 +10,7 @@ use cnf::types::Instance;
 use improve::found::Found;
 use improve::watch::Watch;
 use improve_trials::found::ByCores;
-use report::best::Keep;
+use report::best::RunWatch;
 use std::io::Write;
 use std::rt::{Clock, Files};
 
@@ -67,7 +67,7 @@ impl<'a, 'b, R: Files + Clock + AllocGlobal, E: Write> Watch for Onlooker<'a, 'b
     }
 }
 
-impl<'a, 'b, R: Files + Clock + AllocGlobal, E: Write> Keep for Onlooker<'a, 'b, R, E> {
+impl<'a, 'b, R: Files + Clock + AllocGlobal, E: Write> RunWatch for Onlooker<'a, 'b, R, E> {
     fn searched(&mut self, found: &Found) {
         if let Some(meter) = &mut self.meter {
             meter.searched(found, self.messages);
