@@ -8,8 +8,8 @@ use Rattle.cnf.specs.Literal.{Assignment}
 use Rattle.cnf.specs.Clause.{greatest_variable}
 use Rattle.cnf.specs.Problem.{Problem, SoftClause, AreWithin}
 use Rattle.cnf.specs.Instance.{IsInstance, IsClauseWithin}
-use Rattle.adder.specs.declared.cells.Profile.{Profile}
-use Rattle.adder.specs.declared.cells.Profile.TheVariants.{One, Two, Three, Four, Five}
+use Rattle.adder.specs.declared.profiles.Profile.{Profile}
+use Rattle.adder.specs.declared.profiles.Profile.TheVariants.{One, Two, Three, Four, Five}
 use Rattle.adder.specs.declared.profiles.Adding.{Adding}
 use Rattle.adder.specs.declared.profiles.Adding.TheVariants.{Columns, Tree, Sums}
 use Rattle.adder.specs.Network.{relaxing_of, adding_of}

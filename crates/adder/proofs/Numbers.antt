@@ -8,7 +8,7 @@ use Rattle.std.proofs.lemmas.List.Sums.{sum_by-cons}
 use Rattle.cnf.specs.Numbers.{one_if}
 use Rattle.cnf.specs.Literal.{Assignment, Literal, literal_value}
 use Rattle.cnf.proofs.Laws.{all_left, all_right}
-use Rattle.adder.specs.Network.{Relaxed, Number, bit, binary_length, bits_from, number_of}
+use Rattle.adder.specs.Network.{Relaxed, BinaryNumber, bit, binary_length, bits_from, number_of}
 use Rattle.adder.specs.Network.{literal_at, addition, round, rounds, lightest_first, numbers_of}
 use Rattle.adder.specs.Network.{along_tree, value_of, IsCellOf}
 use Rattle.adder.specs.declared.relaxations.Relaxation.{Relaxation}
@@ -90,14 +90,14 @@ bits_next l w j e f =
         (from n (i + 1)))
 
 -- what numbers are worth together
-abbrev pub worth : Assignment → List Number → ℕ
+abbrev pub worth : Assignment → List BinaryNumber → ℕ
 worth t [] = 0
 worth t (x ∷ xs) = value_of t x.bits + worth t xs
 
-abbrev pub AreAtMost : Assignment → List Number → Type 0
+abbrev pub AreAtMost : Assignment → List BinaryNumber → Type 0
 AreAtMost t xs = AllByRecursion (λ x. value_of t x.bits ≤ x.most) xs
 
-pub addition_value : (t : Assignment) (fresh : ℕ) (x y : Number) → value_of t x.bits ≤ x.most
+pub addition_value : (t : Assignment) (fresh : ℕ) (x y : BinaryNumber) → value_of t x.bits ≤ x.most
     → value_of t y.bits ≤ y.most → x.most + y.most < 2 ^ 63
     → AllByRecursion (IsCellOf t) (addition fresh x y).cells
     → value_of t (addition fresh x y).outputs ≡ value_of t x.bits + value_of t y.bits
@@ -114,20 +114,22 @@ addition_value t fresh x y h k small all =
     (omega (arith, binary_length_room (x.most + y.most) small))
     ∙ (omega arith)
 
-pub round_most : (fresh : ℕ) (xs : List Number) → most_of (round fresh xs).numbers ≡ most_of xs
+pub round_most : (fresh : ℕ) (xs : List BinaryNumber)
+    → most_of (round fresh xs).numbers ≡ most_of xs
 round_most fresh [] = refl
 round_most fresh (x ∷ []) = refl
 round_most fresh (x ∷ y ∷ more) =
     omega (arith, round_most (fresh + 2 * length (addition fresh x y).cells) more)
 
-pub round_length : (fresh : ℕ) (xs : List Number)
+pub round_length : (fresh : ℕ) (xs : List BinaryNumber)
     → 2 * length (round fresh xs).numbers ≤ length xs + 1
 round_length fresh [] = omega arith
 round_length fresh (x ∷ []) = omega arith
 round_length fresh (x ∷ y ∷ more) =
     omega (arith, round_length (fresh + 2 * length (addition fresh x y).cells) more)
 
-round_value : (t : Assignment) (fresh : ℕ) (xs : List Number) → AreAtMost t xs → most_of xs < 2 ^ 63
+round_value : (t : Assignment) (fresh : ℕ) (xs : List BinaryNumber) → AreAtMost t xs
+    → most_of xs < 2 ^ 63
     → AllByRecursion (IsCellOf t) (round fresh xs).cells
     → (worth t (round fresh xs).numbers ≡ worth t xs) × AreAtMost t (round fresh xs).numbers
 round_value t fresh [] h small all = (refl, tt)
@@ -144,7 +146,7 @@ round_value t fresh (x ∷ y ∷ more) h small all =
     in
     (omega (arith, here, r.0), (omega (arith, here, h.0, h.1.0), r.1))
 
-rounds_value : (t : Assignment) (steps fresh : ℕ) (xs : List Number) → length xs ≤ steps + 1
+rounds_value : (t : Assignment) (steps fresh : ℕ) (xs : List BinaryNumber) → length xs ≤ steps + 1
     → AreAtMost t xs → most_of xs < 2 ^ 63
     → AllByRecursion (IsCellOf t) (rounds steps fresh xs).cells
     → value_of t (rounds steps fresh xs).outputs ≡ worth t xs
@@ -163,7 +165,7 @@ rounds_value t (suc steps) fresh (x ∷ y ∷ more) few h small all =
     (all_right (IsCellOf t) first.cells rest.cells all) ∙ r.0
 
 -- the numbers of the soft clauses
-abbrev number : Relaxed → Number
+abbrev number : Relaxed → BinaryNumber
 number e = number_of e.literal (e.soft).weight
 
 numbers_most : (es : List Relaxed) → most_of (map number es) ≡ sum_by (λ e. (e.soft).weight) es
@@ -231,7 +233,7 @@ at_length (None ∷ bits) zero = omega arith
 at_length (Some l ∷ bits) zero = omega arith
 at_length (o ∷ bits) (suc j) = at_length bits j
 
-addition_cells : (fresh : ℕ) (x y : Number) → length (addition fresh x y).cells ≤ 63
+addition_cells : (fresh : ℕ) (x y : BinaryNumber) → length (addition fresh x y).cells ≤ 63
 addition_cells fresh x y =
     omega (
       arith,
@@ -246,7 +248,7 @@ addition_cells fresh x y =
       binary_length_le (x.most + y.most),
     )
 
-round_cells : (fresh : ℕ) (xs : List Number)
+round_cells : (fresh : ℕ) (xs : List BinaryNumber)
     → length (round fresh xs).cells + 63 * length (round fresh xs).numbers ≤ 63 * length xs
 round_cells fresh [] = omega arith
 round_cells fresh (x ∷ []) = omega arith
@@ -260,7 +262,7 @@ round_cells fresh (x ∷ y ∷ more) =
       length-append sum.cells (round next more).cells,
     )
 
-rounds_cells : (steps fresh : ℕ) (xs : List Number)
+rounds_cells : (steps fresh : ℕ) (xs : List BinaryNumber)
     → length (rounds steps fresh xs).cells ≤ 63 * length xs
 rounds_cells steps fresh [] = omega arith
 rounds_cells steps fresh (x ∷ []) = omega arith
@@ -281,14 +283,14 @@ along_tree_cells es fresh =
     omega (arith, rounds_cells (length es) fresh (numbers_of es), numbers_length es)
 
 -- how many outputs
-abbrev AreShort : List Number → Type 0
+abbrev AreShort : List BinaryNumber → Type 0
 AreShort xs = AllByRecursion (λ x. length x.bits ≤ 62) xs
 
 bits_length : (l : Literal) (w more j : ℕ) → length (bits_from l w more j) ≡ more
 bits_length l w zero j = refl
 bits_length l w (suc more) j = ap suc (bits_length l w more (j + 1))
 
-round_short : (fresh : ℕ) (xs : List Number) → AreShort xs → most_of xs < 2 ^ 62
+round_short : (fresh : ℕ) (xs : List BinaryNumber) → AreShort xs → most_of xs < 2 ^ 62
     → AreShort (round fresh xs).numbers
 round_short fresh [] h small = tt
 round_short fresh (x ∷ []) h small = h
@@ -302,7 +304,7 @@ round_short fresh (x ∷ y ∷ more) h small = (
   round_short (fresh + 2 * length (addition fresh x y).cells) more h.1.1 (omega arith),
 )
 
-rounds_outputs : (steps fresh : ℕ) (xs : List Number) → AreShort xs → most_of xs < 2 ^ 62
+rounds_outputs : (steps fresh : ℕ) (xs : List BinaryNumber) → AreShort xs → most_of xs < 2 ^ 62
     → length (rounds steps fresh xs).outputs ≤ 62
 rounds_outputs steps fresh [] h small = omega arith
 rounds_outputs steps fresh (x ∷ []) h small = h.0
@@ -335,7 +337,7 @@ along_tree_outputs es fresh small =
 
 -- Q holds of the variables
 module _ (Q : ℕ → Type 0) where
-  abbrev pub AreNumbersOf : List Number → Type 0
+  abbrev pub AreNumbersOf : List BinaryNumber → Type 0
   AreNumbersOf xs = AllByRecursion (λ x. AllByRecursion (IsOutputOf Q) x.bits) xs
 
   pub at_of : (bits : List (Option Literal)) (j : ℕ) → AllByRecursion (IsOutputOf Q) bits
@@ -368,7 +370,7 @@ module _ (Q : ℕ → Type 0) where
   numbers_of-with es h =
       all_with (lightest es) (sorted-all (λ e. (e.soft).weight) (λ e. Q (e.literal).variable) es h)
 
-  pub addition_with : (n : ℕ) (x y : Number) → AllByRecursion (IsOutputOf Q) x.bits
+  pub addition_with : (n : ℕ) (x y : BinaryNumber) → AllByRecursion (IsOutputOf Q) x.bits
       → AllByRecursion (IsOutputOf Q) y.bits
       → ((v : ℕ) → n ≤ v → v < n + 2 * length (addition n x y).cells → Q v)
       → AllByRecursion (IsCellWith Q) (addition n x y).cells
@@ -379,7 +381,7 @@ module _ (Q : ℕ → Type 0) where
       (λ j. of_append Q (literal_at x.bits j) (literal_at y.bits j) (at_of x.bits j h)
       (at_of y.bits j k)) tt f
 
-  pub round_with : (n : ℕ) (xs : List Number) → AreNumbersOf xs
+  pub round_with : (n : ℕ) (xs : List BinaryNumber) → AreNumbersOf xs
       → ((v : ℕ) → n ≤ v → v < n + 2 * length (round n xs).cells → Q v)
       → AllByRecursion (IsCellWith Q) (round n xs).cells × AreNumbersOf (round n xs).numbers
   round_with n [] h f = (tt, tt)
@@ -393,7 +395,7 @@ module _ (Q : ℕ → Type 0) where
       let r = round_with next more h.1.1 (λ v l u. f v (omega arith) (omega (arith, many))) in
       (all_append Q sum.cells rest.cells a.0 r.0, (a.1, r.1))
 
-  rounds_with : (steps n : ℕ) (xs : List Number) → AreNumbersOf xs
+  rounds_with : (steps n : ℕ) (xs : List BinaryNumber) → AreNumbersOf xs
       → ((v : ℕ) → n ≤ v → v < n + 2 * length (rounds steps n xs).cells → Q v)
       → AllByRecursion (IsCellWith Q) (rounds steps n xs).cells
       × AllByRecursion (IsOutputOf Q) (rounds steps n xs).outputs
@@ -419,7 +421,7 @@ module _ (Q : ℕ → Type 0) where
   along_tree_with es n h f = rounds_with (length es) n (numbers_of es) (numbers_of-with es h) f
 
 -- each cell adds what is below its variables
-abbrev pub AreNumbersBelow : ℕ → List Number → Type 0
+abbrev pub AreNumbersBelow : ℕ → List BinaryNumber → Type 0
 AreNumbersBelow n xs = AreNumbersOf (λ v. v < n) xs
 
 outputs_more : (n m : ℕ) (bits : List (Option Literal)) → n ≤ m
@@ -428,11 +430,12 @@ outputs_more n m [] le h = tt
 outputs_more n m (None ∷ bits) le h = (tt, outputs_more n m bits le h.1)
 outputs_more n m (Some l ∷ bits) le h = (omega (arith, h.0), outputs_more n m bits le h.1)
 
-numbers_more : (n m : ℕ) (xs : List Number) → n ≤ m → AreNumbersBelow n xs → AreNumbersBelow m xs
+numbers_more : (n m : ℕ) (xs : List BinaryNumber) → n ≤ m → AreNumbersBelow n xs
+    → AreNumbersBelow m xs
 numbers_more n m [] le h = tt
 numbers_more n m (x ∷ xs) le h = (outputs_more n m x.bits le h.0, numbers_more n m xs le h.1)
 
-addition_chain : (n : ℕ) (x y : Number) → AllByRecursion (IsOutputOf (λ v. v < n)) x.bits
+addition_chain : (n : ℕ) (x y : BinaryNumber) → AllByRecursion (IsOutputOf (λ v. v < n)) x.bits
     → AllByRecursion (IsOutputOf (λ v. v < n)) y.bits → IsChain n (addition n x y).cells
 addition_chain n x y h k =
     columns_chain (λ j. literal_at x.bits j ++ literal_at y.bits j)
@@ -440,7 +443,7 @@ addition_chain n x y h k =
     (λ j. below_append n (literal_at x.bits j) (literal_at y.bits j) (at_of (λ v. v < n) x.bits j h)
     (at_of (λ v. v < n) y.bits j k)) tt
 
-round_chain : (n : ℕ) (xs : List Number) → AreNumbersBelow n xs → IsChain n (round n xs).cells
+round_chain : (n : ℕ) (xs : List BinaryNumber) → AreNumbersBelow n xs → IsChain n (round n xs).cells
 round_chain n [] h = tt
 round_chain n (x ∷ []) h = tt
 round_chain n (x ∷ y ∷ more) h =
@@ -449,7 +452,7 @@ round_chain n (x ∷ y ∷ more) h =
     chain_append n sum.cells (round next more).cells next refl (addition_chain n x y h.0 h.1.0)
     (round_chain next more (numbers_more n next more (omega arith) h.1.1))
 
-rounds_chain : (steps n : ℕ) (xs : List Number) → AreNumbersBelow n xs
+rounds_chain : (steps n : ℕ) (xs : List BinaryNumber) → AreNumbersBelow n xs
     → IsChain n (rounds steps n xs).cells
 rounds_chain steps n [] h = tt
 rounds_chain steps n (x ∷ []) h = tt

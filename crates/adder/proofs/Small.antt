@@ -7,7 +7,7 @@ use Rattle.std.proofs.lemmas.List.{length-append, length-map}
 use Rattle.std.proofs.lemmas.List.Sums.{length-filter, count_by-le-length}
 use Rattle.cnf.specs.Literal.{Literal, positive}
 use Rattle.cnf.specs.Problem.{Problem, SoftClause}
-use Rattle.adder.specs.declared.cells.Profile.{Profile}
+use Rattle.adder.specs.declared.profiles.Profile.{Profile}
 use Rattle.adder.specs.declared.profiles.Relaxing.{Relaxing}
 use Rattle.adder.specs.Network.{relaxing_of}
 use Rattle.adder.specs.Network.{Relaxed, bit, binary_length, relaxed_one, relaxed_from, relaxed_as}

@@ -7,7 +7,7 @@ use Rattle.cnf.specs.Literal.{Literal}
 use Rattle.adder.specs.declared.cells.Cell.{Cell}
 use Rattle.adder.specs.declared.relaxations.Relaxation.{Relaxation}
 use Rattle.std.specs.Result.{IfOk}
-use Rattle.adder.specs.Network.{Adders, Relaxed, Number, bit, binary_length, column_of}
+use Rattle.adder.specs.Network.{Adders, Relaxed, BinaryNumber, bit, binary_length, column_of}
 use Rattle.adder.specs.Network.{columns_from, along_columns, number_of, rounds, lightest_first}
 use Rattle.adder.specs.Network.{numbers_of, along_tree}
 use Rattle.adder.specs.Parts.{relaxation_of, literals_with, column_from, lightest_numbers}
@@ -54,7 +54,7 @@ number_map : (es : List Relaxed)
     ≡ map (λ e. number_of e.literal (e.soft).weight) es
 number_map [] = refl
 number_map (e ∷ es) =
-    ap (λ (xs : List Number). number_of e.literal (e.soft).weight ∷ xs) (number_map es)
+    ap (λ (xs : List BinaryNumber). number_of e.literal (e.soft).weight ∷ xs) (number_map es)
 
 pub numbers_are : (es : List Relaxed) {rs : List Relaxation} → rs ≡ map relaxation_of es
     → lightest_numbers rs ≡ numbers_of es

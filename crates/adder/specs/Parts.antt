@@ -4,7 +4,7 @@ use Rattle.cnf.specs.Literal.{Literal, negation}
 use Rattle.adder.specs.declared.profiles.Relaxing.{Relaxing}
 use Rattle.adder.specs.declared.profiles.Relaxing.TheVariants.{EachByVariable, UnitsByNegation}
 use Rattle.adder.specs.declared.relaxations.Relaxation.{Relaxation}
-use Rattle.adder.specs.Network.{Adders, Relaxed, Column, Number, bit, added_up, number_of}
+use Rattle.adder.specs.Network.{Adders, Relaxed, Column, BinaryNumber, bit, added_up, number_of}
 use Rattle.adder.specs.Network.{lightest_first, rounds}
 
 -- the relaxation literal of a clause that takes no fresh variable
@@ -27,17 +27,17 @@ abbrev pub column_from : ℕ → List Literal → Column
 column_from n ls = added_up (length ls) n ls
 
 -- the weights as numbers, and light ones first
-abbrev pub numbers_with : List Relaxation → List Number
+abbrev pub numbers_with : List Relaxation → List BinaryNumber
 numbers_with rs = map (λ r. number_of r.lit r.weight) rs
 
-abbrev pub lightest_numbers : List Relaxation → List Number
+abbrev pub lightest_numbers : List Relaxation → List BinaryNumber
 lightest_numbers rs = numbers_with (lightest_first (λ r. r.weight) rs)
 
 -- the most that numbers can be together
-abbrev pub most_of : List Number → ℕ
+abbrev pub most_of : List BinaryNumber → ℕ
 most_of [] = 0
 most_of (x ∷ xs) = x.most + most_of xs
 
 -- the numbers added up to their end, with the variables from n on
-abbrev pub tree_from : ℕ → List Number → Adders
+abbrev pub tree_from : ℕ → List BinaryNumber → Adders
 tree_from n xs = rounds (length xs) n xs

@@ -3,7 +3,7 @@ use Rattle.std.specs.Prelude.{◌≡◌, ℕ, ◌+◌, ◌^◌, List, [], ◌∷
 use Rattle.std.specs.Prelude.{replicate, refl}
 use Rattle.cnf.specs.Literal.{Literal, positive}
 use Rattle.adder.specs.declared.cells.Cell.{Cell}
-use Rattle.adder.specs.declared.cells.Profile.TheVariants.{Three}
+use Rattle.adder.specs.declared.profiles.Profile.TheVariants.{Three}
 use Rattle.adder.specs.Network.{Adders, adders_as}
 
 -- one variable, and a soft clause of each weight

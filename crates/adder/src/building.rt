@@ -4,10 +4,9 @@ ghost use Rattle.cnf.specs.declared.limits.TheConstants.{FORMULA_VARIABLE_LIMIT}
 ghost use Rattle.adder.specs.Network.{columns_from, adders_as, AddsUp};
 ghost use Rattle.adder.specs.Parts.{literals_with};
 
-use crate::cells::Profile;
 use crate::columns::{Adder, push_bit};
 use crate::networks::Network;
-use crate::profiles::Adding;
+use crate::profiles::{Adding, Profile};
 use crate::relaxations::Relaxations;
 use crate::trees::add_tree;
 use cnf::types::Instance;

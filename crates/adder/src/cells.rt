@@ -1,4 +1,4 @@
-// Cells and profiles.
+// Cells: full and half adders.
 use cnf::types::Lit;
 
 /// A full adder of three literals, or a half adder of two: its carry is worth two and its sum one,
@@ -16,25 +16,4 @@ pub struct Cell {
     pub sum: u32,
     /// The variable of the carry: true where two inputs or more are true.
     pub carry: u32,
-}
-
-/// How soft clauses are relaxed, by literals that are true where a clause may be falsified, and how
-/// the weights of those are added up.
-#[derive(Clone, Copy, Debug, PartialEq, Eq, Drop)]
-pub enum Profile {
-    /// Each soft clause, in their order, by the next variable after those of the instance. The
-    /// weights are added column by column.
-    One,
-    /// A soft clause of just one literal by the negation of that literal; each other one by the
-    /// next variable after those of the instance. The weights are added column by column.
-    Two,
-    /// Relaxed as in `One`. The weights are added in pairs along a balanced tree, light ones first,
-    /// so that sums of few of them are known early.
-    Three,
-    /// Relaxed as in `One`. The weights are added by sums over groups of soft clauses, along a tree
-    /// that follows the hard clauses; where these would take too many clauses, as in `Three`.
-    Four,
-    /// Relaxed and added up as in `Four`. A certificate may bring cores, whose clauses then stand
-    /// in place of the sums.
-    Five,
 }

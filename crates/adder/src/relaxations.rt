@@ -5,8 +5,7 @@ ghost use Rattle.cnf.specs.Instance.{IsInstance};
 ghost use Rattle.adder.specs.Network.{relaxed_as, relaxed_variables, total_weight, binary_length};
 ghost use Rattle.adder.specs.Parts.{relaxation_of, own_relaxation};
 
-use crate::cells::Profile;
-use crate::profiles::Relaxing;
+use crate::profiles::{Profile, Relaxing};
 use cnf::fresh::Fresh;
 use cnf::types::{Clause, Instance, Lit, Soft};
 use std::alloc::AllocError;

@@ -15,22 +15,22 @@ use std::marker::Model;
 
 /// A number in binary.
 #[derive(Drop)]
-struct Number {
+struct BinaryNumber {
     /// From that of 1 up, one for each binary digit of `most`; a missing one is 0.
     bits: Vec<Option<Lit>>,
     /// The most that the number can be: the weights that it adds up.
     most: u64,
 }
 
-impl Model for Number {
-    ghost use Rattle.adder.specs.Network.{Number as Numeral};
+impl Model for BinaryNumber {
+    ghost use Rattle.adder.specs.Network.{BinaryNumber as Numeral};
 
     ghost Value = { Numeral };
 
     ghost view = { λ n. record { bits = n.bits.items; most = n.most } };
 }
 
-impl Number {
+impl BinaryNumber {
     /// The weight where the relaxation literal is true, and else 0.
     fn of(alloc: Global, relaxation: &Relaxation) -> Result<Self, AllocError>
         requires { relaxation.now.weight < 2 ^ 63 }
@@ -42,14 +42,14 @@ impl Number {
         for j in 0..digits {
             bits.push(bit_of(relaxation, j))?;
         }
-        Ok(Number { bits, most })
+        Ok(BinaryNumber { bits, most })
     }
 
     /// The same number.
     fn copy(&self) -> Result<Self, AllocError>
         ensures { IfOk result (λ n. n ≡ self.now) }
     {
-        Ok(Number {
+        Ok(BinaryNumber {
             bits: self.bits.clone()?,
             most: self.most,
         })
@@ -68,7 +68,7 @@ impl Number {
     /// The sum of the two, column by column.
     fn plus(
         &self,
-        other: &Number,
+        other: &BinaryNumber,
         adder: &mut Adder,
         column: &mut Vec<Lit>,
     ) -> Result<Self, AllocError>
@@ -94,7 +94,7 @@ impl Number {
             fill(column, self, other, j)?;
             bits.push(adder.add_column(column)?)?;
         }
-        Ok(Number { bits, most })
+        Ok(BinaryNumber { bits, most })
     }
 }
 
@@ -118,7 +118,7 @@ fn bit_at(bits: &[Option<Lit>], j: usize) -> Option<Lit>
 }
 
 /// Makes a column of the bits of 2^j.
-fn fill(column: &mut Vec<Lit>, x: &Number, y: &Number, j: u32) -> Result<(), AllocError>
+fn fill(column: &mut Vec<Lit>, x: &BinaryNumber, y: &BinaryNumber, j: u32) -> Result<(), AllocError>
     ensures { OnOk result (column.new.items ≡ literal_at x.now.bits j ++ literal_at y.now.bits j) }
 {
     column.clear();
@@ -151,19 +151,23 @@ fn sort(relaxations: &mut Vec<Relaxation>) -> Result<(), AllocError>
 }
 
 /// The weights as numbers.
-fn numbers_of(alloc: Global, relaxations: &[Relaxation]) -> Result<Vec<Number>, AllocError>
+fn numbers_of(alloc: Global, relaxations: &[Relaxation]) -> Result<Vec<BinaryNumber>, AllocError>
     requires { most_of (numbers_with relaxations.now) < 2 ^ 63 }
     ensures { IfOk result (λ ns. ns.items ≡ numbers_with relaxations.now) }
 {
     let mut numbers = Vec::with_capacity(alloc, relaxations.len())?;
     for relaxation in relaxations {
-        numbers.push(Number::of(alloc, relaxation)?)?;
+        numbers.push(BinaryNumber::of(alloc, relaxation)?)?;
     }
     Ok(numbers)
 }
 
 /// Adds numbers in rounds until one is left.
-fn add_rounds(alloc: Global, fresh: Fresh, numbers: Vec<Number>) -> Result<Network, AllocError>
+fn add_rounds(
+    alloc: Global,
+    fresh: Fresh,
+    numbers: Vec<BinaryNumber>,
+) -> Result<Network, AllocError>
     requires most { most_of numbers.items < 2 ^ 63 }
     requires small { fresh + 2 * length (tree_from fresh numbers.items).cells
         ≤ FORMULA_VARIABLE_LIMIT }
@@ -185,8 +189,8 @@ fn add_rounds(alloc: Global, fresh: Fresh, numbers: Vec<Number>) -> Result<Netwo
 fn add_round(
     alloc: Global,
     adder: &mut Adder,
-    numbers: &[Number],
-) -> Result<Vec<Number>, AllocError>
+    numbers: &[BinaryNumber],
+) -> Result<Vec<BinaryNumber>, AllocError>
     requires most { most_of numbers.now < 2 ^ 63 }
     requires small { adder.old.fresh
         + 2 * length (round adder.old.fresh numbers.now).cells ≤ FORMULA_VARIABLE_LIMIT }

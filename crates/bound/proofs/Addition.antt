@@ -3,8 +3,8 @@ use Rattle.std.proofs.Common.{◌≡◌, ℕ, suc, ◌+◌, ◌∷◌, [], List,
 use Rattle.std.proofs.Common.{◌++◌, refl, ◌∙◌, ap}
 use Rattle.cnf.specs.Literal.{Literal, positive}
 use Rattle.cnf.specs.Problem.{Problem, SoftClause}
-use Rattle.adder.specs.declared.cells.Profile.{Profile}
-use Rattle.adder.specs.declared.cells.Profile.TheVariants.{One, Two, Three, Four, Five}
+use Rattle.adder.specs.declared.profiles.Profile.{Profile}
+use Rattle.adder.specs.declared.profiles.Profile.TheVariants.{One, Two, Three, Four, Five}
 use Rattle.adder.specs.declared.profiles.Relaxing.TheVariants.{EachByVariable}
 use Rattle.adder.specs.Network.{relaxing_of, relaxed_from, relaxed_variables, adders_as}
 use Rattle.sums_tree.specs.Arranging.{tree}

@@ -13,7 +13,7 @@ use Rattle.cnf.specs.Clause.{Satisfies, clause_value, greatest_variable}
 use Rattle.cnf.specs.Problem.{Problem, SoftClause, IsFeasible, cost_under, cost_of, AreWithin}
 use Rattle.cnf.specs.Instance.{IsInstance, IsClauseWithin}
 use Rattle.adder.specs.declared.cells.Cell.{Cell}
-use Rattle.adder.specs.declared.cells.Profile.{Profile}
+use Rattle.adder.specs.declared.profiles.Profile.{Profile}
 use Rattle.adder.specs.declared.profiles.Relaxing.{Relaxing}
 use Rattle.adder.specs.Network.{relaxing_of}
 use Rattle.adder.specs.Network.{Relaxed, relaxed_one, relaxed_from, relaxed_as, relaxed_variables}

@@ -10,7 +10,7 @@ use Rattle.cnf.specs.Literal.{Literal, literal_eq}
 use Rattle.cnf.specs.Clause.{without_literal, distinct, is_tautology}
 use Rattle.cnf.specs.Problem.{Problem}
 use Rattle.cnf.proofs.Laws.{all_append}
-use Rattle.adder.specs.declared.cells.Profile.{Profile}
+use Rattle.adder.specs.declared.profiles.Profile.{Profile}
 use Rattle.adder.specs.Network.{bit, adders_as}
 use Rattle.adder.proofs.Laws.{AreOf, IsOutputOf}
 use Rattle.sums.specs.Sums.{AtLeast, Node, comparator, with_digit, ones, led as led_by}

@@ -16,7 +16,7 @@ use Rattle.cnf.specs.Instance.{IsInstance, IsClauseWithin}
 use Rattle.cnf.specs.Numbers.{RisesFrom}
 use Rattle.cnf.specs.Problem.{Problem, SoftClause, IsFeasible, cost_under}
 use Rattle.cnf.proofs.Laws.{all_append, all_weaker, literal_eq_ne, rises_weaker}
-use Rattle.adder.specs.declared.cells.Profile.TheVariants.{Five}
+use Rattle.adder.specs.declared.profiles.Profile.TheVariants.{Five}
 use Rattle.adder.specs.declared.profiles.Relaxing.TheVariants.{EachByVariable}
 use Rattle.adder.specs.Network.{SameUpTo, relaxed_as, relaxed_from}
 use Rattle.adder.proofs.Laws.{IsRelaxedTightly}

@@ -12,7 +12,7 @@ use Rattle.cnf.specs.Clause.{distinct, is_tautology}
 use Rattle.cnf.specs.Problem.{Problem}
 use Rattle.cnf.specs.Instance.{IsInstance}
 use Rattle.adder.specs.declared.cells.Cell.{Cell}
-use Rattle.adder.specs.declared.cells.Profile.{Profile}
+use Rattle.adder.specs.declared.profiles.Profile.{Profile}
 use Rattle.adder.specs.Network.{Relaxed, bit, relaxed_as, adders_as}
 use Rattle.adder.proofs.Laws.{filter_le, fresh_few, outputs_few, cells_few}
 use Rattle.bound.specs.Bound.{kept, hard_cnf, cell_clauses, relaxed_clauses, above, rising_clauses}

@@ -13,7 +13,7 @@ use Rattle.cnf.specs.Problem.{Problem, SoftClause}
 use Rattle.cnf.specs.Instance.{IsInstance, IsClauseWithin}
 use Rattle.cnf.proofs.Laws.{all_append, repeat_distinct}
 use Rattle.adder.specs.declared.cells.Cell.{Cell}
-use Rattle.adder.specs.declared.cells.Profile.{Profile}
+use Rattle.adder.specs.declared.profiles.Profile.{Profile}
 use Rattle.adder.specs.Network.{relaxing_of, Relaxed, relaxed_as, relaxed_variables, adders_as}
 use Rattle.adder.proofs.Laws.{adders_with, adds_up, AreOf, IsOutputOf, IsCellWith, relaxed_with}
 use Rattle.sums.specs.Sums.{HaveVariables, comparator}

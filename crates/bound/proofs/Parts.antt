@@ -3,7 +3,7 @@ use Rattle.std.proofs.Common.{◌≡◌, ℕ, List, [], ◌++◌, ◌∙◌, ap}
 use Rattle.cnf.specs.Literal.{Literal}
 use Rattle.cnf.specs.Problem.{Problem}
 use Rattle.cnf.specs.Formula.{Cnf}
-use Rattle.adder.specs.declared.cells.Profile.{Profile}
+use Rattle.adder.specs.declared.profiles.Profile.{Profile}
 use Rattle.adder.specs.Network.{relaxed_variables}
 use Rattle.bound.specs.declared.additions.Addition.{Addition}
 use Rattle.bound.specs.Bound.{kept, relaxed_clauses, addition_as, addition_clauses, last_variable}

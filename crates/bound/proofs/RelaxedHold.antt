@@ -8,7 +8,7 @@ use Rattle.cnf.specs.Clause.{Satisfies, clause_value, greatest_variable}
 use Rattle.cnf.specs.Problem.{Problem, SoftClause, IsFeasible}
 use Rattle.cnf.specs.Instance.{IsInstance, IsClauseWithin}
 use Rattle.cnf.proofs.Laws.{all_append}
-use Rattle.adder.specs.declared.cells.Profile.TheVariants.{Five}
+use Rattle.adder.specs.declared.profiles.Profile.TheVariants.{Five}
 use Rattle.adder.specs.declared.profiles.Relaxing.TheVariants.{EachByVariable}
 use Rattle.adder.specs.Network.{relaxed_from, SameUpTo}
 use Rattle.bound.specs.Bound.{kept, relaxed_clauses}

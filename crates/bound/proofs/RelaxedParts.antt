@@ -5,7 +5,7 @@ use Rattle.cnf.specs.Literal.{Literal}
 use Rattle.cnf.specs.Formula.{Cnf, IsFormula, IsFormulaClause}
 use Rattle.cnf.specs.Problem.{Problem}
 use Rattle.cnf.specs.Instance.{IsInstance}
-use Rattle.adder.specs.declared.cells.Profile.TheVariants.{Five}
+use Rattle.adder.specs.declared.profiles.Profile.TheVariants.{Five}
 use Rattle.adder.specs.Network.{relaxed_variables}
 use Rattle.bound.specs.Relaxed.{relaxed_cnf}
 use Rattle.bound.proofs.Addition.{each_count}

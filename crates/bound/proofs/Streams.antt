@@ -16,7 +16,7 @@ use Rattle.text.proofs.Laws.{writes_after}
 use Rattle.cnf.specs.Problem.{Problem}
 use Rattle.cnf.specs.Instance.{IsInstance}
 use Rattle.adder.specs.declared.cells.Cell.{Cell}
-use Rattle.adder.specs.declared.cells.Profile.{Profile}
+use Rattle.adder.specs.declared.profiles.Profile.{Profile}
 use Rattle.bound.specs.declared.additions.Addition.{Addition}
 use Rattle.bound.specs.Bound.{kept, bound_as, cell_clauses, dimacs_clause, dimacs_text, header_line}
 use Rattle.bound.specs.Bound.{relaxed_clauses, addition_as, addition_clauses, comparator_over}

@@ -13,8 +13,8 @@ use Rattle.cnf.specs.declared.limits.TheConstants.{NUMBER_LIMIT}
 use Rattle.text.specs.Text.{literal_text}
 use Rattle.text.specs.Writing.{spaced}
 use Rattle.adder.specs.declared.cells.Cell.{Cell}
-use Rattle.adder.specs.declared.cells.Profile.{Profile}
-use Rattle.adder.specs.declared.cells.Profile.TheVariants.{One, Five}
+use Rattle.adder.specs.declared.profiles.Profile.{Profile}
+use Rattle.adder.specs.declared.profiles.Profile.TheVariants.{One, Five}
 use Rattle.adder.specs.declared.profiles.Adding.{Adding}
 use Rattle.adder.specs.declared.profiles.Adding.TheVariants.{Columns, Tree as AlongTree}
 use Rattle.adder.specs.declared.profiles.Adding.TheVariants.{Sums as BySums}

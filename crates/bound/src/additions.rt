@@ -7,7 +7,7 @@ ghost use Rattle.bound.specs.Adding.{HasRoom, IsFit};
 use crate::cells::keep_cells;
 use crate::kept_clauses::keep_all;
 use adder::building::network_as;
-use adder::cells::Profile;
+use adder::profiles::Profile;
 use adder::networks::Network;
 use adder::profiles::Adding;
 use cnf::clause_list::ClauseList;

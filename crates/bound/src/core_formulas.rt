@@ -10,7 +10,7 @@ ghost use Rattle.cores.specs.Spans.{IsLiteralVariable};
 
 use crate::formulas::keep_given;
 use crate::kept_clauses::keep_all;
-use adder::cells::Profile;
+use adder::profiles::Profile;
 use cnf::clause_list::ClauseList;
 use cnf::types::{Formula, Instance, Lit};
 use cores::counting::Counter;

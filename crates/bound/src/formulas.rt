@@ -13,7 +13,7 @@ pub use crate::hard::hard_formula;
 use crate::hard::keep_hard;
 pub use crate::relaxed::relaxed_formula;
 use crate::relaxing::keep_relaxed;
-use adder::cells::Profile;
+use adder::profiles::Profile;
 use cnf::clause_list::ClauseList;
 use cnf::marks::Marks;
 use cnf::types::{Formula, Instance};

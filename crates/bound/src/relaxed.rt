@@ -3,7 +3,7 @@ ghost use Rattle.std.specs.Prelude.{◌≡◌, ◌+◌, ◌≤◌, ◌^◌, leng
 ghost use Rattle.bound.specs.Relaxed.{relaxed_cnf};
 
 use crate::formulas::keep_given;
-use adder::cells::Profile;
+use adder::profiles::Profile;
 use cnf::clause_list::ClauseList;
 use cnf::types::{Formula, Instance};
 use std::alloc::AllocError;

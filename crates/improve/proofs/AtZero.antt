@@ -10,7 +10,7 @@ use Rattle.cnf.specs.Lrat.{Addition, IsAddable, start_of, with_clause}
 use Rattle.cnf.specs.Problem.{Problem}
 use Rattle.lrat_log.specs.Log.{LogLine}
 use Rattle.lrat_log.proofs.Laws.{numbered_right}
-use Rattle.adder.specs.declared.cells.Profile.{Profile}
+use Rattle.adder.specs.declared.profiles.Profile.{Profile}
 use Rattle.bound.specs.Bound.{bound_as, addition_as, fixed_clauses}
 use Rattle.improve.specs.Improving.{IsSolution, IsAcceptedOver, IsClauseCount, IsRightFound}
 use Rattle.improve.specs.Improving.{repeats_empty, IsRefutation}

@@ -6,7 +6,7 @@ use Rattle.cnf.specs.Problem.{Problem}
 use Rattle.cnf.specs.Instance.{IsInstance}
 use Rattle.cnf.proofs.Laws.{certificate_sound}
 use Rattle.lrat_log.specs.Log.{LogLine, numbered_lines}
-use Rattle.adder.specs.declared.cells.Profile.TheVariants.{Five}
+use Rattle.adder.specs.declared.profiles.Profile.TheVariants.{Five}
 use Rattle.bound.specs.Bound.{core_cnf}
 use Rattle.bound.proofs.Laws.{refutes_cheaper}
 use Rattle.cores.specs.Cores.{Core, no_cores, count_cores, first_relaxation}

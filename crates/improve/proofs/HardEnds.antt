@@ -17,7 +17,7 @@ use Rattle.lrat_log.specs.Steps.{IsLogOver, IsAcceptedLog, IsBaseOf, AddsNoEmpty
 use Rattle.lrat_log.specs.Steps.{nothing_exempt, learned_count}
 use Rattle.lrat_log.proofs.Laws.{base_of, clauses_given}
 use Rattle.lrat_log.proofs.Laws.{accepts_of_log, steps_of_log}
-use Rattle.adder.specs.declared.cells.Profile.{Profile}
+use Rattle.adder.specs.declared.profiles.Profile.{Profile}
 use Rattle.bound.specs.Bound.{hard_cnf}
 use Rattle.bound.proofs.Laws.{feasible}
 use Rattle.bound.proofs.Laws.{hard_few}

@@ -18,7 +18,7 @@ use Rattle.lrat_log.specs.Log.{LogLine, clauses_in}
 use Rattle.lrat_log.specs.Steps.{IsLogOver, IsAcceptedLog, AddsNoEmptyClause, is_empty_clause}
 use Rattle.lrat_log.specs.Steps.{LearnsNew, is_later, learned_count, given_of}
 use Rattle.lrat_log.specs.Rebase.{WeakerList, rebased, IsWeakerOf, IsSomeClause, KeepsLog}
-use Rattle.adder.specs.declared.cells.Profile.{Profile}
+use Rattle.adder.specs.declared.profiles.Profile.{Profile}
 use Rattle.bound.specs.Bound.{bound_as, addition_as, fixed_clauses, comparator_for}
 use Rattle.bound.proofs.Laws.{covers_larger_over, without_bound, bound_is_formula}
 use Rattle.lrat_log.proofs.Laws.{numbered_right, open_rebased, learned_rebased}

@@ -16,7 +16,7 @@ use Rattle.lrat_log.specs.Steps.{IsAcceptedLog, AddsNoEmptyClause, LearnsNew, is
 use Rattle.lrat_log.specs.Steps.{learned_count}
 use Rattle.lrat_log.specs.Rebase.{weaker_line, moved_line, rebased}
 use Rattle.lrat_log.proofs.Laws.{accepts_of_log, steps_of_log}
-use Rattle.adder.specs.declared.cells.Profile.{Profile}
+use Rattle.adder.specs.declared.profiles.Profile.{Profile}
 use Rattle.bound.specs.Bound.{bound_as, fixed_clauses, comparator_for}
 use Rattle.bound.proofs.Laws.{says_cheaper}
 use Rattle.bound.proofs.Laws.{clauses_few}

@@ -3,7 +3,7 @@ use Rattle.std.proofs.Common.{◌≡◌, ℕ, ◌+◌, List, [], ◌∷◌, ◌+
 use Rattle.std.proofs.Common.{sym, subst, All}
 use Rattle.std.specs.Prelude.{IfOk, IfErr}
 use Rattle.cnf.specs.Problem.{Problem}
-use Rattle.adder.specs.declared.cells.Profile.{Profile}
+use Rattle.adder.specs.declared.profiles.Profile.{Profile}
 use Rattle.cdcl_order.specs.Budgets.{BudgetState, left_of}
 use Rattle.improve.specs.declared.found.Found.{Found}
 use Rattle.improve.specs.declared.found.ImproveFault.{ImproveFault}

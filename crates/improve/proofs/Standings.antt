@@ -12,7 +12,7 @@ use Rattle.std.specs.declared.alloc.Global.{Global}
 use Rattle.cnf.specs.Problem.{Problem}
 use Rattle.lrat_log.specs.Log.{LogLine}
 use Rattle.lrat_log.specs.Steps.{learned_count}
-use Rattle.adder.specs.declared.cells.Profile.{Profile}
+use Rattle.adder.specs.declared.profiles.Profile.{Profile}
 use Rattle.cdcl_order.specs.Budgets.{BudgetState, left_of}
 use Rattle.improve_cores.specs.CoreWork.{CoreWork, CountsLearned, IsSearchFor, KeepsFormula}
 use Rattle.improve.specs.declared.found.Found.{Found}

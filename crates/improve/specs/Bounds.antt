@@ -8,7 +8,7 @@ use Rattle.lrat_log.specs.Log.{LogLine, clauses_in}
 use Rattle.lrat_log.specs.Steps.{IsLogOver, IsAcceptedLog, AddsNoEmptyClause, LearnsNew}
 use Rattle.lrat_log.specs.Steps.{is_later, learned_count, given_of}
 use Rattle.lrat_log.specs.Rebase.{rebased}
-use Rattle.adder.specs.declared.cells.Profile.{Profile}
+use Rattle.adder.specs.declared.profiles.Profile.{Profile}
 use Rattle.bound.specs.Bound.{hard_cnf, bound_as, addition_as, fixed_clauses, comparator_for}
 use Rattle.cdcl.specs.Solving.{given_to}
 pub use Rattle.improve_cores.specs.Counting.{LogSolver}

@@ -15,7 +15,7 @@ use Rattle.lrat_log.specs.Log.{LogLine, numbered_lines}
 use Rattle.lrat_log.specs.Steps.{AreSteps, AddsNoEmptyClause, LearnsNew}
 use Rattle.lrat_log.specs.Steps.{nothing_exempt, is_later, given_of, learned_count}
 use Rattle.lrat_log.specs.Rebase.{WeakerList, weaker_line}
-use Rattle.adder.specs.declared.cells.Profile.{Profile}
+use Rattle.adder.specs.declared.profiles.Profile.{Profile}
 use Rattle.cores.specs.Cores.{Core}
 use Rattle.bound.specs.Bound.{hard_cnf, bound_as, fixed_clauses, comparator_for}
 use Rattle.cdcl_order.specs.Budgets.{BudgetState, left_of}

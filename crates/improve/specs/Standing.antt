@@ -4,7 +4,7 @@ use Rattle.std.specs.Prelude.{Option, Some, None, Result, Err, IfSome}
 use Rattle.cnf.specs.Problem.{Problem}
 use Rattle.lrat_log.specs.Log.{LogLine}
 use Rattle.lrat_log.specs.Steps.{learned_count}
-use Rattle.adder.specs.declared.cells.Profile.{Profile}
+use Rattle.adder.specs.declared.profiles.Profile.{Profile}
 use Rattle.cdcl_order.specs.Budgets.{BudgetState}
 use Rattle.improve_cores.specs.Work.{IsSearchWork}
 use Rattle.improve_trials.specs.declared.found.ByCores.{ByCores}

@@ -2,7 +2,7 @@
 use Rattle.std.specs.Prelude.{◌≡◌, [], ◌∷◌, refl, length}
 use Rattle.cnf.specs.Literal.{positive as p, negative as n}
 use Rattle.cnf.specs.Problem.{Problem}
-use Rattle.adder.specs.declared.cells.Profile.TheVariants.{One}
+use Rattle.adder.specs.declared.profiles.Profile.TheVariants.{One}
 use Rattle.bound.specs.Bound.{addition_as, fixed_clauses}
 use Rattle.improve.specs.Improving.{weaker_for}
 

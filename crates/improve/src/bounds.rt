@@ -17,7 +17,7 @@ ghost use Rattle.improve.specs.Improving.{AreFalling, EndsWith, weaker_among};
 
 use crate::frozen::freeze_compared;
 use crate::solutions::{Solution, price};
-use adder::cells::Profile;
+use adder::profiles::Profile;
 use adder::relaxations::{Relaxation, Relaxations};
 use bound::additions::Addition;
 use bound::formulas::{comparator_as, formula_as};
@@ -236,7 +236,10 @@ fn collect_weaker(
 }
 
 /// Gives the clauses, in their order.
-#[tactic(auto, using(crate::proofs::GivenNumbers::gives_none, crate::proofs::GivenNumbers::gives_on))]
+#[tactic(auto, using(
+    crate::proofs::GivenNumbers::gives_none,
+    crate::proofs::GivenNumbers::gives_on
+))]
 fn give_all(solver: &mut Solver<Log>, clauses: &[Clause]) -> Result<(), AllocError>
     requires usable { IsUsable solver.old }
     requires frozen { All (λ c. All (IsFrozen solver.old.frozen) c) clauses.now }

@@ -21,7 +21,7 @@ use crate::solutions::price;
 use crate::stages::{FOR_BOUNDS, FOR_THE_OPTIMUM, Plan, run_stages};
 use crate::standing::Standing;
 use crate::watch::Watch;
-use adder::cells::Profile;
+use adder::profiles::Profile;
 use cdcl::budget::Budget;
 use cnf::types::Instance;
 use improve_cores::counted::Counted;

@@ -25,7 +25,7 @@ use crate::solutions::{Solution, price_polished};
 use crate::standing::Standing;
 use crate::watch::{Silent, Watch};
 use crate::zero::refute_zero;
-use adder::cells::Profile;
+use adder::profiles::Profile;
 use bound::formulas::hard_formula;
 use cdcl::budget::Budget;
 use cdcl::outcome::Outcome;

@@ -19,7 +19,7 @@ use crate::found::{ImproveFault, Work};
 use crate::progress::Progress;
 use crate::standing::Standing;
 use crate::watch::Watch;
-use adder::cells::Profile;
+use adder::profiles::Profile;
 use cdcl::budget::Budget;
 use cnf::types::Instance;
 use improve_cores::searching::CoreSearch;

@@ -5,7 +5,7 @@ ghost use Rattle.cnf.specs.Lrat.{IsId};
 ghost use Rattle.bound.specs.Bound.{bound_as};
 ghost use Rattle.improve.specs.Improving.{IsAcceptedOver, IsClauseCount, repeats_empty};
 
-use adder::cells::Profile;
+use adder::profiles::Profile;
 use bound::formulas::formula_as;
 use cnf::types::Instance;
 use lrat_log::lines::{Hint, Kind, Name, Number};

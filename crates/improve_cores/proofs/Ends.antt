@@ -16,7 +16,7 @@ use Rattle.lrat_log.specs.Log.{LogLine, Given, clauses_in}
 use Rattle.lrat_log.specs.Steps.{IsAcceptedLog, LearnsNew, is_later}
 use Rattle.lrat_log.specs.Steps.{nothing_exempt, given_of, IsLogOver}
 use Rattle.lrat_log.proofs.Laws.{accepts_of_log, clauses_given, steps_of_log}
-use Rattle.adder.specs.declared.cells.Profile.TheVariants.{Five}
+use Rattle.adder.specs.declared.profiles.Profile.TheVariants.{Five}
 use Rattle.bound.specs.Bound.{kept, core_cnf, relaxed_clauses}
 use Rattle.bound.proofs.Laws.{feasible}
 use Rattle.cores.specs.Cores.{Core, Counted, AreCounted}

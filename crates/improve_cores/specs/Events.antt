@@ -7,7 +7,8 @@ use Rattle.improve_cores.specs.CoreWork.{CoreWork, IsModelOf}
 use Rattle.improve_cores.specs.declared.searching.Event.{Event}
 use Rattle.improve_cores.specs.declared.searching.Event.TheVariants.{Model, Closed, Over}
 use Rattle.improve_cores.specs.declared.searching.SearchStep.{SearchStep}
-use Rattle.improve_cores.specs.declared.searching.SearchStep.TheVariants.{Model as Met, On, Over as Ended}
+use Rattle.improve_cores.specs.declared.searching.SearchStep.TheVariants.{Model as Met, On}
+use Rattle.improve_cores.specs.declared.searching.SearchStep.TheVariants.{Over as Ended}
 use Rattle.improve_cores.specs.declared.counted.Counted.{Counted}
 
 -- a model satisfies the formula

@@ -9,8 +9,8 @@ use Rattle.cnf.specs.Instance.{IsInstance}
 use Rattle.cnf.specs.declared.limits.TheConstants.{CLAUSE_LIMIT}
 use Rattle.lrat_log.specs.Log.{LogLine}
 use Rattle.lrat_log.specs.Steps.{AddsNoEmptyClause, learned_count}
-use Rattle.adder.specs.declared.cells.Profile.{Profile}
-use Rattle.adder.specs.declared.cells.Profile.TheVariants.{Five}
+use Rattle.adder.specs.declared.profiles.Profile.{Profile}
+use Rattle.adder.specs.declared.profiles.Profile.TheVariants.{Five}
 use Rattle.cores.specs.Cores.{Core, Counted, AreCounted}
 use Rattle.bound.specs.Bound.{core_cnf}
 use Rattle.cdcl_order.specs.Budgets.{BudgetState}

@@ -9,7 +9,7 @@ use Rattle.cnf.specs.Literal.{Literal}
 use Rattle.cnf.specs.Lrat.{start_of}
 use Rattle.cnf.specs.Problem.{Problem, cost_under}
 use Rattle.text.specs.Text.{token_lines}
-use Rattle.adder.specs.declared.cells.Profile.TheVariants.{Five}
+use Rattle.adder.specs.declared.profiles.Profile.TheVariants.{Five}
 use Rattle.cores.specs.Cores.{Counted}
 use Rattle.bound.specs.Bound.{RefutesCheaper, SaysCheaper, bound_as, core_cnf}
 use Rattle.lrat_check.specs.CoreLines.{HeadState, end_at}

@@ -11,7 +11,7 @@ use Rattle.cnf.specs.Problem.{Problem, IsFeasible, cost_under}
 use Rattle.cnf.specs.Bits.{assignment_of}
 use Rattle.wcnf.specs.declared.faults.FaultKind.{FaultKind}
 use Rattle.wcnf.specs.Reading.{reading_of, ReadingIsRight}
-use Rattle.adder.specs.declared.cells.Profile.{Profile}
+use Rattle.adder.specs.declared.profiles.Profile.{Profile}
 use Rattle.bound.specs.Bound.{hard_cnf}
 use Rattle.bound.proofs.Laws.{kept_once}
 use Rattle.lrat_result.specs.Result.{Said, OptimumFound, Unsatisfiable, Satisfiable, Unknown}

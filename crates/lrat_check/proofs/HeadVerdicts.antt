@@ -10,8 +10,8 @@ use Rattle.cnf.specs.Problem.{Problem}
 use Rattle.cnf.specs.Lrat.{ProofLine, Accepts, start_of}
 use Rattle.text.specs.Text.{token_lines}
 use Rattle.text.specs.LratText.{line_tokens, HasNumbers, has_tokens}
-use Rattle.adder.specs.declared.cells.Profile.{Profile}
-use Rattle.adder.specs.declared.cells.Profile.TheVariants.{Five}
+use Rattle.adder.specs.declared.profiles.Profile.{Profile}
+use Rattle.adder.specs.declared.profiles.Profile.TheVariants.{Five}
 use Rattle.cores.specs.Cores.{Core, Counted, count_cores, first_relaxation, no_cores}
 use Rattle.cores.specs.Cores.{counted_clauses}
 use Rattle.cores.specs.Spelling.{core_tokens, HasCoreNumbers}

@@ -8,7 +8,7 @@ use Rattle.cnf.specs.Formula.{Cnf, IsUnsatisfiable}
 use Rattle.cnf.specs.Problem.{Problem, IsFeasible}
 use Rattle.wcnf.specs.Wcnf.{Reads}
 use Rattle.wcnf.proofs.Laws.{reading_is_right}
-use Rattle.adder.specs.declared.cells.Profile.{Profile}
+use Rattle.adder.specs.declared.profiles.Profile.{Profile}
 use Rattle.bound.specs.Bound.{hard_cnf, bound_as, SaysCheaper}
 use Rattle.lrat_result.specs.declared.report.Report.{Report as ReadReport}
 use Rattle.lrat_result.specs.declared.report.ClaimedSolution.{ClaimedSolution}

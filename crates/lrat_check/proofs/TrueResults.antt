@@ -8,7 +8,7 @@ use Rattle.cnf.specs.Formula.{IsUnsatisfiable}
 use Rattle.cnf.specs.Problem.{Problem, IsFeasible, cost_under, IsOptimal, IsInconsistent}
 use Rattle.wcnf.specs.Wcnf.{Reads}
 use Rattle.wcnf.proofs.Laws.{reads_one}
-use Rattle.adder.specs.declared.cells.Profile.{Profile}
+use Rattle.adder.specs.declared.profiles.Profile.{Profile}
 use Rattle.bound.specs.Bound.{hard_cnf, bound_as, SaysCheaper}
 use Rattle.lrat_result.specs.Result.{Said, Report, Says, report_of}
 use Rattle.lrat_check.specs.Checks.{CostsAtLeast, HasCost, IsTrueOf, IsTrueResult}

@@ -8,8 +8,8 @@ use Rattle.wcnf.specs.Wcnf.{Reads}
 use Rattle.cnf.specs.Lrat.{ProofLine, Accepts}
 use Rattle.text.specs.Text.{token_lines}
 use Rattle.text.specs.LratText.{HasNumbers, has_tokens, line_tokens}
-use Rattle.adder.specs.declared.cells.Profile.{Profile}
-use Rattle.adder.specs.declared.cells.Profile.TheVariants.{One, Five}
+use Rattle.adder.specs.declared.profiles.Profile.{Profile}
+use Rattle.adder.specs.declared.profiles.Profile.TheVariants.{One, Five}
 use Rattle.cores.specs.Cores.{Core, Counted, AreCounted}
 use Rattle.cores.specs.Spelling.{core_tokens, HasCoreNumbers}
 use Rattle.bound.specs.Bound.{hard_cnf, bound_as, core_cnf}

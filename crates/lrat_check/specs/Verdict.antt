@@ -11,8 +11,8 @@ use Rattle.wcnf.specs.declared.faults.FaultKind.{FaultKind}
 use Rattle.wcnf.specs.Reading.{reading_of}
 use Rattle.cnf.specs.Bits.{assignment_of}
 use Rattle.cnf.specs.Lrat.{start_of}
-use Rattle.adder.specs.declared.cells.Profile.{Profile}
-use Rattle.adder.specs.declared.cells.Profile.TheVariants.{One, Five}
+use Rattle.adder.specs.declared.profiles.Profile.{Profile}
+use Rattle.adder.specs.declared.profiles.Profile.TheVariants.{One, Five}
 use Rattle.cores.specs.Cores.{Counted}
 use Rattle.bound.specs.Bound.{hard_cnf, bound_as, core_cnf}
 use Rattle.lrat_result.specs.Result.{Said, OptimumFound, Unsatisfiable, Satisfiable, Unknown}

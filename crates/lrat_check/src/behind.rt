@@ -18,7 +18,7 @@ use crate::core_lines::{CoreLines, HeadStep};
 use crate::heads::CertificateHead;
 use crate::pieces::Checker;
 use crate::verdicts::{Cause, Verdict};
-use adder::cells::Profile;
+use adder::profiles::Profile;
 use bound::formulas::{formula_as, formula_of_cores};
 use cnf::types::{Formula, Instance};
 use std::alloc::AllocError;

@@ -13,7 +13,7 @@ use crate::certificate::check_owned;
 use crate::headed::{check_headed, check_headed_stream};
 use crate::streams::check_stream;
 use crate::verdicts::{Cause, CheckFault, Verdict};
-use adder::cells::Profile;
+use adder::profiles::Profile;
 use bound::formulas::{formula_as, hard_formula};
 use cnf::types::{Formula, Instance};
 use lrat_result::report::{ClaimedSolution, Cost, Report, ReportFault, Said};

@@ -10,7 +10,7 @@ use crate::behind::{falls_short, formula_behind};
 use crate::core_lines::{CoreLines, HeadStep};
 use crate::heads::{CertificateHead, Taken};
 use crate::verdicts::Cause;
-use adder::cells::Profile;
+use adder::profiles::Profile;
 use bound::formulas::formula_as;
 use cnf::types::{Formula, Instance};
 use std::alloc::AllocError;

@@ -8,8 +8,8 @@ use Rattle.lrat_result.specs.declared.report.Said.{Said}
 use Rattle.lrat_result.specs.declared.report.Said.TheVariants.{Optimum, Unsat, Sat, Limit}
 use Rattle.lrat_result.specs.declared.report.Report.{Report as ReadReport}
 use Rattle.lrat_result.specs.declared.report.Heading.{Heading}
-use Rattle.lrat_result.specs.declared.report.Stage.{Stage}
-use Rattle.lrat_result.specs.declared.report.Stage.TheVariants.{Costs, Bits, End}
+use Rattle.lrat_result.specs.declared.report.Reading.{Reading}
+use Rattle.lrat_result.specs.declared.report.Reading.TheVariants.{Costs, Bits, End}
 use Rattle.lrat_result.specs.declared.report.ReportFault.{ReportFault}
 use Rattle.lrat_result.specs.declared.report.ReportFault.TheVariants.{Form, Memory}
 use Rattle.lrat_result.specs.Result.{OptimumFound, Unsatisfiable, Satisfiable, Unknown, Report}
@@ -55,13 +55,13 @@ falls_below None c = true
 falls_below (Some d) c = nat_lt c d.cost
 
 -- the report where these lines still come, each as its tokens
-abbrev pub resumed : Stage → ℕ → List (List (List ℕ)) → Outcome Report ℕ
+abbrev pub resumed : Reading → ℕ → List (List (List ℕ)) → Outcome Report ℕ
 resumed (Costs last) n ls = result_on (last_of last) n ls
 resumed (Bits heading) n ls = with_bits n (report_with heading) ls
 resumed (End report) n ls = ended n (reported report) ls
 
 -- one line on
-abbrev pub IsNextStage : Stage → ℕ → List (List ℕ) → Outcome Stage ReportFault → Type 0
+abbrev pub IsNextStage : Reading → ℕ → List (List ℕ) → Outcome Reading ReportFault → Type 0
 IsNextStage stage n ts (Ok next) =
     (ls : List (List (List ℕ))) → resumed stage n (ts ∷ ls) ≡ resumed next (n + 1) ls
 IsNextStage stage n ts (Err (Form m)) =
@@ -69,7 +69,7 @@ IsNextStage stage n ts (Err (Form m)) =
 IsNextStage stage n ts (Err Memory) = ⊤
 
 -- where these numbered lines are left, the stage gives the report of the text
-pub record GoesOn (text : List ℕ) (stage : Stage) (left : List (ℕ × List ℕ)) : Type 0 where
+pub record GoesOn (text : List ℕ) (stage : Reading) (left : List (ℕ × List ℕ)) : Type 0 where
   pub number : ℕ
   pub lines : List (List ℕ)
   pub numbered : left ≡ enumerate_from number lines

@@ -67,7 +67,7 @@ pub(crate) struct Heading {
 
 /// How far a result was read.
 #[derive(Drop)]
-pub(crate) enum Stage {
+pub(crate) enum Reading {
     /// `o` lines, of which the last is kept.
     Costs(Option<Cost>),
     /// The status was read, and the bits must come.

@@ -10,7 +10,7 @@ ghost use Rattle.lrat_result.specs.Words.{HasWords};
 ghost use Rattle.lrat_result.specs.Report.{IsNextStage, IsReadReport, falls_below, reported};
 ghost use Rattle.lrat_result.specs.Report.{report_with};
 
-use crate::report::{Claim, ClaimedSolution, Cost, Heading, Report, ReportFault, Said, Stage};
+use crate::report::{Claim, ClaimedSolution, Cost, Heading, Reading, Report, ReportFault, Said};
 use crate::words::{Words, words_of};
 use cnf::limits::NUMBER_LIMIT;
 use std::alloc::{AllocError, Global};
@@ -20,18 +20,23 @@ use text::cutting::{lines, number};
 pub fn read_report(alloc: Global, text: &[u8]) -> Result<Report, ReportFault>
     ensures { IsReadReport text.now result }
 {
-    let mut stage = Stage::Costs(None);
+    let mut stage = Reading::Costs(None);
     for (number, line) in lines(text) {
         stage = stage_after(alloc, stage, number, line)?;
     }
     match stage {
-        Stage::End(report) => Ok(report),
+        Reading::End(report) => Ok(report),
         _ => Err(ReportFault::Form(0)),
     }
 }
 
 // One line on. A line without tokens and a comment change nothing, wherever they stand.
-fn stage_after(alloc: Global, stage: Stage, number: u64, line: &[u8]) -> Result<Stage, ReportFault>
+fn stage_after(
+    alloc: Global,
+    stage: Reading,
+    number: u64,
+    line: &[u8],
+) -> Result<Reading, ReportFault>
     ensures { IsNextStage stage number (tokens_of line.now) result }
 {
     let words = words_of(line);
@@ -39,40 +44,40 @@ fn stage_after(alloc: Global, stage: Stage, number: u64, line: &[u8]) -> Result<
         return Ok(stage);
     }
     match stage {
-        Stage::Costs(last) => after_costs(last, number, words),
-        Stage::Bits(heading) => after_status(alloc, heading, number, words),
-        Stage::End(_) => Err(ReportFault::Form(number)),
+        Reading::Costs(last) => after_costs(last, number, words),
+        Reading::Bits(heading) => after_status(alloc, heading, number, words),
+        Reading::End(_) => Err(ReportFault::Form(number)),
     }
 }
 
 // After the costs so far, on a line that is not ignored: a cost or the status.
-fn after_costs(last: Option<Cost>, line: u64, words: Words<'_>) -> Result<Stage, ReportFault>
+fn after_costs(last: Option<Cost>, line: u64, words: Words<'_>) -> Result<Reading, ReportFault>
     ensures next { (ts : List (List ℕ)) → HasWords ts words.entry → is_ignored ts ≡ false
-        → IsNextStage (Stage.Costs last) line ts result }
+        → IsNextStage (Reading.Costs last) line ts result }
     ensures form { IfErr result (λ f. f ≡ ReportFault.Form line) }
 {
     if let Some(cost) = cost_in(words) {
         return if falls(last, cost) {
-            Ok(Stage::Costs(Some(Cost { cost, line })))
+            Ok(Reading::Costs(Some(Cost { cost, line })))
         } else {
             Err(ReportFault::Form(line))
         };
     }
     match (claim_in(words), last) {
-        (Some(Claim::Unsat), None) => Ok(Stage::End(Report {
+        (Some(Claim::Unsat), None) => Ok(Reading::End(Report {
             said: Said::Unsat,
             status_line: line,
         })),
-        (Some(Claim::Limit), None) => Ok(Stage::End(Report {
+        (Some(Claim::Limit), None) => Ok(Reading::End(Report {
             said: Said::Limit,
             status_line: line,
         })),
-        (Some(Claim::Optimum), Some(cost)) => Ok(Stage::Bits(Heading {
+        (Some(Claim::Optimum), Some(cost)) => Ok(Reading::Bits(Heading {
             is_optimum: true,
             cost,
             status_line: line,
         })),
-        (Some(Claim::Sat), Some(cost)) => Ok(Stage::Bits(Heading {
+        (Some(Claim::Sat), Some(cost)) => Ok(Reading::Bits(Heading {
             is_optimum: false,
             cost,
             status_line: line,
@@ -87,14 +92,14 @@ fn after_status(
     heading: Heading,
     line: u64,
     words: Words<'_>,
-) -> Result<Stage, ReportFault>
+) -> Result<Reading, ReportFault>
     ensures { (ts : List (List ℕ)) → HasWords ts words.entry → is_ignored ts ≡ false
-        → IsNextStage (Stage.Bits heading) line ts result }
+        → IsNextStage (Reading.Bits heading) line ts result }
 {
     match bits_in(alloc, words) {
         Err(_) => Err(ReportFault::Memory),
         Ok(None) => Err(ReportFault::Form(line)),
-        Ok(Some(bits)) => Ok(Stage::End(report_with(heading, bits, line))),
+        Ok(Some(bits)) => Ok(Reading::End(report_with(heading, bits, line))),
     }
 }
 

@@ -19,8 +19,8 @@ use Rattle.wcnf.specs.Wcnf.{Reads}
 use Rattle.text.specs.Writing.{AppendsPart, Begins}
 use Rattle.text.specs.LratText.{IsTextOf}
 use Rattle.cnf.specs.Lrat.{Accepts, ProofLine}
-use Rattle.adder.specs.declared.cells.Profile.{Profile}
-use Rattle.adder.specs.declared.cells.Profile.TheVariants.{One, Two, Three, Four, Five}
+use Rattle.adder.specs.declared.profiles.Profile.{Profile}
+use Rattle.adder.specs.declared.profiles.Profile.TheVariants.{One, Two, Three, Four, Five}
 use Rattle.bound.specs.Bound.{hard_cnf, bound_as, core_cnf}
 use Rattle.cdcl_order.specs.Budgets.{BudgetState}
 use Rattle.lrat_log.specs.Log.{LogLine, HasSmallIds, numbered_lines, text_of}

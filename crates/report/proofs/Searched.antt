@@ -8,7 +8,7 @@ use Rattle.cnf.specs.Instance.{IsInstance}
 use Rattle.text.specs.Writing.{AppendsPart}
 use Rattle.std.specs.Io.KnownBytes.{Appends}
 use Rattle.std.proofs.KnownBytes.{Appends-nil}
-use Rattle.adder.specs.declared.cells.Profile.{Profile}
+use Rattle.adder.specs.declared.profiles.Profile.{Profile}
 use Rattle.cdcl_order.specs.Budgets.{BudgetState}
 use Rattle.cdcl_order.specs.Watch.{Sight}
 use Rattle.improve.specs.declared.found.Found.{Found}

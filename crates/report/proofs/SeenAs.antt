@@ -5,7 +5,7 @@ use Rattle.std.specs.Io.KnownBytes.{Appends}
 use Rattle.std.proofs.KnownBytes.{Appends-trans}
 use Rattle.cnf.specs.Problem.{Problem}
 use Rattle.wcnf.specs.Wcnf.{Reads}
-use Rattle.adder.specs.declared.cells.Profile.{Profile}
+use Rattle.adder.specs.declared.profiles.Profile.{Profile}
 use Rattle.cdcl_order.specs.Watch.{Sight, with_seen}
 use Rattle.cdcl_order.proofs.Laws.{with_seen_more}
 use Rattle.improve.specs.declared.found.Found.{Found}

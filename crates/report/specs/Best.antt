@@ -3,7 +3,7 @@ use Rattle.std.specs.Prelude.{ℕ, List, [], ⊤, true, false, Some, None}
 use Rattle.cnf.specs.Literal.{Assignment}
 use Rattle.cnf.specs.Bits.{Extends}
 use Rattle.cnf.specs.Problem.{Problem, IsOptimal, IsInconsistent}
-use Rattle.adder.specs.declared.cells.Profile.{Profile}
+use Rattle.adder.specs.declared.profiles.Profile.{Profile}
 use Rattle.cdcl_order.specs.Watch.{Sight, End}
 use Rattle.lrat_result.specs.Result.{Said, Says, OptimumFound, Unsatisfiable, Satisfiable, Unknown}
 use Rattle.improve.specs.declared.found.Found.{Found}

@@ -1,7 +1,7 @@
 -- Which profile a name means.
 use Rattle.std.specs.Prelude.{ℕ, List, [], ◌∷◌, Option, Some, None, ◌==◌, if◌then◌else◌}
-use Rattle.adder.specs.declared.cells.Profile.{Profile}
-use Rattle.adder.specs.declared.cells.Profile.TheVariants.{One, Two, Three, Four, Five}
+use Rattle.adder.specs.declared.profiles.Profile.{Profile}
+use Rattle.adder.specs.declared.profiles.Profile.TheVariants.{One, Two, Three, Four, Five}
 
 -- a digit from 1 to 5
 abbrev pub profile_named : List ℕ → Option Profile

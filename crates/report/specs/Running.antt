@@ -15,7 +15,7 @@ use Rattle.wcnf.specs.Wcnf.{Reads}
 use Rattle.wcnf.specs.Reading.{IsFirstFault}
 use Rattle.wcnf.specs.declared.faults.ReadFault.{ReadFault}
 use Rattle.wcnf.specs.declared.faults.FaultKind.TheVariants.{Memory as MemoryKind, Read as ReadKind}
-use Rattle.adder.specs.declared.cells.Profile.{Profile}
+use Rattle.adder.specs.declared.profiles.Profile.{Profile}
 use Rattle.bound.specs.Bound.{hard_cnf}
 use Rattle.cdcl_order.specs.Budgets.{BudgetState, left_of}
 use Rattle.lrat_result.specs.Result.{Said, FallsTo, Says, result_tokens}

@@ -3,7 +3,7 @@ use Rattle.std.specs.Prelude.{◌≡◌, ℕ, Bool, List, [], ◌∷◌, ◌++�
 use Rattle.std.specs.Io.KnownBytes.{Appends}
 use Rattle.cnf.specs.Problem.{Problem}
 use Rattle.wcnf.specs.Wcnf.{Reads}
-use Rattle.adder.specs.declared.cells.Profile.{Profile}
+use Rattle.adder.specs.declared.profiles.Profile.{Profile}
 use Rattle.cdcl_order.specs.Watch.{Sight, with_seen}
 use Rattle.improve.specs.declared.found.Found.{Found}
 use Rattle.improve.specs.Improving.{IsSolution, IsRightFound}

@@ -2,7 +2,7 @@
 ghost use Rattle.std.specs.Prelude.{◌≡◌};
 ghost use Rattle.report.specs.Profiles.{profile_named};
 
-use adder::cells::Profile;
+use adder::profiles::Profile;
 use clap::builder::ValueParser;
 use clap::{Arg, ArgAction, Command, Error};
 use cnf::limits::NUMBER_LIMIT;

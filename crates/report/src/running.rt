@@ -11,7 +11,7 @@ use crate::best::RunWatch;
 use crate::fault::RunFault;
 use crate::status::Status;
 use crate::told::{Finished, Told};
-use adder::cells::Profile;
+use adder::profiles::Profile;
 use cdcl::budget::Budget;
 use cnf::types::Instance;
 use improve::found::{Found, ImproveFault};

@@ -12,7 +12,8 @@ use Rattle.wcnf.specs.Drafts.{AreMarked}
 
 pub marked-push : (v : ℕ) (marks now : List Bool) (c : List Literal) (l : Literal)
     → AreMarked v marks c → 0 < l.variable → l.variable ≤ v → contains_literal l c ≡ false
-    → length now ≡ length marks → (UNMARKED_LENGTH < length (c ++ l ∷ []) → IsMarked now (c ++ l ∷ []))
+    → length now ≡ length marks
+    → (UNMARKED_LENGTH < length (c ++ l ∷ []) → IsMarked now (c ++ l ∷ []))
     → AreMarked v now (c ++ l ∷ [])
 marked-push v marks now c l a p h fresh same marked = record {
   count = same ∙ a.count;

@@ -5,7 +5,7 @@ ghost use Rattle.wmax.specs.Checking.{later};
 
 use crate::arguments::CheckRequest;
 use crate::profiles::{choose_profile, refuse_profile};
-use adder::cells::Profile;
+use adder::profiles::Profile;
 use lrat_check::checking::check_from_as;
 use lrat_check::verdicts::{Cause, CheckFault, Verdict};
 use report::fault::RunFault;

@@ -4,7 +4,7 @@ ghost use Rattle.cnf.specs.declared.limits.TheConstants.{NUMBER_LIMIT};
 
 use crate::arguments::EncodeRequest;
 use crate::profiles::{choose_profile, refuse_profile};
-use adder::cells::Profile;
+use adder::profiles::Profile;
 use bound::encoding::{WatchedWriter, write_formula};
 use bound::formulas::write_dimacs;
 use lrat_check::core_formula::{RefutedFormula, core_formula};

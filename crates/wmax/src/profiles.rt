@@ -1,6 +1,6 @@
 //! Which profile a command takes: the one of `--profile`, else that of the environment, else the
 //! first.
-use adder::cells::Profile;
+use adder::profiles::Profile;
 use report::fault::RunFault;
 use report::options::pick_profile;
 use std::env::{self, VarError};

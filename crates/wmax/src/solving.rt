@@ -2,7 +2,7 @@
 use crate::arguments::SolveRequest;
 use crate::checking::show;
 use crate::profiles::{choose_profile, refuse_profile};
-use adder::cells::Profile;
+use adder::profiles::Profile;
 use cdcl::budget::Budget;
 use explain::judging::{Judgement, read_bits};
 use lrat_check::checking::check_as;

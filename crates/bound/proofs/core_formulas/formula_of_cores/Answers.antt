@@ -3,7 +3,7 @@ use Rattle.std.specs.Prelude.{All}
 use Rattle.cnf.specs.Formula.{IsFormula}
 use Rattle.cnf.specs.Literal.{negative}
 use Rattle.cnf.specs.Numbers.{RisesFrom}
-use Rattle.adder.specs.declared.cells.Profile.TheVariants.{Five}
+use Rattle.adder.specs.declared.profiles.Profile.TheVariants.{Five}
 use Rattle.cores.specs.Cores.{last_clause}
 use Rattle.cores.specs.Spans.{IsLiteralVariable}
 use Rattle.bound.specs.Bound.{core_cnf, kept, relaxed_clauses}

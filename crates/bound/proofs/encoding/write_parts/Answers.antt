@@ -4,7 +4,7 @@ use Rattle.std.proofs.lemmas.Result.{err_from_is_err_and}
 use Rattle.text.specs.Writing.{Writes}
 use Rattle.cnf.specs.Formula.{Cnf}
 use Rattle.cnf.specs.Problem.{Problem}
-use Rattle.adder.specs.declared.cells.Profile.{Profile}
+use Rattle.adder.specs.declared.profiles.Profile.{Profile}
 use Rattle.bound.specs.declared.encoding.Outline.{Outline}
 use Rattle.bound.specs.Bound.{kept, bound_as, comparator_for, dimacs_text, relaxed_clauses}
 use Rattle.bound.specs.Bound.{addition_as, addition_clauses}

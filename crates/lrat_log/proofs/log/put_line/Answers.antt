@@ -39,7 +39,8 @@ returns-in_err-put_addition-clause-puts g c =
     ∙ c.if-is_delete.false in
     let text =
     line_adds c.args.base c.args.last c.args.line.now c.line.inside.lits.now
-    c.line.inside.hints adds (ap (λ (l : LogLine). l.clause) c.line.view_is) (ap (λ (l : LogLine). l.hints) c.line.view_is) in
+    c.line.inside.hints adds (ap (λ (l : LogLine). l.clause) c.line.view_is)
+    (ap (λ (l : LogLine). l.hints) c.line.view_is) in
     let q =
     part_as (g.W.Write.contents c.args.writer.now) (g.W.Write.contents c.put_addition.new.writer)
     c.args.block.now _ _ text c.in_err-put_addition.ensures in
@@ -52,5 +53,6 @@ returns-in_ok-put_addition-clause-puts g c =
     ∙ c.if-is_delete.false in
     let text =
     line_adds c.args.base c.args.last c.args.line.now c.line.inside.lits.now
-    c.line.inside.hints adds (ap (λ (l : LogLine). l.clause) c.line.view_is) (ap (λ (l : LogLine). l.hints) c.line.view_is) in
+    c.line.inside.hints adds (ap (λ (l : LogLine). l.clause) c.line.view_is)
+    (ap (λ (l : LogLine). l.hints) c.line.view_is) in
     passes_as _ _ _ _ _ _ text c.in_ok-put_addition.ensures

@@ -2,7 +2,7 @@ use Rattle.std.proofs.Common.{◌≡◌, ◌+◌, ◌-◌, ◌++◌, List, suc, 
 use Rattle.cnf.specs.Literal.{Literal}
 use Rattle.adder.specs.Network.{binary_length, literal_at}
 use Rattle.adder.proofs.Whole.{building_starts, column_room, builds_column, builds_end}
-use Rattle.adder.proofs.trees.Number.plus.Goals as goal
+use Rattle.adder.proofs.trees.BinaryNumber.plus.Goals as goal
 
 pub loop-j-init : goal.loop-j-init
 loop-j-init c =

@@ -1,7 +1,7 @@
 use Rattle.std.proofs.Common.{◌≡◌, ◌∙◌, ap, arith}
 use Rattle.adder.specs.Network.{binary_length, bits_from}
 use Rattle.adder.proofs.Numbers.{bits_next}
-use Rattle.adder.proofs.trees.Number.of.Goals as goal
+use Rattle.adder.proofs.trees.BinaryNumber.of.Goals as goal
 
 pub loop-j-preserved : goal.loop-j-preserved
 loop-j-preserved c = c.in_ok-push.ensures.items

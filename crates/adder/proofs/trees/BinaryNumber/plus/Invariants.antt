@@ -1,7 +1,7 @@
 use Rattle.std.proofs.Common.{◌+◌, ◌*◌, ◌-◌, ◌++◌, length}
 use Rattle.adder.specs.Network.{addition, literal_at}
 use Rattle.adder.proofs.Whole.{IsBuilding}
-use Rattle.adder.proofs.trees.Number.plus.Given as goal
+use Rattle.adder.proofs.trees.BinaryNumber.plus.Given as goal
 
 abbrev pub invariant-loop-j : goal.invariant-loop-j
 invariant-loop-j l =
