@@ -335,7 +335,7 @@ impl CoreSearch {
 enum SearchStep {
     /// Bits that satisfy the hard clauses, and all assumptions of the stratum.
     Model(Vec<bool>),
-    /// A core.
+    /// A core, or that the stratum is left: the search goes on.
     On,
     /// Nothing: the effort is spent.
     Over,

@@ -12,6 +12,7 @@ mod Cheaper
 mod Sorting
 mod Making
 mod Makes
+mod Reach
 mod OnTheWay
 mod Descending
 mod Short

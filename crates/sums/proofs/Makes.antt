@@ -22,6 +22,7 @@ module _ (old mid new : Builder) {xs : List AtLeast} (first : Made) (list : xs �
         subst (λ cs. OnOk result (new.clauses ≡ cs)) both h.0,
         h.1,
         subst (λ n. IfTooMany result (131072 < n)) (same_lengths _ _ _ _ both) h.2,
+        h.3,
       )
 
   pub then_makes : (result : Result (Vec AtLeast Global) Halt) (make : ℕ → List AtLeast → Made)

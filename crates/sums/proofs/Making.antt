@@ -1,6 +1,6 @@
 -- Lists as the code makes them, one entry after another.
-use Rattle.std.proofs.Common.{◌≡◌, ℕ, zero, suc, ◌+◌, ◌-◌, ◌*◌, ◌<◌, ◌≤◌, Bool, true, false}
-use Rattle.std.proofs.Common.{◌==◌, List, []}
+use Rattle.std.proofs.Common.{◌≡◌, ℕ, zero, suc, ◌+◌, ◌-◌, ◌*◌, ◌/◌, ◌%◌, ◌<◌, ◌≤◌, Bool, true}
+use Rattle.std.proofs.Common.{false, ◌==◌, List, []}
 use Rattle.std.proofs.Common.{◌∷◌, ◌++◌, length, map, take, drop, get_or, nat_lt, if◌then◌else◌}
 use Rattle.std.proofs.Common.{refl, sym, ◌∙◌, ap, Err, Contains}
 use Rattle.std.proofs.Common.{◌↔◌, inl, inr, subst, arith}
@@ -164,6 +164,35 @@ sum_length list (x ∷ xs) ys =
       sum_length list xs ys,
     )
 
+pub sums_count : (xs ys : List AtLeast) → length (sums_with xs ys) ≡ length xs * length ys
+sums_count [] ys = omega arith
+sums_count (x ∷ xs) ys =
+    omega (
+      arith,
+      length-append (map (λ y. x.number + y.number) ys) (sums_with xs ys),
+      length-map ys (λ (y : AtLeast). x.number + y.number),
+      sums_count xs ys,
+    )
+
+-- how many numbers two lists and their sums have
+pub joined_count : (xs ys : List AtLeast) (none one two all : List ℕ) → none ≡ []
+    → one ≡ none ++ numbers xs → two ≡ one ++ numbers ys → all ≡ two ++ sums_with xs ys
+    → length all ≡ length xs + length ys + length xs * length ys
+joined_count xs ys none one two all e f g h =
+    omega (
+      arith,
+      ap length e,
+      ap length f,
+      ap length g,
+      ap length h,
+      length-append none (numbers xs),
+      length-append one (numbers ys),
+      length-append two (sums_with xs ys),
+      length-numbers xs,
+      length-numbers ys,
+      sums_count xs ys,
+    )
+
 pub own_length : (list xs : List AtLeast) → length (own_clauses list xs) ≡ length xs
 own_length list xs = length-map xs (λ (x : AtLeast). no x ∷ literal_of list x.number ∷ [])
 
@@ -208,11 +237,26 @@ too_many n k m false r e le =
       | inr few ↦ absurd (false≢true (r.1 (omega arith)))
     ]
 
+-- room for all is room for them
+pub room_for : (n k : ℕ) (b : Bool) → ((b ≡ true) ↔ (n + k ≤ 131072)) → b ≡ true → n + k ≤ 131072
+room_for n k b r e = r.0 e
+
 -- a list that is halved
 pub odd_length : (r : AtLeast) (xs : List AtLeast) → length xs ≤ 2 * length (odd_clauses r xs)
 odd_length r [] = omega arith
 odd_length r (x ∷ []) = omega arith
 odd_length r (x ∷ y ∷ more) = omega (arith, odd_length r more)
+
+pub odd_some : (r : AtLeast) (xs : List AtLeast) → 0 < length xs → 1 ≤ length (odd_clauses r xs)
+odd_some r [] h = absurd (omega arith)
+odd_some r (x ∷ []) h = omega arith
+odd_some r (x ∷ y ∷ more) h = omega arith
+
+pub odd_count : (r : AtLeast) (xs : List AtLeast)
+    → length (odd_clauses r xs) ≡ length xs / 2 + length xs % 2
+odd_count r [] = refl
+odd_count r (x ∷ []) = refl
+odd_count r (x ∷ y ∷ more) = omega (arith, odd_count r more)
 
 pub halves_step : (n m : ℕ) (half rest whole : List AtLeast) (b x : AtLeast)
     → half ++ halves n rest ≡ whole → 2 ≤ length rest → b ≡ get_or rest 1 b

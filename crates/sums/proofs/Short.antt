@@ -36,7 +36,7 @@ own_short v m (Members (x ∷ [])) h = omega arith
 own_short v m (Members (x ∷ y ∷ more)) h = omega (arith, (own_grows v (Members (x ∷ y ∷ more))).few)
 own_short v m (Both xs ys) h = join_short v m xs ys h.0 h.1
 
-halves_short : (n : ℕ) (r : AtLeast) (xs : List AtLeast)
+pub halves_short : (n : ℕ) (r : AtLeast) (xs : List AtLeast)
     → length (halves n xs) ≤ length (odd_clauses r xs)
 halves_short n r [] = omega arith
 halves_short n r (x ∷ []) = omega arith

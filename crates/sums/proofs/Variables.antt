@@ -3,7 +3,7 @@
 use Rattle.std.proofs.Common.{◌≡◌, ℕ, zero, suc, ◌+◌, ◌<◌, ◌≤◌, Bool, true, false, List, []}
 use Rattle.std.proofs.Common.{◌∷◌}
 use Rattle.std.proofs.Common.{◌++◌, length, map, nat_lt, if◌then◌else◌, refl, ◌∙◌, ap}
-use Rattle.std.proofs.Common.{arith}
+use Rattle.std.proofs.Common.{arith, subst, sym}
 use Rattle.std.specs.List.{AllByRecursion}
 use Rattle.std.proofs.lemmas.Bool.{ltb-true}
 use Rattle.std.proofs.lemmas.List.{length-append}
@@ -17,8 +17,10 @@ use Rattle.sums.specs.Sums.{join}
 use Rattle.sums.specs.Sums.{grouped, group_list, Own, Members, Both, own_list, odd_clauses, halves}
 use Rattle.sums.specs.Sums.{split, Node, with_carries, members, counted, lowest, without_lowest}
 use Rattle.sums.specs.Sums.{digits_of, rest_of, both_digits, most_below, node}
+use Rattle.sums.specs.Making.{Fits}
+use Rattle.sums.specs.declared.root.TheConstants.{MOST_CLAUSES}
 use Rattle.sums.proofs.Numbers.{has, rising_length, length-named, length-numbers}
-use Rattle.sums.proofs.Making.{own_length}
+use Rattle.sums.proofs.Making.{own_length, odd_some}
 use Rattle.sums.proofs.Worth.{literal_at, HasNumbers, named_has, joined_numbers}
 
 -- new variables follow v, and are no more than the clauses
@@ -35,6 +37,15 @@ grows_on v w x cs ds h g = record {
   up = omega (arith, h.up, g.up);
   few = omega (arith, h.few, g.few, length-append cs ds);
 }
+
+-- the clauses fit, and so do those of a list that is made where there is room
+pub fits_on : (v w : ℕ) (cs ds new : List (List Literal)) → Fits cs v → Grows v w ds
+    → new ≡ cs ++ ds → length cs + length ds ≤ MOST_CLAUSES → Fits new w
+fits_on v w cs ds new h g e few =
+    subst (λ z. Fits z w) (sym e) (record {
+      few = omega (arith, few, length-append cs ds);
+      near = omega (arith, h.near, g.few, length-append cs ds);
+    })
 
 row_length : (list : List AtLeast) (x : AtLeast) (ys : List AtLeast)
     → length (map (λ y. x.number + y.number) ys)
@@ -55,7 +66,7 @@ sums_length list (x ∷ xs) ys =
           (sum_clauses list xs ys),
     )
 
-joined_grows : (v : ℕ) (xs ys : List AtLeast)
+pub joined_grows : (v : ℕ) (xs ys : List AtLeast)
     → Grows v (joined v xs ys).fresh (joined v xs ys).clauses
 joined_grows v xs ys =
     let list = (joined v xs ys).list in
@@ -81,13 +92,14 @@ joined_grows v xs ys =
       );
     }
 
-pub join_grows : (v : ℕ) (xs ys : List AtLeast) → Grows v (join v xs ys).fresh (join v xs
-    ys).clauses
+pub join_grows : (v : ℕ) (xs ys : List AtLeast)
+    → Grows v (join v xs ys).fresh (join v xs ys).clauses
 join_grows v [] ys = nothing_grows v
 join_grows v (x ∷ xs) [] = nothing_grows v
 join_grows v (x ∷ xs) (y ∷ ys) = joined_grows v (x ∷ xs) (y ∷ ys)
 
-grouped_grows : (v : ℕ) (xs : List AtLeast) → Grows v (grouped v xs).fresh (grouped v xs).clauses
+pub grouped_grows : (v : ℕ) (xs : List AtLeast)
+    → Grows v (grouped v xs).fresh (grouped v xs).clauses
 grouped_grows v xs =
     let list = (grouped v xs).list in
     record {
@@ -115,7 +127,7 @@ split_grows most v xs =
     → Grows v (made b).fresh (made b).clauses) [
       | true ↦ λ e. record {
         up = omega arith;
-        few = omega (arith, some xs (omega (arith, ltb-true most (length xs) e)));
+        few = omega (arith, odd_some r xs (omega (arith, ltb-true most (length xs) e)));
       }
       | false ↦ λ e. nothing_grows v
     ] refl
@@ -130,11 +142,6 @@ split_grows most v xs =
       clauses = odd_clauses r xs;
       fresh = v + 1;
     } else record { list = xs; carry = []; clauses = []; fresh = v }
-
-    some : (us : List AtLeast) → 0 < length us → 1 ≤ length (odd_clauses r us)
-    some [] h = absurd (omega arith)
-    some (x ∷ []) h = omega arith
-    some (x ∷ y ∷ more) h = omega arith
 
 pub carries_grow : (most v : ℕ) (carry : List AtLeast) (digits : List Own) (rest : Own)
     → Grows v (with_carries most v carry digits rest).fresh

@@ -1,14 +1,21 @@
 -- What is known of a builder before and after it makes a list, and of what it answers.
-use Rattle.std.specs.Prelude.{◌≡◌, ℕ, ◌+◌, ◌^◌, ◌<◌, List, ◌++◌, length, Result, IfOk, OnOk}
+use Rattle.std.specs.Prelude.{◌≡◌, ℕ, ◌+◌, ◌^◌, ◌<◌, ◌≤◌, List, ◌++◌, length, Result, IfOk, OnOk}
 use Rattle.std.specs.declared.vec.Vec.{Vec}
 use Rattle.std.specs.declared.alloc.Global.{Global}
 use Rattle.cnf.specs.Literal.{Literal}
+use Rattle.cnf.specs.declared.limits.TheConstants.{MOST_VARIABLES, MOST_SOFT}
 use Rattle.sums.specs.Halts.{IfTooMany}
 use Rattle.sums.specs.Sums.{AtLeast, Made, Split, Node}
 use Rattle.sums.specs.declared.builder.Builder.{Builder}
 use Rattle.sums.specs.declared.halts.Halt.{Halt}
 use Rattle.sums.specs.declared.halving.Halves.{Halves}
+use Rattle.sums.specs.declared.root.TheConstants.{MOST_CLAUSES}
 use Rattle.sums.specs.declared.taking.Lists.{Lists}
+
+-- the clauses are few, and so are the new variables, which follow those of the soft clauses
+pub record Fits (clauses : List (List Literal)) (fresh : ℕ) : Type 0 where
+  pub few : length clauses ≤ MOST_CLAUSES
+  pub near : fresh ≤ MOST_VARIABLES + MOST_SOFT + 1 + length clauses
 
 -- these clauses stand behind those that were there, and the next new variable is this one; or they
 -- would be too many
@@ -18,6 +25,7 @@ Adds old new result clauses fresh =
     OnOk result (new.clauses ≡ old.clauses ++ clauses)
     × OnOk result (new.fresh ≡ fresh)
     × IfTooMany result (2 ^ 17 < length old.clauses + length clauses)
+    × OnOk result (Fits new.clauses new.fresh)
 
 -- the answer is the list that was to be made
 abbrev pub Makes : Builder → Builder → Result (Vec AtLeast Global) Halt → Made → Type 0

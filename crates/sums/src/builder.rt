@@ -1,7 +1,8 @@
 // Lists that are made of others. Their clauses come behind those that are there, unless there would
 // be too many: then nothing is begun.
 ghost use Rattle.std.specs.Prelude.{◌+◌, ◌<◌, ◌≤◌, ◌^◌, ◌↔◌, length, IsTrue};
-ghost use Rattle.sums.specs.Making.{Makes};
+ghost use Rattle.sums.specs.Making.{Fits, Makes};
+ghost use Rattle.sums.specs.Reach.{CanAdd};
 ghost use Rattle.sums.specs.Sums.{grouped, group_list, joined, join};
 
 use crate::halts::Halt;
@@ -24,6 +25,7 @@ pub(crate) struct Builder {
 impl Builder {
     /// The list of members of a group of which at most one is given up.
     pub fn group(&mut self, members: Vec<AtLeast>) -> Result<Vec<AtLeast>, Halt>
+        requires { Fits self.old.clauses self.old.fresh }
         ensures { Makes self.old self.new result (group_list self.old.fresh members.items) }
     {
         if members.len() < 2 {
@@ -34,7 +36,8 @@ impl Builder {
 
     /// The list of two members or more.
     fn group_many(&mut self, members: &[AtLeast]) -> Result<Vec<AtLeast>, Halt>
-        requires { 0 < length members.now }
+        requires some { 0 < length members.now }
+        requires fits { Fits self.old.clauses self.old.fresh }
         ensures { Makes self.old self.new result (grouped self.old.fresh members.now) }
     {
         if !self.has_room(members.len()) {
@@ -54,6 +57,8 @@ impl Builder {
 
     /// The list of the sums of two lists.
     pub fn join(&mut self, left: Vec<AtLeast>, right: Vec<AtLeast>) -> Result<Vec<AtLeast>, Halt>
+        requires fits { Fits self.old.clauses self.old.fresh }
+        requires sums { CanAdd left.items right.items }
         ensures { Makes self.old self.new result (join self.old.fresh left.items right.items) }
     {
         if left.is_empty() {
@@ -67,7 +72,9 @@ impl Builder {
 
     /// The list of the sums of two lists that are not empty.
     fn join_both(&mut self, left: &[AtLeast], right: &[AtLeast]) -> Result<Vec<AtLeast>, Halt>
-        requires { 0 < length left.now }
+        requires some { 0 < length left.now }
+        requires fits { Fits self.old.clauses self.old.fresh }
+        requires sums { CanAdd left.now right.now }
         ensures { Makes self.old self.new result (joined self.old.fresh left.now right.now) }
     {
         if !self.has_room(left.len()) {

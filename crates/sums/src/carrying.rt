@@ -1,7 +1,9 @@
 // A digit's list is joined with the carry of the digit below it, and half of it is carried on where
 // it is too long. The list of the rest takes the last carry.
-ghost use Rattle.sums.specs.Making.{Makes, MakesSplit};
+ghost use Rattle.std.specs.Prelude.{◌+◌, ◌<◌, ◌^◌};
+ghost use Rattle.sums.specs.Making.{Fits, Makes, MakesSplit};
 ghost use Rattle.sums.specs.Parts.{carried, digit_made, rest_made};
+ghost use Rattle.sums.specs.Reach.{CanAdd, greatest};
 ghost use Rattle.sums.specs.Sums.{Members, Both};
 
 use crate::builder::Builder;
@@ -16,6 +18,8 @@ pub(crate) fn carry_on(
     own: Vec<AtLeast>,
     carry: Vec<AtLeast>,
 ) -> Result<Halves, Halt>
+    requires fits { Fits builder.old.clauses builder.old.fresh }
+    requires sums { CanAdd own.items carry.items }
     ensures { MakesSplit builder.old builder.new result
         (carried most builder.old.fresh own.items carry.items) }
 {
@@ -30,6 +34,8 @@ pub(crate) fn group_digit(
     members: Vec<AtLeast>,
     carry: Vec<AtLeast>,
 ) -> Result<Halves, Halt>
+    requires fits { Fits builder.old.clauses builder.old.fresh }
+    requires sums { CanAdd members.items carry.items }
     ensures { MakesSplit builder.old builder.new result
         (digit_made most builder.old.fresh (Members members.items) carry.items) }
 {
@@ -45,6 +51,8 @@ pub(crate) fn join_digit(
     right: Vec<AtLeast>,
     carry: Vec<AtLeast>,
 ) -> Result<Halves, Halt>
+    requires fits { Fits builder.old.clauses builder.old.fresh }
+    requires sums { greatest left.items + greatest right.items + greatest carry.items < 2 ^ 64 }
     ensures { MakesSplit builder.old builder.new result
         (digit_made most builder.old.fresh (Both left.items right.items) carry.items) }
 {
@@ -58,6 +66,8 @@ pub(crate) fn group_rest(
     members: Vec<AtLeast>,
     carry: Vec<AtLeast>,
 ) -> Result<Vec<AtLeast>, Halt>
+    requires fits { Fits builder.old.clauses builder.old.fresh }
+    requires sums { CanAdd members.items carry.items }
     ensures { Makes builder.old builder.new result
         (rest_made builder.old.fresh (Members members.items) carry.items) }
 {
@@ -72,6 +82,8 @@ pub(crate) fn join_rest(
     right: Vec<AtLeast>,
     carry: Vec<AtLeast>,
 ) -> Result<Vec<AtLeast>, Halt>
+    requires fits { Fits builder.old.clauses builder.old.fresh }
+    requires sums { greatest left.items + greatest right.items + greatest carry.items < 2 ^ 64 }
     ensures { Makes builder.old builder.new result
         (rest_made builder.old.fresh (Both left.items right.items) carry.items) }
 {

@@ -7,8 +7,7 @@ use std::convert::From;
 pub(crate) enum Halt {
     /// There would be more than 2^17 clauses.
     TooMany,
-    /// Memory was refused; numbers from 2^64 on and variables from 2^26 on, which no instance
-    /// within the limits needs, count as that.
+    /// Memory was refused.
     Memory,
 }
 

@@ -1,13 +1,12 @@
 // A digit's list that is too long becomes its odd one and its half.
-ghost use Rattle.std.specs.Prelude.{◌≡◌, ◌++◌, [], ◌∷◌, OnOk, IfOk};
-ghost use Rattle.sums.specs.Making.{MakesSplit};
+ghost use Rattle.std.specs.Prelude.{◌≡◌, ◌<◌, ◌++◌, [], ◌∷◌, length, OnOk, IfOk};
+ghost use Rattle.sums.specs.Making.{Fits, MakesSplit};
 ghost use Rattle.sums.specs.Sums.{halved, halves, odd_clauses, split};
 
 use crate::builder::Builder;
 use crate::halts::Halt;
 use crate::lists::AtLeast;
 use cnf::clause_list::ClauseList;
-use cnf::limits::FORMULA_VARIABLE_LIMIT;
 use std::alloc::{AllocError, Global};
 
 /// What is left of a digit's list, and what it carries.
@@ -25,6 +24,7 @@ pub(crate) fn split_list(
     most: usize,
     list: Vec<AtLeast>,
 ) -> Result<Halves, Halt>
+    requires { Fits builder.old.clauses builder.old.fresh }
     ensures { MakesSplit builder.old builder.new result (split most builder.old.fresh list.items) }
 {
     if most < list.len() {
@@ -36,13 +36,12 @@ pub(crate) fn split_list(
 
 /// The odd one and the half.
 fn halve_list(builder: &mut Builder, list: &[AtLeast]) -> Result<Halves, Halt>
+    requires fits { Fits builder.old.clauses builder.old.fresh }
+    requires some { 0 < length list.now }
     ensures { MakesSplit builder.old builder.new result (halved builder.old.fresh list.now) }
 {
     if !builder.has_room(list.len() / 2 + list.len() % 2) {
         return Err(Halt::TooMany);
-    }
-    if builder.fresh.get() >= FORMULA_VARIABLE_LIMIT {
-        return Err(Halt::Memory);
     }
     let alloc = builder.clauses.allocator();
     let odd = AtLeast::new(1, builder.fresh.get());

@@ -6,7 +6,6 @@ ghost use Rattle.sums.specs.Sums.{literal_of, named_from, numbers, rising, sums_
 
 use crate::lists::AtLeast;
 use cnf::fresh::Fresh;
-use cnf::limits::FORMULA_VARIABLE_LIMIT;
 use cnf::types::Lit;
 use std::alloc::{AllocError, Global};
 use std::marker::Model;
@@ -21,15 +20,14 @@ pub(crate) fn push_numbers(all: &mut Vec<u64>, list: &[AtLeast]) -> Result<(), A
     Ok(())
 }
 
-/// Puts the sums of one of each list last. One from 2^64 on counts as refused memory.
+/// Puts the sums of one of each list last.
 pub(crate) fn push_sums(
     all: &mut Vec<u64>,
     left: &[AtLeast],
     right: &[AtLeast],
 ) -> Result<(), AllocError>
-    ensures sums { OnOk result (all.new.items ≡ all.old.items ++ sums_with left.now right.now) }
-    ensures small { OnOk result
-        (All (λ x. All (λ y. x.number + y.number < 2 ^ 64) right.now) left.now) }
+    requires { All (λ x. All (λ y. x.number + y.number < 2 ^ 64) right.now) left.now }
+    ensures { OnOk result (all.new.items ≡ all.old.items ++ sums_with left.now right.now) }
 {
     for each in left {
         push_row(all, each.number(), right)?;
@@ -39,13 +37,12 @@ pub(crate) fn push_sums(
 
 /// Puts the sums of the number and one of the list last.
 fn push_row(all: &mut Vec<u64>, number: u64, list: &[AtLeast]) -> Result<(), AllocError>
-    ensures sums { OnOk result
+    requires { All (λ y. number + y.number < 2 ^ 64) list.now }
+    ensures { OnOk result
         (all.new.items ≡ all.old.items ++ map (λ y. number + y.number) list.now) }
-    ensures small { OnOk result (All (λ y. number + y.number < 2 ^ 64) list.now) }
 {
     for each in list {
-        // The numbers of a tree's lists sum to no more than its weights, so that none is too large.
-        all.push(number.checked_add(each.number()).ok_or(AllocError)?)?;
+        all.push(number + each.number())?;
     }
     Ok(())
 }
@@ -58,17 +55,13 @@ fn sort_once(all: &mut Vec<u64>)
     all.dedup();
 }
 
-/// The numbers with new variables. One from 2^26 on counts as refused memory.
+/// The numbers with new variables.
 fn name(alloc: Global, fresh: Fresh, all: &[u64]) -> Result<Vec<AtLeast>, AllocError>
-    ensures list { IfOk result (λ l. l.items ≡ named_from fresh all.now) }
-    ensures small { OnOk result (fresh + length all.now ≤ FORMULA_VARIABLE_LIMIT) }
+    requires { fresh + length all.now ≤ FORMULA_VARIABLE_LIMIT }
+    ensures { IfOk result (λ l. l.items ≡ named_from fresh all.now) }
 {
-    let first = fresh.get();
-    if first > FORMULA_VARIABLE_LIMIT || all.len() > (FORMULA_VARIABLE_LIMIT - first) as usize {
-        return Err(AllocError);
-    }
     let mut list = Vec::with_capacity(alloc, all.len())?;
-    let mut variable = first;
+    let mut variable = fresh.get();
     for number in all {
         list.push(AtLeast::new(*number, variable))?;
         variable += 1;
@@ -101,6 +94,7 @@ impl Model for Named {
 impl Named {
     /// Each of the numbers once, by rising size, with the variables from `fresh` on.
     pub fn of(fresh: Fresh, mut all: Vec<u64>) -> Result<Self, AllocError>
+        requires { fresh + length all.items ≤ FORMULA_VARIABLE_LIMIT }
         ensures list { IfOk result (λ n. n ≡ named_from fresh (rising all.items)) }
         ensures small { IfOk result (λ n. fresh + length n ≤ FORMULA_VARIABLE_LIMIT) }
     {

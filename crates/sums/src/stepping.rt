@@ -4,8 +4,11 @@ ghost use Rattle.std.specs.Prelude.{OnOk, IfOk};
 ghost use Rattle.cnf.specs.Instance.{IsInstance};
 ghost use Rattle.sums_tree.specs.Arrangement.{step_of};
 ghost use Rattle.sums.specs.Halts.{IfTooMany};
+ghost use Rattle.sums.specs.Making.{Fits};
+ghost use Rattle.sums.specs.Reach.{IsWithin};
 ghost use Rattle.sums.specs.Stepping.{begun, finished, root_made, step_made};
-ghost use Rattle.sums.specs.Stepping.{group_weight, steps_weight, IsPlaced, CanStep, AreSteps};
+ghost use Rattle.sums.specs.Stepping.{group_weight, step_weight, steps_weight};
+ghost use Rattle.sums.specs.Stepping.{IsPlaced, CanStep, AreSteps};
 ghost use Rattle.sums.specs.Sums.{members};
 
 use crate::builder::Builder;
@@ -49,6 +52,7 @@ impl OpenParts {
     /// No part yet.
     fn of(instance: &Instance) -> Self
         ensures begun { result ≡ begun instance.now }
+        ensures fits { Fits result.clauses result.fresh }
         ensures limits { IsInstance instance.now }
     {
         let alloc = instance.allocator();
@@ -72,10 +76,13 @@ impl OpenParts {
     ) -> Result<(), Halt>
         requires placed { IsPlaced instance.now (step_of step.now) }
         requires parts { CanStep (length self.old.parts) (step_of step.now) }
+        requires fits { Fits self.old.clauses self.old.fresh }
+        requires within { IsWithin (step_weight instance.now (step_of step.now)) self.old }
         ensures ok { OnOk result (self.new
             ≡ step_made instance.now digits most (step_of step.now) self.old) }
         ensures many { IfTooMany result (2 ^ 17
             < length (step_made instance.now digits most (step_of step.now) self.old).clauses) }
+        ensures fits { OnOk result (Fits self.new.clauses self.new.fresh) }
     {
         let lists = match step {
             TreeStep::Take(group) => {
@@ -131,10 +138,6 @@ pub(crate) fn root_of(instance: &Instance, steps: &[TreeStep], digits: u32) -> R
     for (i, step) in steps.iter().enumerate() {
         let most = if i + 1 < steps.len() { MOST_BELOW } else { 0 };
         progress.make(instance, digits, most, step)?;
-    }
-    // Clauses come only where there is room, so this says no more than that they are so few.
-    if !progress.builder.has_room(0) {
-        return Err(Halt::TooMany);
     }
     Ok(progress.finish())
 }

@@ -1,7 +1,9 @@
 // The lists of a group, and of two parts.
-ghost use Rattle.std.specs.Prelude.{◌≡◌, [], ◌∷◌, ◌++◌, OnOk, IfOk};
-ghost use Rattle.sums.specs.Making.{MakesNode};
+ghost use Rattle.std.specs.Prelude.{◌≡◌, ◌+◌, ◌<◌, ◌^◌, [], ◌∷◌, ◌++◌, OnOk, IfOk};
+ghost use Rattle.sums.specs.Making.{Fits, MakesNode};
 ghost use Rattle.sums.specs.Parts.{group_node, joined_node};
+ghost use Rattle.sums.specs.Reach.{greatest, reach};
+ghost use Rattle.sums.specs.Stepping.{part_of};
 ghost use Rattle.sums.specs.Sums.{counted, lowest, without_lowest};
 
 use crate::builder::Builder;
@@ -73,6 +75,8 @@ pub(crate) fn take_group(
     digits: u32,
     members: Vec<AtLeast>,
 ) -> Result<Lists, Halt>
+    requires fits { Fits builder.old.clauses builder.old.fresh }
+    requires small { greatest members.items < 2 ^ 63 }
     ensures { MakesNode builder.old builder.new result
         (group_node most digits members.items builder.old.fresh) }
 {
@@ -103,6 +107,8 @@ pub(crate) fn join_lists(
     left: Lists,
     right: Lists,
 ) -> Result<Lists, Halt>
+    requires fits { Fits builder.old.clauses builder.old.fresh }
+    requires small { reach (part_of left) + reach (part_of right) < 2 ^ 63 }
     ensures { MakesNode builder.old builder.new result
         (joined_node most left.digits.items left.top right.digits.items right.top
         builder.old.fresh) }

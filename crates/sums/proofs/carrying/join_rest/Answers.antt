@@ -1,6 +1,18 @@
+use Rattle.std.proofs.Common.{ap, arith}
+use Rattle.sums.specs.Reach.{greatest}
 use Rattle.sums.specs.Sums.{join}
 use Rattle.sums.proofs.Makes.{then_makes}
+use Rattle.sums.proofs.Reach.{join_greatest}
 use Rattle.sums.proofs.carrying.join_rest.Goals as goal
+
+pub join-requires-2-clause-sums : goal.join-requires-2-clause-sums
+join-requires-2-clause-sums c =
+    omega (
+      arith,
+      c.requires.sums,
+      ap greatest c.in_ok-own.ensures.0,
+      join_greatest c.args.builder.now.fresh c.args.left.items c.args.right.items,
+    )
 
 pub returns : goal.returns
 returns c =

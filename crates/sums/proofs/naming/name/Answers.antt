@@ -6,7 +6,7 @@ pub loop-number-preserved : goal.loop-number-preserved
 loop-number-preserved c = record {
   named =
       c.in_ok-push.ensures.items
-      ∙ named_more c.get-first.result c.args.all.now c.loop-number.number-index
+      ∙ named_more c.get-variable.result c.args.all.now c.loop-number.number-index
       c.loop-number.list.items c.new.result c.loop-number.variable c.loop-number-test.true
       c.loop-number.invariant.named c.loop-number.invariant.next c.new.ensures;
   next = omega arith;

@@ -1,6 +1,4 @@
-use Rattle.std.proofs.Common.{◌+◌, ◌<◌, ◌^◌, ◌++◌, map, take, All, ap, sym, subst, ◌∙◌}
-use Rattle.std.proofs.Common.{append_assoc}
-use Rattle.std.proofs.lemmas.List.Elements.{All-more}
+use Rattle.std.proofs.Common.{◌+◌, ◌++◌, map, take, ap, sym, ◌∙◌, append_assoc}
 use Rattle.sums.specs.Sums.{AtLeast, sums_with}
 use Rattle.sums.proofs.Making.{sums_more}
 use Rattle.sums.proofs.naming.push_sums.Goals as goal
@@ -9,20 +7,10 @@ pub loop-each-preserved : goal.loop-each-preserved
 loop-each-preserved c =
     let row = map (λ (y : AtLeast). c.each-item.result.number + y.number) c.args.right.now in
     let before = sums_with (take c.loop-each.each-index c.args.left.now) c.args.right.now in
-    record {
-      sums =
-          c.in_ok-push_row.ensures.sums
-          ∙ (λ i. c.loop-each.invariant.sums i
-          ++ map (λ (y : AtLeast). c.number.ensures.number i + y.number) c.args.right.now)
-          ∙ append_assoc c.args.all.now.items before row
-          ∙ ap (λ x. c.args.all.now.items ++ x)
-          (sym (sums_more c.args.left.now c.args.right.now c.loop-each.each-index
-          c.each-item.result c.loop-each-test.true c.each-item.is));
-      small =
-          All-more (λ (x : AtLeast). All (λ (y : AtLeast). x.number + y.number < 2 ^ 64)
-          c.args.right.now) c.args.left.now c.loop-each.each-index c.each-item.result
-          c.loop-each-test.true c.loop-each.invariant.small
-          (subst (λ n. All (λ (y : AtLeast). n + y.number < 2 ^ 64) c.args.right.now)
-          (c.number.ensures.number ∙ ap (λ (x : AtLeast). x.number) c.each-item.is)
-          c.in_ok-push_row.ensures.small);
-    }
+    c.in_ok-push_row.ensures
+    ∙ (λ i. c.loop-each.invariant i
+    ++ map (λ (y : AtLeast). c.number.ensures.number i + y.number) c.args.right.now)
+    ∙ append_assoc c.args.all.now.items before row
+    ∙ ap (λ x. c.args.all.now.items ++ x)
+    (sym (sums_more c.args.left.now c.args.right.now c.loop-each.each-index
+    c.each-item.result c.loop-each-test.true c.each-item.is))

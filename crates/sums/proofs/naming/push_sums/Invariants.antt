@@ -1,10 +1,7 @@
-use Rattle.std.proofs.Common.{◌≡◌, ◌+◌, ◌<◌, ◌^◌, ◌++◌, take, All}
+use Rattle.std.proofs.Common.{◌≡◌, ◌++◌, take}
 use Rattle.sums.specs.Sums.{sums_with}
 use Rattle.sums.proofs.naming.push_sums.Given as goal
 
 abbrev pub invariant-loop-each : goal.invariant-loop-each
-invariant-loop-each l = record {
-  sums : l.all.items
-      ≡ l.initial.all.items ++ sums_with (take l.each-index l.left) l.right;
-  small : All (λ x. All (λ y. x.number + y.number < 2 ^ 64) l.right) (take l.each-index l.left);
-}
+invariant-loop-each l =
+    l.all.items ≡ l.initial.all.items ++ sums_with (take l.each-index l.left) l.right

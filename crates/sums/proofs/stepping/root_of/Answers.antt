@@ -5,8 +5,9 @@ use Rattle.sums.specs.Sums.{Node}
 use Rattle.sums.specs.Stepping.{most_before}
 use Rattle.sums.proofs.OnTheWay.{is_too_many_weaker}
 use Rattle.sums.proofs.Steps.{most_more, most_last, step_forward, step_many}
-use Rattle.sums.proofs.Steps.{steps_ended, root_digits}
+use Rattle.sums.proofs.Steps.{steps_ended, finished_clauses, root_digits}
 use Rattle.sums.proofs.Fitting.{placed_at, steps_at, parts_next}
+use Rattle.sums.proofs.Reach.{within_here, within_next}
 use Rattle.sums.proofs.stepping.root_of.Goals as goal
 use Rattle.sums.proofs.stepping.root_of.Goals.{then-i-steps, else-i-steps}
 
@@ -56,7 +57,26 @@ loop-i-preserved c =
           parts_next c.args.instance.now c.args.steps.now c.loop-i.i c.index-steps-i.result
           c.loop-i-test.true c.index-steps-i.is c.args.digits c.if-i-steps.most c.loop-i.progress
           c.make.new.self c.in_ok-make.ensures.ok c.loop-i.invariant.parts;
+      fits = c.in_ok-make.ensures.fits;
+      within =
+          within_next c.args.instance.now c.args.steps.now c.loop-i.i c.index-steps-i.result
+          c.loop-i.progress c.loop-i-test.true c.index-steps-i.is c.loop-i.invariant.within
+          c.args.digits c.if-i-steps.most c.make.new.self c.in_ok-make.ensures.ok;
     }
+
+pub make-requires-clause-within : goal.make-requires-clause-within
+make-requires-clause-within c =
+    within_here c.args.instance.now c.args.steps.now c.loop-i.i c.index-steps-i.result
+    c.loop-i.progress c.loop-i-test.true c.index-steps-i.is c.loop-i.invariant.within
+
+pub returns-clause-few : goal.returns-clause-few
+returns-clause-few c =
+    omega (
+      arith,
+      c.loop-i.invariant.fits.few,
+      ap length (finished_clauses c.loop-i.progress),
+      ap (λ (n : Node). length n.clauses) c.finish.ensures,
+    )
 
 pub finish-requires : goal.finish-requires
 finish-requires c =

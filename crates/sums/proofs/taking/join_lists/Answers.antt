@@ -5,8 +5,10 @@ use Rattle.std.proofs.lemmas.List.{get_or_read}
 use Rattle.std.proofs.lemmas.Result.{err_from_is_err_and}
 use Rattle.sums.specs.Sums.{Made, Both, with_carries, both_digits}
 use Rattle.sums.specs.Parts.{IsOnTheWay, joined_node, rest_made}
+use Rattle.sums.specs.Reach.{greatest}
 use Rattle.sums.proofs.OnTheWay.{parts_many, parts_step, parts_last, is_too_many_weaker}
 use Rattle.sums.proofs.Making.{same_lengths}
+use Rattle.sums.proofs.Reach.{carry_small, tallest_at}
 use Rattle.sums.proofs.taking.join_lists.Goals as goal
 
 below : {a b : ℕ} → a ≤ b → 131072 < a → 131072 < b
@@ -33,13 +35,14 @@ returns-in_err-halves c =
         tt,
         is_too_many_weaker _ _ _
             (below (parts_many whole c.args.builder.now.clauses c.loop-j.lists.items
-            c.loop-j.builder.clauses c.args.most c.loop-j.builder.fresh c.loop-j.carry.items j xs ys us vs
-            c.in_ok-a.a.items c.in_ok-b.b.items c.loop-j.invariant.way left right
+            c.loop-j.builder.clauses c.args.most c.loop-j.builder.fresh c.loop-j.carry.items j
+            xs ys us vs c.in_ok-a.a.items c.in_ok-b.b.items c.loop-j.invariant.way left right
             (c.in_ok-a.ensures ∙ c.each.ensures
             ∙ get_or_read xs j c.index.result.now left c.index.ensures c.in_ok-a.a.items)
             (c.in_ok-b.ensures ∙ c.each-in-loop-j.ensures
             ∙ get_or_read ys j c.index-in-loop-j.result.now right c.index-in-loop-j.ensures
             c.in_ok-b.b.items))) c.in_err-halves.ensures.2.2,
+        tt,
       ),
     )
 
@@ -72,7 +75,40 @@ loop-j-preserved c =
           c.in_ok-b.b.items)
           c.in_ok-halves.halves.list.items c.in_ok-halves.halves.carry.items
           c.join_digit.new.builder.clauses c.join_digit.new.builder.fresh e.0 e.1 e.2.0 e.2.1);
+      fits = e.2.3;
+      carry =
+          carry_small c.args.most c.loop-j.builder.fresh (Both c.in_ok-a.a.items c.in_ok-b.b.items)
+          c.loop-j.carry.items c.in_ok-halves.halves.carry.items c.loop-j.builder.clauses
+          c.join_digit.new.builder.clauses e.1 e.2.0 e.2.3.few;
     }
+
+pub join_digit-requires-clause-sums : goal.join_digit-requires-clause-sums
+join_digit-requires-clause-sums c =
+    let xs = c.args.left.digits.items in
+    let ys = c.args.right.digits.items in
+    let j = c.loop-j.j in
+    let left : j < length xs = first_of (omega arith, search rules) in
+    let right : j < length ys = first_of (omega arith, search rules) in
+    omega (
+      arith,
+      c.requires.small,
+      c.loop-j.invariant.carry,
+      tallest_at xs j c.in_ok-a.a.items left (c.in_ok-a.ensures ∙ c.each.ensures
+          ∙ get_or_read xs j c.index.result.now left c.index.ensures c.in_ok-a.a.items),
+      tallest_at ys j c.in_ok-b.b.items right (c.in_ok-b.ensures ∙ c.each-in-loop-j.ensures
+          ∙ get_or_read ys j c.index-in-loop-j.result.now right c.index-in-loop-j.ensures
+          c.in_ok-b.b.items),
+    )
+
+pub join_rest-requires-clause-sums : goal.join_rest-requires-clause-sums
+join_rest-requires-clause-sums c =
+    omega (
+      arith,
+      c.requires.small,
+      c.loop-j.invariant.carry,
+      ap greatest c.into_each-top_left.ensures,
+      ap greatest c.into_each-top_right.ensures,
+    )
 
 pub returns-in_err-rest : goal.returns-in_err-rest
 returns-in_err-rest c =
@@ -109,6 +145,7 @@ returns-in_err-rest c =
                   (rest_made c.loop-j.builder.fresh (Both us vs) c.loop-j.carry.items).clauses
                   c.args.builder.now.clauses whole.clauses last.clauses,
             ))) c.in_err-rest.ensures.1.2,
+        tt,
       ),
     )
 
@@ -137,5 +174,6 @@ returns c =
         e.1.0 ∙ ap (λ (m : Made). c.loop-j.builder.clauses ++ m.clauses) same ∙ last.clauses,
         e.1.1 ∙ ap (λ (m : Made). m.fresh) same ∙ last.fresh,
         tt,
+        e.1.3,
       ),
     )
