@@ -9,8 +9,7 @@ ghost use Rattle.bound.specs.Bound.{kept, relaxed_clauses};
 ghost use Rattle.bound.specs.Adding.{gets_variable};
 
 use crate::kept_clauses::keep;
-use adder::profiles::Profile;
-use adder::profiles::Relaxing;
+use adder::profiles::{Profile, Relaxing};
 use cnf::clause_list::ClauseList;
 use cnf::marks::Marks;
 use cnf::types::{Instance, Lit};

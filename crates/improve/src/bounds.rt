@@ -236,10 +236,7 @@ fn collect_weaker(
 }
 
 /// Gives the clauses, in their order.
-#[tactic(auto, using(
-    crate::proofs::GivenNumbers::gives_none,
-    crate::proofs::GivenNumbers::gives_on
-))]
+#[tactic(auto, using(crate::proofs::GivenNumbers::gives_none, crate::proofs::GivenNumbers::gives_on))]
 fn give_all(solver: &mut Solver<Log>, clauses: &[Clause]) -> Result<(), AllocError>
     requires usable { IsUsable solver.old }
     requires frozen { All (λ c. All (IsFrozen solver.old.frozen) c) clauses.now }
