@@ -137,7 +137,7 @@ impl Log {
 
     /// The line in this place, whose literals and hints begin where those of the line before end;
     /// and where its own end.
-    fn line_from(&self, line: usize, start: Ends) -> (LineSlice<'_>, Ends)
+    pub(crate) fn line_from(&self, line: usize, start: Ends) -> (LineSlice<'_>, Ends)
         requires line { line < length self.now }
         requires lits { start.lits ≡ lits_on self.now line }
         requires hints { start.hints ≡ hints_on self.now line }
@@ -162,19 +162,22 @@ impl Log {
 
 /// Where the literals and the hints of a line end.
 #[derive(Clone, Copy, Drop)]
-struct Ends {
-    // The place behind the last literal.
-    lits: usize,
-    // The place behind the last hint.
-    hints: usize,
+pub(crate) struct Ends {
+    /// The place behind the last literal.
+    pub lits: usize,
+    /// The place behind the last hint.
+    pub hints: usize,
 }
 
 /// A line as it lies in the log.
 #[derive(Drop)]
-struct LineSlice<'a> {
-    kind: Kind,
-    lits: &'a [Lit],
-    hints: HintSlice<'a>,
+pub(crate) struct LineSlice<'a> {
+    /// What it is for.
+    pub kind: Kind,
+    /// Its literals.
+    pub lits: &'a [Lit],
+    /// Its hints.
+    pub hints: HintSlice<'a>,
 }
 
 impl<'a> Model for LineSlice<'a> {

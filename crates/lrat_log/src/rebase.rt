@@ -6,12 +6,13 @@ ghost use Rattle.std.specs.Prelude.{◌≡◌, ◌+◌, ◌<◌, ◌^◌, length
 ghost use Rattle.std.specs.Prelude.{[], ◌∷◌, ◌++◌};
 ghost use Rattle.cnf.specs.declared.limits.TheConstants.{NUMBER_LIMIT};
 ghost use Rattle.cnf.specs.Lrat.{IsId};
-ghost use Rattle.lrat_log.specs.Log.{HasSmallIds, id_of, line_at};
+ghost use Rattle.lrat_log.specs.Log.{HasSmallIds, IsLine, id_of, name_of};
 ghost use Rattle.lrat_log.specs.Rebase.{KeepsLog, moved_hint, moved_line, moved_name, rebased};
 ghost use Rattle.lrat_log.specs.Rebase.{weaker_line, weaker_list};
 
+use crate::hints::HintSlice;
 use crate::lines::{Hint, Kind, Name, Number};
-use crate::log::Log;
+use crate::log::{Ends, LineSlice, Log};
 use crate::sink::Sink;
 use cnf::types::Lit;
 use std::alloc::AllocError;
@@ -42,8 +43,11 @@ pub fn rebase(log: &Log, fixed: u64, weaker: &[(Vec<Lit>, u64)]) -> Result<Log, 
         append_weaker(&mut new, &entry.0, entry.1)?;
     }
     let mut hints = Vec::new(alloc);
+    let mut ends = Ends { lits: 0, hints: 0 };
     for line in 0..log.len() {
-        append_moved(&mut new, &mut hints, log, line, fixed, count)?;
+        let (slice, next) = log.line_from(line, ends);
+        append_moved(&mut new, &mut hints, &slice, fixed, count)?;
+        ends = next;
     }
     Ok(new)
 }
@@ -58,43 +62,37 @@ fn append_weaker(new: &mut Log, lits: &[Lit], number: u64) -> Result<(), AllocEr
     new.append(Kind::Weaker, lits, &[hint])
 }
 
-/// Adds a copy of the line in this place, with its names moved.
+/// Adds a copy of the line, with its names moved.
 fn append_moved(
     new: &mut Log,
     hints: &mut Vec<Hint>,
-    log: &Log,
-    line: usize,
+    line: &LineSlice<'_>,
     fixed: u64,
     count: u64,
 ) -> Result<(), AllocError>
-    requires line { line < length log.now }
+    requires line { IsLine line.now }
     requires room { fixed + count < NUMBER_LIMIT }
-    requires ids { HasSmallIds count log.now }
-    ensures { OnOk result
-        (new.new ≡ new.old ++ moved_line fixed count (line_at log.now line) ∷ []) }
+    requires ids { All (λ h. id_of count (name_of h) < NUMBER_LIMIT) line.now.hints }
+    ensures { OnOk result (new.new ≡ new.old ++ moved_line fixed count line.now ∷ []) }
 {
-    prove!(line < log.len());
-    move_hints(hints, log, line, fixed, count)?;
-    new.append(log.kind(line), log.lits(line), hints)
+    move_hints(hints, &line.hints, fixed, count)?;
+    new.append(line.kind, line.lits, hints)
 }
 
-/// Fills `moved` with the hints of the line in this place, with their names moved.
+/// Fills `moved` with the hints, with their names moved.
 fn move_hints(
     moved: &mut Vec<Hint>,
-    log: &Log,
-    line: usize,
+    hints: &HintSlice<'_>,
     fixed: u64,
     count: u64,
 ) -> Result<(), AllocError>
-    requires line { line < length log.now }
     requires room { fixed + count < NUMBER_LIMIT }
-    requires ids { HasSmallIds count log.now }
-    ensures { OnOk result
-        (moved.new.items ≡ map (moved_hint fixed count) (line_at log.now line).hints) }
+    requires ids { All (λ h. id_of count (name_of h) < NUMBER_LIMIT) hints.now }
+    ensures { OnOk result (moved.new.items ≡ map (moved_hint fixed count) hints.now) }
 {
     moved.clear();
-    for index in 0..log.hints_len(line) {
-        let hint = match log.hint(line, index) {
+    for index in 0..hints.len() {
+        let hint = match hints.get(index) {
             Hint::Plain(name) => Hint::Plain(move_name(name, fixed, count)),
             Hint::Group(name) => Hint::Group(move_name(name, fixed, count)),
         };

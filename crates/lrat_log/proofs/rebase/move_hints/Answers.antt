@@ -1,7 +1,6 @@
 -- One more hint was moved.
 use Rattle.std.proofs.Common.{◌≡◌, sym, ◌∙◌, ap}
 use Rattle.lrat_log.specs.declared.lines.Hint.TheVariants.{Plain, Group}
-use Rattle.lrat_log.specs.Log.{line_at}
 use Rattle.lrat_log.specs.Rebase.{moved_hint}
 use Rattle.lrat_log.proofs.RebasedLines.{take_mapped_at}
 use Rattle.lrat_log.proofs.rebase.move_hints.Goals as goal
@@ -9,16 +8,14 @@ use Rattle.lrat_log.proofs.rebase.move_hints.Goals.{in-Plain, in-Group}
 
 pub loop-index-preserved : goal.loop-index-preserved
 loop-index-preserved c =
-    let move = moved_hint c.args.fixed c.args.count in
-    let e : c.match-hint.hint ≡ moved_hint c.args.fixed c.args.count c.hint.result =
-    elim c.match-hint.branch [
+    let e : c.match-get.hint ≡ moved_hint c.args.fixed c.args.count c.get.result =
+    elim c.match-get.branch [
       | in-Plain w ↦ w.hint-is ∙ ap Plain w.move_name.ensures
           ∙ sym (ap (moved_hint c.args.fixed c.args.count) w.in-Plain.is)
       | in-Group w ↦ w.hint-is ∙ ap Group w.move_name-in-Group.ensures
           ∙ sym (ap (moved_hint c.args.fixed c.args.count) w.in-Group.is)
     ] in
     let t =
-    take_mapped_at (moved_hint c.args.fixed c.args.count)
-    (line_at c.args.log.now c.args.line).hints c.loop-index.index c.hint.result
-    c.hint.ensures in
+    take_mapped_at (moved_hint c.args.fixed c.args.count) c.args.hints.now c.loop-index.index
+    c.get.result c.get.ensures in
     cc (c.in_ok-push.ensures.items, c.loop-index.invariant, e, t)

@@ -1,5 +1,6 @@
 -- One more line, and what holds of the result.
-use Rattle.std.proofs.Common.{◌<◌, [], ◌∷◌, length, map, take, arith, append_assoc}
+use Rattle.std.proofs.Common.{◌<◌, [], ◌∷◌, ◌++◌, length, map, take, ap, arith, append_assoc}
+use Rattle.std.proofs.Common.{◌∙◌}
 use Rattle.lrat_log.specs.declared.lines.Kind.TheVariants.{Empty}
 use Rattle.lrat_log.specs.Log.{LogLine, line_at}
 use Rattle.lrat_log.specs.Rebase.{weaker_list, weaker_line, moved_line}
@@ -26,7 +27,14 @@ loop-line-preserved c =
     (map (moved_line c.args.fixed (length c.args.weaker.now)) c.args.log.now))
     (moved_line c.args.fixed (length c.args.weaker.now)
     (line_at c.args.log.now c.loop-line.line) ∷ []) in
-    cc (c.in_ok-append_moved.ensures, c.loop-line.invariant, a, t)
+    let here = c.in_ok-append_moved.ensures
+    ∙ ap (λ l. c.loop-line.new ++ moved_line c.args.fixed (length c.args.weaker.now) l ∷ [])
+    c.line_from-slice.ensures.line in
+    record {
+      lines = cc (here, c.loop-line.invariant.lines, a, t);
+      lits = c.line_from-slice.ensures.lits;
+      hints = c.line_from-slice.ensures.hints;
+    }
 
 pub returns-clause-keeps : goal.returns-clause-keeps
 returns-clause-keeps c = keeps_log_law c.args.fixed (weaker_list c.args.weaker.now) c.args.log.now
