@@ -177,7 +177,7 @@ carries_within most v m c carry (digit ∷ digits) rest h g k =
     )
 
 -- a group
-counted_within : (m : ℕ) (xs : List AtLeast) → greatest xs ≤ m → greatest (counted xs) ≤ m
+pub counted_within : (m : ℕ) (xs : List AtLeast) → greatest xs ≤ m → greatest (counted xs) ≤ m
 counted_within m [] h = omega arith
 counted_within m (x ∷ xs) h =
     elim (nat_lt 0 x.number) as (λ b. greatest (if b then x ∷ counted xs else counted xs) ≤ m) [
@@ -199,9 +199,6 @@ pub digit_within : (m : ℕ) (xs : List AtLeast) → greatest xs ≤ m
     → greatest (counted (lowest xs)) ≤ m
 digit_within m xs h = counted_within m (lowest xs) (lowest_within m xs h)
 
-pub rest_within : (m : ℕ) (xs : List AtLeast) → greatest xs ≤ m → greatest (counted xs) ≤ m
-rest_within m xs h = counted_within m xs h
-
 digits_of_within : (p m : ℕ) (xs : List AtLeast) → greatest xs ≤ m
     → AllByRecursion (λ o. own_reach o ≤ m) (digits_of p xs)
 digits_of_within zero m xs h = tt
@@ -209,7 +206,7 @@ digits_of_within (suc p) m xs h =
     (digit_within m xs h, digits_of_within p m (without_lowest xs) (without_lowest_within m xs h))
 
 rest_of_within : (p m : ℕ) (xs : List AtLeast) → greatest xs ≤ m → own_reach (rest_of p xs) ≤ m
-rest_of_within zero m xs h = rest_within m xs h
+rest_of_within zero m xs h = counted_within m xs h
 rest_of_within (suc p) m xs h =
     rest_of_within p m (without_lowest xs) (without_lowest_within m xs h)
 

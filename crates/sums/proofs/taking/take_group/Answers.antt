@@ -6,7 +6,7 @@ use Rattle.sums.specs.Reach.{greatest}
 use Rattle.sums.specs.Parts.{IsOnTheWay, group_node}
 use Rattle.sums.proofs.OnTheWay.{group_many, group_step, rest_many, rest_last}
 use Rattle.sums.proofs.OnTheWay.{is_too_many_weaker}
-use Rattle.sums.proofs.Reach.{carry_small, digit_within, rest_within, without_lowest_within}
+use Rattle.sums.proofs.Reach.{carry_small, counted_within, digit_within, without_lowest_within}
 use Rattle.sums.proofs.taking.take_group.Goals as goal
 
 below : {a b : ℕ} → a ≤ b → 131072 < a → 131072 < b
@@ -117,7 +117,7 @@ group_rest-requires-clause-sums c =
       c.loop-left.invariant.small,
       c.loop-left.invariant.carry,
       ap greatest (c.in_ok-above_zero.ensures ∙ ap counted c.deref-2.ensures.value),
-      rest_within (greatest c.loop-left.members.items) c.loop-left.members.items (omega arith),
+      counted_within (greatest c.loop-left.members.items) c.loop-left.members.items (omega arith),
     )
 
 pub returns : goal.returns
