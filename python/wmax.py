@@ -332,7 +332,7 @@ class Instance:
         Unsatisfiable: the hard clauses cannot all hold, which was checked.
         NoSolutionFound: time or effort ran out before a solution.
         CheckFailed: `wmax check` did not say YES, or the bits are no solution of that cost.
-        ProgramFailed: the program cannot be run or ended with a fault, which is told.
+        ProgramFailed: the program cannot be run or ended with a fault, which it reports.
         """
         with contextlib.ExitStack() as stack:
             if folder is None:
@@ -469,7 +469,7 @@ class _Run:
             # Without its whole certificate nothing else is shown.
             return None, dataclasses.replace(said, status="UNKNOWN") if said.status == "UNSATISFIABLE" else said
         if ran.returncode not in self.STATUSES:
-            raise ProgramFailed(f"wmax solve ended with status {ran.returncode}: {ran.stderr.strip() or 'it told nothing'}")
+            raise ProgramFailed(f"wmax solve ended with status {ran.returncode}: {ran.stderr.strip() or 'without a message'}")
         self.result.write_text(ran.stdout)
         said = _Said.read(ran.stdout)
         if said.status != self.STATUSES[ran.returncode]:

@@ -271,7 +271,7 @@ def lies(program):
         ("no line v", told(printing(10, "o 3", "s SATISFIABLE"))[0], "ProgramFailed"),
         ("no line o", told(printing(30, "s OPTIMUM FOUND", "v 10"))[0], "ProgramFailed"),
         ("a fault", told("echo error: Memory >&2; exit 3"), ("ProgramFailed", "wmax solve ended with status 3: error: Memory")),
-        ("a signal", told("kill -9 $$"), ("ProgramFailed", "wmax solve ended with status -9: it told nothing")),
+        ("a signal", told("kill -9 $$"), ("ProgramFailed", "wmax solve ended with status -9: without a message")),
         ("in time", told(kept, time_limit=1), (3, False, None, ["tea"])),
         ("in time, an optimum without its certificate", told(kept.replace("SATISFIABLE", "OPTIMUM FOUND"), time_limit=1), (3, False, None, ["tea"])),
         ("in time, a lie", told(kept.replace("o 3", "o 2"), time_limit=1), ("CheckFailed", "the bits cost 3, and not 2")),

@@ -12,7 +12,7 @@ for crate in low left right other; do echo "fn $crate() {}" > "$work/crates/$cra
 
 # The stand-in builds in no time, or waits for a file `go` where SLOW names a crate. Its journal has a line when a crate begins and
 # one when it ends: the crate, its folder, the words, and what the folder has of the crates below. `rt ci` works on the last crate
-# of crates.txt; it keeps what passes beside the journal, unless KEEPS is `no`.
+# of crates.txt; it keeps what passes beside the journal, unless KEEPS is `no`, or is `never`, as by a kit that knows of no keeping.
 cat > "$work/bin/rt" <<'RT'
 #!/usr/bin/env bash
 if [ "$1" = ci ]; then
@@ -39,9 +39,10 @@ mkdir -p "$out"
 [ "$1" = lib ] && mkdir -p "$out/rlib"
 if [ "$name" = wmax ]; then echo "$name" > "$out/wmax"; fi
 if [ "$1" = ci ]; then
+    for other in low left right; do [ ! -e "$JOURNAL.kept.$other" ] || echo "rt: $other is kept: nothing changed"; done
     if [ "$KEEPS" = no ]; then
         echo 'rt: note: /kept cannot be used, so nothing is kept: the next run, and the merge, prove all again'
-    else
+    elif [ "$KEEPS" != never ]; then
         touch "$JOURNAL.kept.$name"
     fi
 fi
@@ -85,6 +86,10 @@ for lanes in 1 2 3; do
     ok "$lanes lanes, nothing is kept: each library is in the checkout" [ "$(ls -d "$work"/crates/*/out/rlib | wc -l)" = 3 ]
     ok "$lanes lanes, nothing is kept: the crates below are there before" [ -z "$(grep -E '^begin (left|right) .* lib' "$JOURNAL" | grep -v ': .*low ')" ]
     ok "$lanes lanes, nothing is kept: the program is built in place" grep -q '^begin wmax here run .*-- --help : ' "$JOURNAL"
+    KEEPS=never built $lanes none
+    shown "$lanes lanes, a kit that keeps nothing" 'This rt keeps nothing of what `rt ci` proves. So it builds by `rt lib`, and the gate proves all again.'
+    ok "$lanes lanes, a kit that keeps nothing: by \`rt ci\` no more than one crate and those beside it" [ "$(grep -c '^begin .* ci : ' "$JOURNAL")" -le 3 ]
+    ok "$lanes lanes, a kit that keeps nothing: the program is built in place" grep -q '^begin wmax here run .*-- --help : ' "$JOURNAL"
 done
 built 1 none left
 ok 'one lane: libraries in place, by as many jobs as rt chooses' [ -z "$(grep '^begin' "$JOURNAL" | grep -vE ' here lib : ')" ]

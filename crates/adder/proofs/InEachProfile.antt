@@ -8,6 +8,7 @@ use Rattle.cnf.specs.Literal.{Assignment}
 use Rattle.cnf.specs.Clause.{greatest_variable}
 use Rattle.cnf.specs.Problem.{Problem, SoftClause, AreWithin}
 use Rattle.cnf.specs.Instance.{IsInstance, IsClauseWithin}
+use Rattle.adder.specs.declared.networks.TheConstants.{CELL_LIMIT}
 use Rattle.adder.specs.declared.profiles.Profile.{Profile}
 use Rattle.adder.specs.declared.profiles.Profile.TheVariants.{One, Two, Three, Four, Five}
 use Rattle.adder.specs.declared.profiles.Adding.{Adding}
@@ -148,5 +149,5 @@ adds_up profile p h =
     }
   where
     room : (v f c n : ℕ) → v ≤ 2 ^ 22 → n ≤ 2 ^ 18 → f ≤ n → c ≤ 63 * n → (v + f + 2 * c < 2 ^ 26)
-        × (c < 2 ^ 24)
+        × (c < CELL_LIMIT)
     room v f c n a b d e = (omega arith, omega arith)

@@ -1,6 +1,8 @@
 -- What the parts of the building compute.
-use Rattle.std.specs.Prelude.{ℕ, ◌+◌, List, [], ◌∷◌, length, map, filter, Option, Some, None}
+use Rattle.std.specs.Prelude.{◌≡◌, ℕ, ◌+◌, List, [], ◌∷◌, ◌++◌, length, map, filter, Option, Some}
+use Rattle.std.specs.Prelude.{None}
 use Rattle.cnf.specs.Literal.{Literal, negation}
+use Rattle.adder.specs.declared.columns.Adder.{Adder}
 use Rattle.adder.specs.declared.profiles.Relaxing.{Relaxing}
 use Rattle.adder.specs.declared.profiles.Relaxing.TheVariants.{EachByVariable, UnitsByNegation}
 use Rattle.adder.specs.declared.relaxations.Relaxation.{Relaxation}
@@ -25,6 +27,15 @@ literals_with j rs = map (λ r. r.lit) (filter (λ r. bit r.weight j) rs)
 -- a column added up to its end, with the variables from n on
 abbrev pub column_from : ℕ → List Literal → Column
 column_from n ls = added_up (length ls) n ls
+
+-- a column is added up: its cells come behind those so far, what it carries behind `carried`, and
+-- its output is answered
+pub record AddsColumn (old new : Adder) (carried column : List Literal) (answer : Option Literal)
+    : Type 0 where
+  pub output : answer ≡ (column_from old.fresh column).output
+  pub cells : new.cells.items ≡ old.cells.items ++ (column_from old.fresh column).cells
+  pub carries : new.carries.items ≡ carried ++ (column_from old.fresh column).carries
+  pub fresh : new.fresh ≡ (column_from old.fresh column).fresh
 
 -- the weights as numbers, and light ones first
 abbrev pub numbers_with : List Relaxation → List BinaryNumber

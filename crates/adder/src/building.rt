@@ -1,5 +1,5 @@
 // Building the network of an instance, column by column or along a tree.
-ghost use Rattle.std.specs.Prelude.{◌≡◌, ◌+◌, ◌*◌, ◌≤◌, ◌^◌, [], length, map, IfOk};
+ghost use Rattle.std.specs.Prelude.{◌≡◌, ◌+◌, ◌*◌, ◌≤◌, [], length, IfOk};
 ghost use Rattle.cnf.specs.declared.limits.TheConstants.{FORMULA_VARIABLE_LIMIT};
 ghost use Rattle.adder.specs.Network.{columns_from, adders_as, AddsUp};
 ghost use Rattle.adder.specs.Parts.{literals_with};

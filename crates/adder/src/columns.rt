@@ -1,9 +1,9 @@
 // The columns of a network, one after the other. A column is a queue: a vector and the index of
 // its front, so that nothing is ever moved.
-ghost use Rattle.std.specs.Prelude.{◌≡◌, ◌+◌, ◌<◌, ◌≤◌, ◌^◌, ◌∷◌, [], ◌++◌, IfOk, OnOk};
+ghost use Rattle.std.specs.Prelude.{◌≡◌, ◌+◌, ◌<◌, ◌≤◌, ◌∷◌, [], ◌++◌, IfOk, OnOk};
 ghost use Rattle.cnf.specs.declared.limits.TheConstants.{FORMULA_VARIABLE_LIMIT};
 ghost use Rattle.cnf.specs.Literal.{positive};
-ghost use Rattle.adder.specs.Parts.{literals_with, column_from};
+ghost use Rattle.adder.specs.Parts.{literals_with, column_from, AddsColumn};
 
 use crate::cells::Cell;
 use crate::relaxations::Relaxation;
@@ -71,14 +71,8 @@ impl Adder {
     pub fn add_up(&mut self, column: &mut Vec<Lit>) -> Result<Option<Lit>, AllocError>
         requires { (column_from self.old.fresh column.old.items).fresh
             ≤ FORMULA_VARIABLE_LIMIT }
-        ensures output { IfOk result
-            (λ o. o ≡ (column_from self.old.fresh column.old.items).output) }
-        ensures cells { OnOk result (self.new.cells.items
-            ≡ self.old.cells.items ++ (column_from self.old.fresh column.old.items).cells) }
-        ensures carries { OnOk result (self.new.carries.items
-            ≡ self.old.carries.items ++ (column_from self.old.fresh column.old.items).carries) }
-        ensures fresh { OnOk result
-            (self.new.fresh ≡ (column_from self.old.fresh column.old.items).fresh) }
+        ensures { IfOk result
+            (AddsColumn self.old self.new self.old.carries.items column.old.items) }
     {
         let mut front = 0;
         loop {
@@ -97,18 +91,8 @@ impl Adder {
     pub fn add_column(&mut self, column: &mut Vec<Lit>) -> Result<Option<Lit>, AllocError>
         requires { (column_from self.old.fresh
             (column.old.items ++ self.old.carries.items)).fresh ≤ FORMULA_VARIABLE_LIMIT }
-        ensures output { IfOk result (λ o. o
-            ≡ (column_from self.old.fresh
-            (column.old.items ++ self.old.carries.items)).output) }
-        ensures cells { OnOk result (self.new.cells.items
-            ≡ self.old.cells.items
-            ++ (column_from self.old.fresh
-            (column.old.items ++ self.old.carries.items)).cells) }
-        ensures carries { OnOk result (self.new.carries.items
-            ≡ (column_from self.old.fresh
-            (column.old.items ++ self.old.carries.items)).carries) }
-        ensures fresh { OnOk result (self.new.fresh
-            ≡ (column_from self.old.fresh (column.old.items ++ self.old.carries.items)).fresh) }
+        ensures { IfOk result
+            (AddsColumn self.old self.new [] (column.old.items ++ self.old.carries.items)) }
     {
         column.extend_from_slice(&self.carries)?;
         self.carries.clear();

@@ -6,6 +6,9 @@ use cnf::types::Lit;
 use std::alloc::Global;
 use std::marker::Model;
 
+/// A network has fewer cells than this, so that a formula's clauses stay few.
+pub const CELL_LIMIT: usize = 1 << 24;
+
 /// Cells that add up the weights of the soft clauses whose relaxation literals are true.
 #[derive(Drop)]
 pub struct Network {
@@ -24,6 +27,7 @@ impl Model for Network {
 }
 
 impl Network {
+    /// A network of these cells, with these outputs.
     pub(crate) fn new(cells: Vec<Cell>, outputs: Vec<Option<Lit>>) -> Self
         ensures { result ≡ record { cells = cells.items; outputs = outputs.items } }
     {

@@ -15,8 +15,9 @@ pub enum Profile {
     /// Relaxed as in `One`. The weights are added in pairs along a balanced tree, light ones first,
     /// so that sums of few of them are known early.
     Three,
-    /// Relaxed as in `One`. The weights are added by sums over groups of soft clauses, along a tree
-    /// that follows the hard clauses; where these would take too many clauses, as in `Three`.
+    /// Relaxed as in `One`. The weights are added by sums (generalized totalizers) over at-most-one
+    /// groups of soft clauses, along a tree that follows the hard clauses; where these would take
+    /// too many clauses, as in `Three`.
     Four,
     /// Relaxed and added up as in `Four`. A certificate may bring cores, whose clauses then stand
     /// in place of the sums.

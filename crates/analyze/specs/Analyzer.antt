@@ -1,4 +1,4 @@
--- What is learned from a clause that is false.
+-- Conflict analysis: what is learned from a clause that is false.
 use Rattle.std.specs.Prelude.{Option, None, if◌then◌else◌, ◌≡◌, ℕ, ◌<◌, Bool, true, false, List, []}
 use Rattle.std.specs.Prelude.{◌∷◌, ◌++◌, ◌==◌, map, max, All, IfSome, Some, ◌⊎◌}
 use Rattle.std.specs.List.{AllByRecursion}
@@ -16,7 +16,8 @@ abbrev pub greatest_level : List Assigned → List Literal → ℕ
 greatest_level trail [] = 0
 greatest_level trail (l ∷ c) = max (level_of trail l) (greatest_level trail c)
 
--- all literals are false; the first is of the current level, the others of lower levels above 0
+-- all literals are false; the first, the asserting literal, is of the current level, the others of
+-- lower levels above 0
 pub record IsAsserting (trail : List Assigned) (c : List Literal) (back_level : ℕ) : Type 0 where
   pub first : Literal
   pub others : List Literal

@@ -2,7 +2,7 @@
 ghost use Rattle.std.specs.Prelude.{◌≡◌, ◌+◌, ◌<◌, ◌≤◌, [], length, vec_capacity, All, IfOk};
 ghost use Rattle.std.specs.Prelude.{IfSome};
 ghost use Rattle.analyze.specs.Marks.{IsClear};
-ghost use Rattle.analyze.specs.Met.{HasMet};
+ghost use Rattle.analyze.specs.Met.{HasMet, AreVariables};
 ghost use Rattle.clauses.specs.Slots.{IsLive, clause_at};
 ghost use Rattle.propagate.specs.Trail.{depth_of};
 ghost use Rattle.propagate.specs.Fits.{Fits};
@@ -11,10 +11,9 @@ ghost use Rattle.analyze.specs.Analyzer.{CanLearn, Learns, IsFalsified, IsFinal}
 
 use crate::collect::{collect, greatest};
 use crate::final_clause::learn_final;
-use crate::marks::{Mark, clear, mark_clause, resolve};
+use crate::marks::{Marking, clear, mark_clause, resolve};
 use crate::minimise::Minimiser;
 use crate::ordering::put_in_order;
-use crate::positions::Positions;
 use clauses::store::{CRef, Store};
 use cnf::types::Lit;
 use propagate::engine::Engine;
@@ -32,7 +31,7 @@ pub struct Learned {
     /// The first is the asserting literal, the only one of the current level. The others are of
     /// lower levels above 0.
     pub lits: SmallVec<Lit, SHORT>,
-    /// The greatest level of the other literals, or 0.
+    /// The level to backtrack to: the greatest of the other literals, or 0.
     pub back_level: u32,
     /// Clauses that are unit in turn where all these literals are false and those of level 0 hold,
     /// in the order of the trail, and last one that is false then.
@@ -55,20 +54,10 @@ pub struct FinalClause {
 /// 4; Sörensson and Biere 2009).
 #[derive(Drop)]
 pub struct Analyzer {
-    // By variable, from 0, which no literal has: what the analysis at work knows of it, and all
-    // clear between calls.
-    marks: Vec<Mark>,
-    // The variables that are marked, by their positions on the trail; between calls, those that the
-    // last analysis met. It has room for all variables.
-    met: Vec<u32>,
-    // These positions once more; nothing is taken in between calls.
-    marked: Positions,
+    // What was marked; between calls nothing is.
+    marking: Marking,
     // What drops redundant literals.
     minimiser: Minimiser,
-    // Between calls, the variables beside what was learned. While an analysis is at work, it lists
-    // the variables that a minimisation begins with, and then positions of the trail in order. It
-    // has room for all variables.
-    beside: Vec<u32>,
 }
 
 impl Model for Analyzer {
@@ -77,9 +66,9 @@ impl Model for Analyzer {
 
     ghost Value = { ℕ };
 
-    ghost view = { λ a. length a.marks.items };
+    ghost view = { λ a. length a.marking.marks.items };
 
-    ghost invariant = { λ a. IsAtRest a.marks.items a.met.items (vec_capacity a.met) };
+    ghost invariant = { λ a. IsAtRest a.marking };
 }
 
 impl Analyzer {
@@ -91,19 +80,9 @@ impl Analyzer {
     pub fn new(alloc: Global, variables: u32) -> Result<Self, AllocError>
         ensures { IfOk result (λ a. a ≡ variables + 1) }
     {
-        let count = variables as usize + 1;
-        let marks = Vec::from_elem(alloc, Mark::Clear, count)?;
-        let met = Vec::with_capacity(alloc, count)?;
-        let marked = Positions::new(alloc, variables)?;
-        let minimiser = Minimiser::new(alloc, count)?;
-        let beside = Vec::with_capacity(alloc, count)?;
-        Ok(Analyzer {
-            marks,
-            met,
-            marked,
-            minimiser,
-            beside,
-        })
+        let marking = Marking::new(alloc, variables)?;
+        let minimiser = Minimiser::new(alloc, variables as usize + 1)?;
+        Ok(Analyzer { marking, minimiser })
     }
 
     /// Learns a clause from one that is false and has a literal of the current level. Beside the
@@ -133,18 +112,15 @@ impl Analyzer {
             IsInTrailOrder engine.now.trail conflict learned.hints.items) }
         ensures unchanged { self.new ≡ self.old }
     {
-        self.met.clear();
+        self.marking.met.clear();
         let learned = learn(
             engine,
             store,
             conflict,
-            &mut self.marks,
-            &mut self.met,
-            &mut self.marked,
+            &mut self.marking,
             &mut self.minimiser,
-            &mut self.beside,
         );
-        clear(engine, &mut self.marks, &mut self.met);
+        clear(engine, &mut self.marking.marks, &mut self.marking.met);
         learned
     }
 
@@ -169,21 +145,10 @@ impl Analyzer {
         ensures learns { IfOk result (IsFinal store.now.slots engine.now.trail falsified reason) }
         ensures unchanged { self.new ≡ self.old }
     {
-        self.met.clear();
-        let alloc = store.allocator();
-        let learned = learn_final(
-            alloc,
-            engine,
-            store,
-            falsified,
-            reason,
-            &mut self.marks,
-            &mut self.met,
-            &mut self.marked,
-            &mut self.beside,
-        );
-        clear(engine, &mut self.marks, &mut self.met);
-        self.beside.clear();
+        self.marking.met.clear();
+        let learned = learn_final(engine, store, falsified, reason, &mut self.marking);
+        clear(engine, &mut self.marking.marks, &mut self.marking.met);
+        self.marking.list.clear();
         learned
     }
 
@@ -191,13 +156,15 @@ impl Analyzer {
     pub fn met(&self) -> &[u32]
         ensures { All (λ v. (0 < v) × (v < self.now)) result.now }
     {
-        &self.met
+        &self.marking.met
     }
 
     /// The variables of the reasons of what was learned last that its analysis did not meet, each
     /// once.
-    pub fn beside(&self) -> &[u32] {
-        &self.beside
+    pub fn beside(&self) -> &[u32]
+        ensures { All (λ v. (0 < v) × (v < self.now)) result.now }
+    {
+        &self.marking.list
     }
 }
 
@@ -219,35 +186,46 @@ fn learn(
     engine: &Engine,
     store: &Store,
     conflict: CRef,
-    marks: &mut [Mark],
-    met: &mut Vec<u32>,
-    marked: &mut Positions,
+    marking: &mut Marking,
     minimiser: &mut Minimiser,
-    list: &mut Vec<u32>,
 ) -> Result<Learned, AllocError>
     requires can { CanLearn engine.now store.now.slots conflict }
-    requires room { engine.now.variables < length marks.old }
-    requires clear { IsClear marks.old }
-    requires none { met.old.items ≡ [] }
-    requires spare { length marks.old ≤ vec_capacity met.old }
+    requires room { engine.now.variables < length marking.old.marks.items }
+    requires clear { IsClear marking.old.marks.items }
+    requires none { marking.old.met.items ≡ [] }
+    requires spare { length marking.old.marks.items ≤ vec_capacity marking.old.met }
     ensures learns { IfOk result (Learns store.now.slots engine.now.trail conflict) }
-    ensures listed { HasMet engine.now.trail marks.new met.new.items }
-    ensures long { length marks.new ≡ length marks.old }
-    ensures spare { length marks.old ≤ vec_capacity met.new }
+    ensures listed { HasMet engine.now.trail marking.new.marks.items marking.new.met.items }
+    ensures long { length marking.new.marks.items ≡ length marking.old.marks.items }
+    ensures spare { length marking.old.marks.items ≤ vec_capacity marking.new.met }
+    ensures beside { AreVariables marking.new.marks.items marking.new.list.items }
 {
-    let count = mark_clause(engine, store.lits(conflict), marks, met, marked);
-    let asserting = resolve(engine, store, count, marks, met, marked);
-    minimiser.minimise(engine, store, asserting, marks, met, marked, list);
-    put_in_order(engine, marks, met, marked, list);
+    let count = mark_clause(engine, store.lits(conflict), marking);
+    let asserting = resolve(engine, store, count, marking);
+    minimiser.minimise(engine, store, asserting, marking);
+    put_in_order(engine, marking);
+    marking.list.clear();
     let alloc = store.allocator();
     let mut lits = SmallVec::new(alloc);
     // Room for all at once, so that they do not grow step by step.
-    let mut hints = Vec::with_capacity(alloc, met.len() + 1)?;
+    let mut hints = Vec::with_capacity(alloc, marking.met.len() + 1)?;
     collect(
-        engine, asserting, conflict, marks, met, &mut lits, &mut hints,
+        engine,
+        asserting,
+        conflict,
+        &marking.marks,
+        &marking.met,
+        &mut lits,
+        &mut hints,
     )?;
     let back_level = greatest(engine, &lits.as_slice()[1..]);
-    minimiser.meet_reasons(engine, store, lits.as_slice(), marks, list);
+    minimiser.meet_reasons(
+        engine,
+        store,
+        lits.as_slice(),
+        &marking.marks,
+        &mut marking.list,
+    );
     Ok(Learned {
         lits,
         back_level,

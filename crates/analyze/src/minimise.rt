@@ -9,13 +9,13 @@
 // it by its reasons, as any literal of a conflict is, so that the hints are just the reasons that
 // were used. It takes what was found last first, as a variable is found redundant after those of
 // its reason.
-ghost use Rattle.std.specs.Prelude.{◌<◌, ◌≤◌, length};
+ghost use Rattle.std.specs.Prelude.{◌≡◌, ◌<◌, ◌≤◌, length};
 ghost use Rattle.propagate.specs.Fits.{Fits};
 ghost use Rattle.analyze.specs.Marks.{IsReduced, Reduces, HasMarks, FitsMarks};
-ghost use Rattle.analyze.specs.Met.{IsMarking};
+ghost use Rattle.analyze.specs.Met.{IsMarking, AreVariables};
 
-use crate::marks::{Mark, resolve_one};
-use crate::positions::{Positions, put};
+use crate::marks::{Mark, Marking, resolve_one};
+use crate::positions::put;
 use clauses::store::Store;
 use cnf::types::Lit;
 use propagate::engine::Engine;
@@ -78,12 +78,6 @@ fn note(ideas: &mut [Idea], variable: u32, idea: Idea) {
     }
 }
 
-/// Notes what was found of a variable, and lists it.
-fn settle(ideas: &mut [Idea], settled: &mut Vec<u32>, variable: u32, idea: Idea) {
-    note(ideas, variable, idea);
-    put(settled, variable);
-}
-
 /// The variable at a position of the trail; 0, which no literal has, past its end.
 pub(crate) fn variable_of(engine: &Engine, position: u32) -> u32
     ensures { result ≤ engine.now.variables }
@@ -120,33 +114,37 @@ impl Minimiser {
         })
     }
 
-    /// Drops the redundant literals. `kept` takes the variables that stood in the clause.
+    /// Drops the redundant literals. It lists the variables that stood in the clause.
     pub(crate) fn minimise(
         &mut self,
         engine: &Engine,
         store: &Store,
         asserting: Lit,
-        marks: &mut [Mark],
-        met: &mut Vec<u32>,
-        marked: &mut Positions,
-        kept: &mut Vec<u32>,
+        marking: &mut Marking,
     )
         requires fits { Fits engine.now store.now.slots }
-        requires reduced { IsReduced engine.now.trail marks.old asserting }
-        requires marking { IsMarking engine.now marks.old met.old }
-        ensures reduces { Reduces store.now.slots engine.now.trail marks.old marks.new asserting }
-        ensures marking { IsMarking engine.now marks.new met.new }
+        requires reduced { IsReduced engine.now.trail marking.old.marks.items asserting }
+        requires marking { IsMarking engine.now marking.old }
+        ensures reduces { Reduces store.now.slots engine.now.trail
+            marking.old.marks.items marking.new.marks.items asserting }
+        ensures marking { IsMarking engine.now marking.new }
     {
-        self.start(engine, asserting, marks, met, kept);
-        for variable in kept.iter() {
-            self.find_redundant(engine, store, *variable, marks);
+        self.start(
+            engine,
+            asserting,
+            &marking.marks,
+            &marking.met,
+            &mut marking.list,
+        );
+        for variable in marking.list.iter() {
+            self.find_redundant(engine, store, *variable, &marking.marks);
         }
-        self.forget_firsts(engine, kept);
-        self.drop_redundant(engine, store, asserting, marks, met, marked);
+        self.forget_firsts(engine, &marking.list);
+        self.drop_redundant(engine, store, asserting, marking);
     }
 
-    /// Lists the variables of the reasons of these literals, each once, but for such as were met
-    /// and such of level 0.
+    /// Adds to the list the variables of the reasons of these literals, each once, but for such as
+    /// were met and such of level 0.
     pub(crate) fn meet_reasons(
         &mut self,
         engine: &Engine,
@@ -155,9 +153,10 @@ impl Minimiser {
         marks: &[Mark],
         beside: &mut Vec<u32>,
     )
-        requires { FitsMarks engine.now store.now.slots marks.now }
+        requires fits { FitsMarks engine.now store.now.slots marks.now }
+        requires named { AreVariables marks.now beside.old.items }
+        ensures named { AreVariables marks.now beside.new.items }
     {
-        beside.clear();
         for lit in lits {
             let variable = lit.variable().min(engine.variables());
             if let Some(reason) = engine.reason(variable) {
@@ -269,6 +268,14 @@ impl Minimiser {
         }
     }
 
+    /// Notes what was found of a variable, and lists it.
+    fn settle(&mut self, variable: u32, idea: Idea)
+        ensures { self.new.path ≡ self.old.path }
+    {
+        note(&mut self.ideas, variable, idea);
+        put(&mut self.settled, variable);
+    }
+
     /// Finds out whether a variable is redundant, and what it takes to know it.
     fn find_redundant(&mut self, engine: &Engine, store: &Store, variable: u32, marks: &[Mark])
         requires { FitsMarks engine.now store.now.slots marks.now }
@@ -291,31 +298,16 @@ impl Minimiser {
                     };
                 }
                 Way::Redundant => {
-                    settle(
-                        &mut self.ideas,
-                        &mut self.settled,
-                        step.variable,
-                        Idea::Redundant,
-                    );
+                    self.settle(step.variable, Idea::Redundant);
                     match self.path.pop() {
                         Some(last) => step = last,
                         None => return,
                     }
                 }
                 Way::Needed => {
-                    settle(
-                        &mut self.ideas,
-                        &mut self.settled,
-                        step.variable,
-                        Idea::Needed,
-                    );
-                    for before in self.path.iter() {
-                        settle(
-                            &mut self.ideas,
-                            &mut self.settled,
-                            before.variable,
-                            Idea::Needed,
-                        );
+                    self.settle(step.variable, Idea::Needed);
+                    while let Some(before) = self.path.pop() {
+                        self.settle(before.variable, Idea::Needed);
                     }
                     return;
                 }
@@ -330,33 +322,34 @@ impl Minimiser {
         engine: &Engine,
         store: &Store,
         asserting: Lit,
-        marks: &mut [Mark],
-        met: &mut Vec<u32>,
-        marked: &mut Positions,
+        marking: &mut Marking,
     )
         requires fits { Fits engine.now store.now.slots }
-        requires reduced { IsReduced engine.now.trail marks.old asserting }
-        requires marking { IsMarking engine.now marks.old met.old }
-        ensures reduces { Reduces store.now.slots engine.now.trail marks.old marks.new asserting }
-        ensures marking { IsMarking engine.now marks.new met.new }
+        requires reduced { IsReduced engine.now.trail marking.old.marks.items asserting }
+        requires marking { IsMarking engine.now marking.old }
+        ensures reduces { Reduces store.now.slots engine.now.trail
+            marking.old.marks.items marking.new.marks.items asserting }
+        ensures marking { IsMarking engine.now marking.new }
     {
         while let Some(settled) = self.settled.pop() {
             let variable = settled.min(engine.variables());
             let idea = self.idea_of(variable);
             note(&mut self.ideas, variable, Idea::Unknown);
             if idea == Idea::Redundant
-                && marks[variable as usize] == Mark::Kept
+                && marking.mark_of(variable) == Mark::Kept
                 && variable != asserting.variable()
                 && let Some(reason) = engine.reason(variable)
             {
-                let _ = resolve_one(engine, store, variable, reason, marks, met, marked);
+                let _ = resolve_one(engine, store, variable, reason, marking);
             }
         }
     }
 
     /// Takes in what was not met of a clause and stands above level 0.
     fn take_in(&mut self, engine: &Engine, lits: &[Lit], marks: &[Mark], beside: &mut Vec<u32>)
-        requires { HasMarks engine.now marks.now lits.now }
+        requires has { HasMarks engine.now marks.now lits.now }
+        requires named { AreVariables marks.now beside.old.items }
+        ensures named { AreVariables marks.now beside.new.items }
     {
         for lit in lits {
             let variable = lit.variable();
@@ -364,7 +357,8 @@ impl Minimiser {
                 && self.idea_of(variable) == Idea::Unknown
                 && level_of(engine, variable) > 0
             {
-                settle(&mut self.ideas, beside, variable, Idea::Needed);
+                note(&mut self.ideas, variable, Idea::Needed);
+                put(beside, variable);
             }
         }
     }

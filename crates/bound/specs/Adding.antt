@@ -1,9 +1,10 @@
 -- What is asked of the cells of a network, and what adding clauses does.
-use Rattle.std.specs.Prelude.{◌≡◌, ℕ, ◌+◌, ◌*◌, ◌<◌, ◌≤◌, ◌^◌, Bool, true, not, List, ◌++◌, length}
+use Rattle.std.specs.Prelude.{◌≡◌, ℕ, ◌+◌, ◌*◌, ◌<◌, ◌≤◌, Bool, true, not, List, ◌++◌, length}
 use Rattle.std.specs.Prelude.{◌==◌, All}
 use Rattle.cnf.specs.Literal.{Literal}
 use Rattle.cnf.specs.declared.limits.TheConstants.{VARIABLE_LIMIT, FORMULA_VARIABLE_LIMIT}
 use Rattle.adder.specs.declared.cells.Cell.{Cell}
+use Rattle.adder.specs.declared.networks.TheConstants.{CELL_LIMIT}
 use Rattle.adder.specs.declared.profiles.Relaxing.{Relaxing}
 use Rattle.adder.specs.declared.profiles.Relaxing.TheVariants.{EachByVariable, UnitsByNegation}
 use Rattle.adder.specs.Network.{Adders}
@@ -26,7 +27,7 @@ gets_variable UnitsByNegation c = not (length c == 1)
 -- its clauses are few
 pub record IsFitNetwork (n : Adders) : Type 0 where
   pub cells : All HasVariables n.cells
-  pub few : length n.cells < 2 ^ 24
+  pub few : length n.cells < CELL_LIMIT
 
 abbrev pub IsFit : Addition → Type 0
 IsFit (Network n) = IsFitNetwork n

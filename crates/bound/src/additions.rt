@@ -1,4 +1,5 @@
-// What adds up the weights of the soft clauses that are given up.
+// What adds up the weights of the soft clauses that are given up: adders, or a generalized
+// totalizer.
 ghost use Rattle.std.specs.Prelude.{◌≡◌, ◌++◌, IfOk, OnOk};
 ghost use Rattle.adder.specs.Network.{adders_as};
 ghost use Rattle.bound.specs.Bound.{addition_as, addition_clauses, last_variable};
@@ -21,8 +22,9 @@ pub enum Addition {
     /// Adders, whose outputs are the digits of the total weight. A comparator speaks of the
     /// outputs' variables alone.
     Network(Network),
-    /// Sums over groups of soft clauses. A comparator speaks of variables behind those of the
-    /// instance: of new ones and of relaxation variables.
+    /// Sums over at-most-one groups of soft clauses, by a generalized totalizer in mixed radix. A
+    /// comparator speaks of variables behind those of the instance: of new ones and of relaxation
+    /// variables.
     Sums(Root),
 }
 

@@ -1,5 +1,5 @@
 // The clauses of a cell, which say that its carry and its sum count the true ones of its inputs.
-ghost use Rattle.std.specs.Prelude.{◌<◌, ◌^◌, All, OnOk};
+ghost use Rattle.std.specs.Prelude.{◌<◌, All, OnOk};
 ghost use Rattle.std.specs.List.{flat_map};
 ghost use Rattle.bound.specs.Bound.{cell_clauses, full_clauses, half_clauses};
 ghost use Rattle.bound.specs.Adding.{Adds, HasVariables};

@@ -1,6 +1,6 @@
 // The comparator: clauses that hold where what is added up is below a bound, be it the number that
 // the outputs of a network spell or the sum at the root of a tree.
-ghost use Rattle.std.specs.Prelude.{◌≡◌, ◌/◌, ◌≤◌, ◌^◌, ◌++◌, false, reverse, All, IfOk, OnOk};
+ghost use Rattle.std.specs.Prelude.{◌≡◌, ◌/◌, ◌^◌, ◌++◌, false, reverse, All, IfOk, OnOk};
 ghost use Rattle.cnf.specs.Clause.{has_repeat};
 ghost use Rattle.bound.specs.Bound.{kept, rising_clauses, comparator_of, CoversLarger};
 ghost use Rattle.bound.specs.Bound.{comparator_over, CoversLargerOver};

@@ -1,5 +1,5 @@
 // The formula of an instance with cores.
-ghost use Rattle.std.specs.Prelude.{◌≡◌, ◌<◌, ◌^◌, ◌++◌, [], ◌∷◌, List, length, map, All, IfOk};
+ghost use Rattle.std.specs.Prelude.{◌≡◌, ◌<◌, ◌++◌, [], ◌∷◌, List, length, map, All, IfOk};
 ghost use Rattle.std.specs.Prelude.{OnOk};
 ghost use Rattle.cnf.specs.declared.limits.TheConstants.{CLAUSE_LIMIT};
 ghost use Rattle.cnf.specs.Literal.{negative};

@@ -1,8 +1,10 @@
 // The text of a formula, written while its clauses are made: memory holds only what the formula is
 // made of and the clauses of one cell, so the formula may be far larger than memory.
-ghost use Rattle.std.specs.Prelude.{◌≡◌, ◌+◌, ◌*◌, ◌<◌, ◌≤◌, ◌^◌, length, All, IfOk, IfErr};
+ghost use Rattle.std.specs.Prelude.{◌≡◌, ◌+◌, ◌*◌, ◌<◌, ◌≤◌, length, All, IfOk, IfErr};
 ghost use Rattle.std.specs.List.{flat_map};
+ghost use Rattle.sums.specs.declared.root.TheConstants.{MOST_CLAUSES};
 ghost use Rattle.cnf.specs.declared.limits.TheConstants.{NUMBER_LIMIT};
+ghost use Rattle.adder.specs.declared.networks.TheConstants.{CELL_LIMIT};
 ghost use Rattle.text.specs.Writing.{Writes, Puts};
 ghost use Rattle.bound.specs.Bound.{kept, bound_as, cell_clauses, comparator_for, dimacs_clause};
 ghost use Rattle.bound.specs.Bound.{dimacs_text, relaxed_clauses, addition_as, addition_clauses};
@@ -217,7 +219,7 @@ fn count_addition(addition: &Addition) -> Result<usize, AllocError>
 
 /// How many of the clauses a formula keeps.
 fn count_kept(clauses: &ClauseList) -> Result<usize, AllocError>
-    requires { length clauses.now ≤ 2 ^ 17 }
+    requires { length clauses.now ≤ MOST_CLAUSES }
     ensures { IfOk result (λ n. n ≡ length (kept clauses.now)) }
 {
     let mut part = ClauseList::new(clauses.allocator());
@@ -233,7 +235,7 @@ fn count_kept(clauses: &ClauseList) -> Result<usize, AllocError>
 /// How many clauses of its cells a formula keeps.
 fn count_cells(network: &Network) -> Result<usize, AllocError>
     requires variables { All HasVariables network.now.cells }
-    requires few { length network.now.cells < 2 ^ 24 }
+    requires few { length network.now.cells < CELL_LIMIT }
     ensures { IfOk result (λ n. n ≡ length (kept (flat_map cell_clauses network.now.cells))) }
 {
     let mut part = ClauseList::new(network.allocator());

@@ -1,5 +1,5 @@
 // The hard clauses as a formula.
-ghost use Rattle.std.specs.Prelude.{◌≡◌, ◌*◌, ◌<◌, ◌≤◌, ◌^◌, ◌++◌, length, All, IfOk, OnOk, ◌↔◌};
+ghost use Rattle.std.specs.Prelude.{◌≡◌, ◌*◌, ◌<◌, ◌≤◌, ◌++◌, length, All, IfOk, OnOk, ◌↔◌};
 ghost use Rattle.cnf.specs.declared.limits.TheConstants.{CLAUSE_LIMIT};
 ghost use Rattle.cnf.specs.Literal.{Assignment};
 ghost use Rattle.cnf.specs.Clause.{Satisfies};

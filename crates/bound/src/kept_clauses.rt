@@ -1,7 +1,7 @@
 // Clauses as formulas have them: each literal once, and none with complementary literals, which
 // every assignment satisfies.
 ghost use Rattle.std.specs.Prelude.{◌≡◌, false, [], ◌∷◌, ◌++◌, length, All, IfOk, OnOk};
-ghost use Rattle.cnf.specs.Clause.{contains_literal, distinct, has_repeat, is_tautology};
+ghost use Rattle.cnf.specs.Clause.{distinct, has_repeat, is_tautology};
 ghost use Rattle.bound.specs.Bound.{kept};
 ghost use Rattle.bound.specs.Adding.{Adds};
 ghost use Rattle.cnf.specs.Marks.{HasPlace};

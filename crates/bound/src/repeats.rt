@@ -1,5 +1,5 @@
 //! Whether a literal occurs twice.
-ghost use Rattle.std.specs.Prelude.{◌≡◌, length};
+ghost use Rattle.std.specs.Prelude.{◌≡◌};
 ghost use Rattle.cnf.specs.Clause.{has_repeat};
 
 use cnf::types::Lit;

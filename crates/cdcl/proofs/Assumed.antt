@@ -18,8 +18,8 @@ use Rattle.cdcl_search.specs.Running.{is_refuted, IsInput, IsEnded, StaysOpen, R
 use Rattle.cdcl_search.specs.Invariant.{name_at}
 use Rattle.cdcl.specs.Turns.{Pays, IsPlain}
 use Rattle.cdcl.specs.Outcomes.{IsSolver}
-use Rattle.cdcl.specs.Assuming.{SolvesAssuming, OnSat, OnUnsat, OnCore, OnLimit, IsTrueUnder}
-use Rattle.cdcl.specs.Assuming.{IsCore}
+use Rattle.cdcl.specs.Assuming.{SolvesAssuming, OnAssumedSat, OnAssumedUnsat, OnCore}
+use Rattle.cdcl.specs.Assuming.{OnAssumedLimit, IsTrueUnder, IsCore}
 use Rattle.cdcl.specs.Halting.{IsAtCore}
 use Rattle.cdcl.specs.Answering.{IsAssumed, is_unsat}
 use Rattle.cdcl.proofs.Answered.{seen_given, given_seen, log_now, ended_log, view_of, written_short}
@@ -47,7 +47,7 @@ core_shown s p ls asked core i a =
 
 sat_of : (s : Search) (p : Input) (ls : List LogLine) (b : BudgetState) (asked : List Literal)
     (o : Assumed) → IsInput p → IsAssumed s p ls b asked o
-    → OnSat (Ok o) (λ bits. (length bits ≡ length (p.frozen).items)
+    → OnAssumedSat (Ok o) (λ bits. (length bits ≡ length (p.frozen).items)
     × SatisfyGiven bits (seen_given p) × All (IsTrueUnder bits) asked)
 sat_of s p ls b asked (Sat bits) i a =
     (a.long, subst (SatisfyGiven bits.items) (sym (given_seen p i)) a.satisfied, a.assumed)
@@ -58,7 +58,7 @@ sat_of s p ls b asked Limit i a = tt
 
 unsat_of : (s : Search) (p : Input) (ls : List LogLine) (b : BudgetState) (asked : List Literal)
     (o : Assumed) → IsInput p → IsAssumed s p ls b asked o
-    → OnUnsat (Ok o) (IsAcceptedLog (seen_given p) ls)
+    → OnAssumedUnsat (Ok o) (IsAcceptedLog (seen_given p) ls)
 unsat_of s p ls b asked (Sat bits) i a = tt
 unsat_of s p ls b asked Unsat i a = ended_log p ls i a
 unsat_of s p ls b asked (Core core) i a = tt
@@ -75,7 +75,7 @@ core_of s p ls b asked Open i a = tt
 core_of s p ls b asked Limit i a = tt
 
 limit_of : (s : Search) (p : Input) (ls : List LogLine) (b : BudgetState) (asked : List Literal)
-    (o : Assumed) → IsAssumed s p ls b asked o → OnLimit (Ok o) (left_of b ≡ 0)
+    (o : Assumed) → IsAssumed s p ls b asked o → OnAssumedLimit (Ok o) (left_of b ≡ 0)
 limit_of s p ls b asked (Sat bits) a = tt
 limit_of s p ls b asked Unsat a = tt
 limit_of s p ls b asked (Core core) a = tt

@@ -77,12 +77,12 @@ goes_learned old new p ls before after r same paid some = record {
       let low = one_if_le (new.policy).has_learned in omega arith);
 }
 
--- it starts over
-pub goes_over : (old new : Search) (p : Input) (ls : List LogLine) (budget : BudgetState)
+-- it restarts
+pub goes_restarted : (old new : Search) (p : Input) (ls : List LogLine) (budget : BudgetState)
     → Runs new p ls → (new.engine).variables ≡ (old.engine).variables
     → (old.policy).has_learned ≡ true → (new.policy).has_learned ≡ false
     → GoesOn old new p ls budget budget
-goes_over old new p ls budget r same learned none = record {
+goes_restarted old new p ls budget r same learned none = record {
   runs = r;
   fewer = falls_first old new budget budget same
       (let one : one_if (old.policy).has_learned ≡ 1 = ap one_if learned in

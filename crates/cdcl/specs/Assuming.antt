@@ -19,21 +19,21 @@ use Rattle.cdcl_search.specs.Running.{is_refuted}
 abbrev pub AssumedAnswer : Type 0
 AssumedAnswer = Result Assumed SolveFault
 
-abbrev pub OnSat : AssumedAnswer → (List Bool → Type 0) → Type 0
-OnSat (Ok (Sat bits)) P = P bits.items
-OnSat (Ok Unsat) P = ⊤
-OnSat (Ok (Core core)) P = ⊤
-OnSat (Ok Open) P = ⊤
-OnSat (Ok Limit) P = ⊤
-OnSat (Err e) P = ⊤
+abbrev pub OnAssumedSat : AssumedAnswer → (List Bool → Type 0) → Type 0
+OnAssumedSat (Ok (Sat bits)) P = P bits.items
+OnAssumedSat (Ok Unsat) P = ⊤
+OnAssumedSat (Ok (Core core)) P = ⊤
+OnAssumedSat (Ok Open) P = ⊤
+OnAssumedSat (Ok Limit) P = ⊤
+OnAssumedSat (Err e) P = ⊤
 
-abbrev pub OnUnsat : AssumedAnswer → Type 0 → Type 0
-OnUnsat (Ok Unsat) P = P
-OnUnsat (Ok (Sat bits)) P = ⊤
-OnUnsat (Ok (Core core)) P = ⊤
-OnUnsat (Ok Open) P = ⊤
-OnUnsat (Ok Limit) P = ⊤
-OnUnsat (Err e) P = ⊤
+abbrev pub OnAssumedUnsat : AssumedAnswer → Type 0 → Type 0
+OnAssumedUnsat (Ok Unsat) P = P
+OnAssumedUnsat (Ok (Sat bits)) P = ⊤
+OnAssumedUnsat (Ok (Core core)) P = ⊤
+OnAssumedUnsat (Ok Open) P = ⊤
+OnAssumedUnsat (Ok Limit) P = ⊤
+OnAssumedUnsat (Err e) P = ⊤
 
 abbrev pub OnCore : AssumedAnswer → (List Literal → Type 0) → Type 0
 OnCore (Ok (Core core)) P = P core.items
@@ -43,13 +43,13 @@ OnCore (Ok Open) P = ⊤
 OnCore (Ok Limit) P = ⊤
 OnCore (Err e) P = ⊤
 
-abbrev pub OnLimit : AssumedAnswer → Type 0 → Type 0
-OnLimit (Ok Limit) P = P
-OnLimit (Ok (Sat bits)) P = ⊤
-OnLimit (Ok Unsat) P = ⊤
-OnLimit (Ok (Core core)) P = ⊤
-OnLimit (Ok Open) P = ⊤
-OnLimit (Err e) P = ⊤
+abbrev pub OnAssumedLimit : AssumedAnswer → Type 0 → Type 0
+OnAssumedLimit (Ok Limit) P = P
+OnAssumedLimit (Ok (Sat bits)) P = ⊤
+OnAssumedLimit (Ok Unsat) P = ⊤
+OnAssumedLimit (Ok (Core core)) P = ⊤
+OnAssumedLimit (Ok Open) P = ⊤
+OnAssumedLimit (Err e) P = ⊤
 
 -- the bits make the literal true
 abbrev pub IsTrueUnder : List Bool → Literal → Type 0
@@ -75,11 +75,11 @@ pub record IsCore (given : Given) (ls : List LogLine) (assumptions core : List L
 pub record SolvesAssuming {S : Type 0} (answer : AssumedAnswer) (was is : SolverState S)
     (assumptions : List Literal) (before after : List LogLine)
     (had left : BudgetState) : Type 0 where
-  pub sat : OnSat answer (λ bits. (length bits ≡ was.formula.variables)
+  pub sat : OnAssumedSat answer (λ bits. (length bits ≡ was.formula.variables)
       × SatisfyGiven bits (given_to was) × All (IsTrueUnder bits) assumptions)
-  pub unsat : OnUnsat answer (IsAcceptedLog (given_to was) after)
+  pub unsat : OnAssumedUnsat answer (IsAcceptedLog (given_to was) after)
   pub core : OnCore answer (IsCore (given_to was) after assumptions)
-  pub limit : OnLimit answer (left_of left ≡ 0)
+  pub limit : OnAssumedLimit answer (left_of left ≡ 0)
   -- where it answers at once
   pub refuted : OnOk answer (IsPlainlyRefuted was → answer ≡ Ok Unsat)
   pub propagates : OnOk answer (IsLiveRefuted (given_to was) before → answer ≡ Ok Unsat)

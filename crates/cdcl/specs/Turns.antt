@@ -40,7 +40,7 @@ IsEndOf s p ls b Satisfied = IsSatisfied s p ls b
 IsEndOf s p ls b Refuted = IsEnded p ls
 IsEndOf s p ls b Spent = IsSpent s p ls b
 
--- Rounds of a search: each learns and pays a unit, starts over after something was learned, or
+-- Rounds of a search: each learns and pays a unit, restarts after something was learned, or
 -- makes one more literal true.
 abbrev pub rounds_left : Search → BudgetState → ℕ
 rounds_left s b =

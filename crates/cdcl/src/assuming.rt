@@ -7,7 +7,7 @@
 // For a caller that looks for many cores at once, false assumptions are skipped, and each gives a
 // core. To decide ten thousand assumptions takes longer than most conflicts: where each core took a
 // search of its own, nearly all the time went into deciding the same ones again.
-ghost use Rattle.std.specs.Prelude.{◌≡◌, ◌+◌, ◌<◌, ◌≤◌, true, length, All, Contains, IfOk, IfSome};
+ghost use Rattle.std.specs.Prelude.{◌≡◌, ◌+◌, ◌<◌, ◌≤◌, true, length, All, Contains, IfOk};
 ghost use Rattle.std.specs.Prelude.{Some, None, false};
 ghost use Rattle.propagate.specs.Trail.{literals_of, value_in};
 ghost use Rattle.propagate.specs.Fits.{IsFalseClause};
@@ -243,7 +243,7 @@ fn descend_assuming<S: Sink, W: SearchWatch>(
     }
 }
 
-/// Propagates, and then learns, starts over or decides; it answers how the search ended, if it did.
+/// Propagates, and then learns, restarts or decides; it answers how the search ended, if it did.
 fn round_assuming<S: Sink, W: SearchWatch>(
     search: &mut Search,
     input: &Input,
@@ -313,7 +313,7 @@ fn learn_assuming<S: Sink, W: SearchWatch>(
     Ok(None)
 }
 
-/// Starts over or decides, if something is left of the budget.
+/// Restarts or decides, if something is left of the budget.
 fn decide_assuming<S: Sink>(
     search: &mut Search,
     input: &Input,
@@ -333,7 +333,7 @@ fn decide_assuming<S: Sink>(
         return Ok(Some(SearchEnd::Spent));
     }
     if search.policy.is_restart_due() {
-        search.start_over(progress.opened.len());
+        search.restart(progress.opened.len());
         progress.decisions = share.decisions;
         return Ok(None);
     }

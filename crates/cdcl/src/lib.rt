@@ -1,4 +1,4 @@
-//! Conflict-driven search under a budget.
+//! Conflict-driven clause learning (CDCL) under a budget.
 #![tactic(auto)]
 
 pub use cdcl_order::{budget, watch};

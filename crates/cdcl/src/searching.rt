@@ -1,7 +1,7 @@
 // The loop of a search (Handbook of Satisfiability, chapter on conflict-driven clause learning):
-// propagate, then learn from a conflict or decide. It starts over where its policy says so, which
-// is only after a clause was learned since it last did; so a search is bounded by its budget and
-// the variables without a value.
+// propagate, then learn from a conflict or decide. It restarts where its policy says so, which is
+// only after a clause was learned since it last did; so a search is bounded by its budget and the
+// variables without a value.
 ghost use Rattle.std.specs.Prelude.{◌≡◌, IfOk};
 ghost use Rattle.propagate.specs.Trail.{literals_of};
 ghost use Rattle.propagate.specs.Fits.{IsFalseClause};
@@ -9,7 +9,6 @@ ghost use Rattle.analyze.specs.Analyzer.{IsQuiet};
 ghost use Rattle.cdcl.specs.Solving.{IsLiveRefuted};
 ghost use Rattle.cdcl_search.specs.Running.{Runs};
 ghost use Rattle.cdcl.specs.Turns.{Ends, Turns, Opens};
-ghost use Rattle.cdcl_search.specs.Parts.{LearnsNothing, NotesAll};
 ghost use Rattle.cdcl.specs.declared.searching.End.TheVariants.{Refuted};
 
 use crate::budget::Budget;
@@ -99,7 +98,7 @@ fn descend<S: Sink, W: SearchWatch>(
     }
 }
 
-/// Propagates, and then learns, starts over or decides; it answers how the search ended, if it did.
+/// Propagates, and then learns, restarts or decides; it answers how the search ended, if it did.
 fn round<S: Sink, W: SearchWatch>(
     search: &mut Search,
     input: &Input,
@@ -146,7 +145,7 @@ fn on_conflict<S: Sink, W: SearchWatch>(
     Ok(None)
 }
 
-/// Starts over or decides, if something is left of the budget. Clauses are deleted after a
+/// Restarts or decides, if something is left of the budget. Clauses are deleted after a
 /// decision: by then what was learned has been propagated, and each level below is quiet.
 fn on_quiet<S: Sink>(
     search: &mut Search,
@@ -163,7 +162,7 @@ fn on_quiet<S: Sink>(
         return Ok(Some(End::Spent));
     }
     if search.policy.is_restart_due() {
-        search.start_over(0);
+        search.restart(0);
         return Ok(None);
     }
     note_level(search, input, sink)?;

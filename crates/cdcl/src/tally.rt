@@ -1,5 +1,5 @@
 // A sink that counts what passes through it.
-ghost use Rattle.std.specs.Prelude.{◌≡◌, [], ◌∷◌, ◌++◌, ◌<◌, ◌^◌, length, OnOk, OnErr};
+ghost use Rattle.std.specs.Prelude.{◌≡◌, ◌<◌};
 ghost use Rattle.lrat_log.specs.Steps.{added_count};
 ghost use Rattle.cdcl_search.specs.Running.{is_refuted};
 

@@ -15,7 +15,7 @@ use Rattle.cdcl_order.specs.Deletions.{is_worse, AreWorse, IsWorseHalf}
 pub worse_orders : IsStrictWeakOrder is_worse
 worse_orders =
     IsStrictWeakOrder-flip _
-    (ranks_by (then_total (on_total (λ (r : Ranked). r.distance) nat_cmp_total)
+    (ranks_by (then_total (on_total (λ (r : Ranked). r.lbd) nat_cmp_total)
     (on_total (λ (r : Ranked). r.length) nat_cmp_total)) (λ (r : Ranked). r))
 
 pub first_are_worse : (xs : List Ranked) (n : ℕ) → n ≤ length xs → IsSortedBy is_worse xs

@@ -1,4 +1,4 @@
--- Which learned clauses are deleted, and when.
+-- Which learned clauses are deleted, by tiers of LBD, and when.
 use Rattle.std.specs.Prelude.{◌≡◌, ℕ, ◌+◌, ◌-◌, ◌*◌, ◌/◌, nat_lt, Bool, false, List, [], ◌∷◌, ◌++◌}
 use Rattle.std.specs.Prelude.{length, map, All, fold, if◌then◌else◌, IsPermutation, IsSortedBy}
 use Rattle.std.specs.List.Sorted.{IsStableBy}
@@ -20,17 +20,16 @@ pub record Sifted : Type 0 where
   pub standings : StandingsState
   pub rest : List Ranked
 
--- a clause that was used lately loses a use, one of distance KEPT or less stays, another is not
--- spared
+-- a clause that was used lately loses a use, one of LBD KEPT or less stays, another is not spared
 abbrev pub sift_one : Sifted → Candidate → Sifted
 sift_one s c =
     let t = standing_at s.standings c.reference in
     if nat_lt 0 t.used then record s {
       standings = with_standing s.standings c.reference (record t { used = t.used - 1 });
     }
-    else if nat_lt KEPT t.distance then record s {
+    else if nat_lt KEPT t.lbd then record s {
       rest = s.rest ++ record {
-        distance = t.distance;
+        lbd = t.lbd;
         length = c.length;
         reference = c.reference;
       } ∷ [];
@@ -42,9 +41,9 @@ sifted s candidates = fold sift_one (record { standings = s; rest = [] }) candid
 
 -- The worse half.
 
--- the first clause has the greater distance, or the same and more literals
+-- the first clause has the greater LBD, or the same and more literals
 abbrev pub is_worse : Ranked → Ranked → Bool
-is_worse c d = is_lt (ordering_then (nat_cmp d.distance c.distance) (nat_cmp d.length c.length))
+is_worse c d = is_lt (ordering_then (nat_cmp d.lbd c.lbd) (nat_cmp d.length c.length))
 
 -- none of the others is worse than one of the chosen
 abbrev pub AreWorse : List Ranked → List Ranked → Type 0

@@ -1,4 +1,4 @@
--- How many levels meet in a clause.
+-- How many levels meet in a clause, its LBD (literal block distance).
 use Rattle.std.specs.Prelude.{ℕ, ◌&&◌, not, nat_lt, ◌==◌, List, [], ◌∷◌, length, fold}
 use Rattle.std.specs.Prelude.{if◌then◌else◌}
 use Rattle.std.specs.List.{list_any}
@@ -18,5 +18,5 @@ with_level met k = if nat_lt 0 k && not (list_any (λ m. m == k) met) then k ∷
 abbrev pub levels_of : List Assigned → List Literal → List ℕ
 levels_of trail lits = fold (λ met l. with_level met (level_of trail l)) [] lits
 
-abbrev pub distance_of : List Assigned → List Literal → ℕ
-distance_of trail lits = length (levels_of trail lits)
+abbrev pub lbd_of : List Assigned → List Literal → ℕ
+lbd_of trail lits = length (levels_of trail lits)

@@ -1,4 +1,4 @@
--- The values that are tried first.
+-- Saved phases: the values that are tried first.
 use Rattle.std.specs.Prelude.{ℕ, ◌+◌, ◌-◌, nat_le, false, true, Bool, ◌&&◌, not, List, replicate}
 use Rattle.std.specs.Prelude.{◌++◌, length, take, drop}
 use Rattle.std.specs.Prelude.{slice_index_or, slice_set, fold, if◌then◌else◌}

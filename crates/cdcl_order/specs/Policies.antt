@@ -4,5 +4,5 @@ use Rattle.std.specs.Prelude.{ℕ, Bool}
 pub record PolicyState : Type 0 where
   -- it is one over the variables from 1 up to this number
   pub variables : ℕ
-  -- a clause was learned since the search began or last started over
+  -- a clause was learned since the search began or last restarted
   pub has_learned : Bool

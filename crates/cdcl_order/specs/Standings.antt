@@ -5,14 +5,14 @@ use Rattle.cdcl_order.specs.declared.standings.ClauseStanding.{ClauseStanding}
 use Rattle.cdcl_order.specs.declared.standings.TheConstants.{NEAR}
 
 abbrev pub unknown : ClauseStanding
-unknown = record { distance = 2 ^ 32 - 1; used = 0 }
+unknown = record { lbd = 2 ^ 32 - 1; used = 0 }
 
 abbrev pub is_known : ClauseStanding → Bool
-is_known t = nat_lt t.distance (2 ^ 32 - 1)
+is_known t = nat_lt t.lbd (2 ^ 32 - 1)
 
--- a clause of this distance that is new, or has served in an analysis
+-- a clause of this LBD that is new, or has served in an analysis
 abbrev pub fresh : ℕ → ClauseStanding
-fresh distance = record { distance = distance; used = if nat_le distance NEAR then 2 else 1 }
+fresh lbd = record { lbd = lbd; used = if nat_le lbd NEAR then 2 else 1 }
 
 -- the standings of the clauses from a reference on
 pub record StandingsState : Type 0 where

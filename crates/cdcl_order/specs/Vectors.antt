@@ -1,11 +1,10 @@
--- The first terms of the sequence by which a search starts over; values to try; block distances;
--- and a deletion.
+-- The first terms of the sequence of restarts; values to try; LBDs; and a deletion.
 use Rattle.std.specs.Prelude.{◌≡◌, ℕ, zero, suc, true, false, List, [], ◌∷◌, Some, None, refl}
 use Rattle.propagate.specs.Trail.{Assigned}
 use Rattle.cdcl_order.specs.declared.deletions.Candidate.{Candidate}
 use Rattle.cdcl_order.specs.declared.deletions.Ranked.{Ranked}
 use Rattle.cdcl_order.specs.Deletions.{due_at, is_worse, sifted}
-use Rattle.cdcl_order.specs.Levels.{distance_of}
+use Rattle.cdcl_order.specs.Levels.{lbd_of}
 use Rattle.cdcl_order.specs.Orders.{positive}
 use Rattle.cdcl_order.specs.Phases.{PhasesState, phase_of, restarted}
 use Rattle.cdcl_order.specs.Phases.{values_under}
@@ -56,13 +55,13 @@ two_levels =
     record { literal = positive 1; reason = None } ∷ record { literal = positive 2; reason = None }
     ∷ record { literal = positive 3; reason = Some 0 } ∷ []
 
-two : distance_of two_levels (positive 3 ∷ positive 1 ∷ positive 2 ∷ positive 4 ∷ []) ≡ 2
+two : lbd_of two_levels (positive 3 ∷ positive 1 ∷ positive 2 ∷ positive 4 ∷ []) ≡ 2
 two = refl
 
 abbrev ranked : ℕ → ℕ → ℕ → Ranked
-ranked d n r = record { distance = d; length = n; reference = r }
+ranked d n r = record { lbd = d; length = n; reference = r }
 
--- the greater distance is worse, and of one distance the longer clause
+-- the greater LBD is worse, and of one LBD the longer clause
 farther : is_worse (ranked 5 3 7) (ranked 4 9 8) ≡ true
 farther = refl
 
@@ -76,7 +75,7 @@ alike = refl
 abbrev three : StandingsState
 three = record {
   first = 7;
-  items = fresh 9 ∷ record { distance = 2; used = 0 } ∷ record { distance = 3; used = 0 } ∷ [];
+  items = fresh 9 ∷ record { lbd = 2; used = 0 } ∷ record { lbd = 3; used = 0 } ∷ [];
 }
 
 abbrev candidate : ℕ → Candidate
@@ -87,7 +86,7 @@ third_alone : (sifted three (candidate 7 ∷ candidate 8 ∷ candidate 9 ∷ [])
 third_alone = refl
 
 first_lost_a_use : standing_at (sifted three (candidate 7 ∷ [])).standings 7
-    ≡ record { distance = 9; used = 0 }
+    ≡ record { lbd = 9; used = 0 }
 first_lost_a_use = refl
 
 none_below : standing_at three 6 ≡ unknown

@@ -1,6 +1,6 @@
 // Which learned clauses are deleted, and when: the tiers of Glucose and CaDiCaL (Audemard and Simon
-// 2009; Oh 2015). A clause whose literals stood in few levels stays, one that served in a conflict
-// lately outlives a deletion or two, and of the others the worse half goes.
+// 2009; Oh 2015). A clause of low LBD, whose literals stood in few levels, stays, one that served
+// in a conflict lately outlives a deletion or two, and of the others the worse half goes.
 ghost use Rattle.std.specs.Prelude.{◌≡◌, ◌≤◌, ◌↔◌, IsTrue, OnOk, IfOk};
 ghost use Rattle.cdcl_order.specs.Deletions.{due_at, sifted, IsWorseHalf, IsChosen};
 
@@ -26,8 +26,8 @@ pub struct Candidate {
 /// A clause that may be deleted, with what tells how bad it is.
 #[derive(Drop)]
 pub(crate) struct Ranked {
-    // Its block distance.
-    distance: u32,
+    // Its LBD.
+    lbd: u32,
     // How many literals it has.
     length: usize,
     // Its reference.
@@ -58,8 +58,8 @@ pub(crate) fn choose(
     rest.iter().map(|ranked| ranked.reference).collect(alloc)
 }
 
-/// Takes a use from each clause that has one left, and answers those that had none and are not
-/// kept for their distance.
+/// Takes a use from each clause that has one left, and answers those that had none and are not kept
+/// for their LBD.
 fn sift(
     alloc: Global,
     standings: &mut Standings,
@@ -73,13 +73,13 @@ fn sift(
         let standing = standings.get(candidate.reference);
         if standing.used > 0 {
             let less = ClauseStanding {
-                distance: standing.distance,
+                lbd: standing.lbd,
                 used: standing.used - 1,
             };
             standings.set(candidate.reference, less);
-        } else if standing.distance > KEPT {
+        } else if standing.lbd > KEPT {
             rest.push(Ranked {
-                distance: standing.distance,
+                lbd: standing.lbd,
                 length: candidate.length,
                 reference: candidate.reference,
             })?;
@@ -88,12 +88,12 @@ fn sift(
     Ok(rest)
 }
 
-/// Keeps the worse half of these clauses, rounded down: the greater distance first, then the
-/// longer, then the older, which stands before. Where memory is refused they stay.
+/// Keeps the worse half of these clauses, rounded down: the greater LBD first, then the longer,
+/// then the older, which stands before. Where memory is refused they stay.
 fn worse_half(clauses: &mut Vec<Ranked>) -> Result<(), AllocError>
     ensures half { OnOk result (IsWorseHalf clauses.old.items clauses.new.items) }
 {
-    clauses.sort_by(|one, other| (other.distance, other.length).cmp(&(one.distance, one.length)))?;
+    clauses.sort_by(|one, other| (other.lbd, other.length).cmp(&(one.lbd, one.length)))?;
     let half = clauses.len() / 2;
     clauses.truncate(half);
     Ok(())

@@ -1,7 +1,7 @@
-// How many levels meet in a clause, its block distance (Audemard and Simon 2009), by a stamp for
-// each level. A clause that joins few levels is unit or false again soon.
+// How many levels meet in a clause, its LBD (literal block distance, or glue; Audemard and Simon
+// 2009), by a stamp for each level. A clause that joins few levels is unit or false again soon.
 ghost use Rattle.std.specs.Prelude.{◌≡◌, ◌+◌, ◌-◌, ◌<◌, ◌≤◌, ◌^◌, length, min, All, IfOk};
-ghost use Rattle.cdcl_order.specs.Levels.{distance_of};
+ghost use Rattle.cdcl_order.specs.Levels.{lbd_of};
 
 use cnf::types::Lit;
 use propagate::engine::Engine;
@@ -42,12 +42,12 @@ impl Levels {
         Ok(Levels { stamps, count: 0 })
     }
 
-    /// The number of levels above 0 among the literals, in one pass over them; it stays at
+    /// The LBD: the number of levels above 0 among the literals, in one pass over them; it stays at
     /// 2^32 - 1.
-    pub(crate) fn distance(&mut self, engine: &Engine, lits: &[Lit]) -> u32
+    pub(crate) fn count_lbd(&mut self, engine: &Engine, lits: &[Lit]) -> u32
         requires room { engine.now.variables < length self.old.stamps }
         requires within { All (λ l. l.variable ≤ engine.now.variables) lits.now }
-        ensures distance { result ≡ min (distance_of engine.now.trail lits.now) (2 ^ 32 - 1) }
+        ensures lbd { result ≡ min (lbd_of engine.now.trail lits.now) (2 ^ 32 - 1) }
         ensures long { length self.new.stamps ≡ length self.old.stamps }
     {
         self.next_count();
@@ -82,19 +82,19 @@ fn count_levels(engine: &Engine, lits: &[Lit], stamps: &mut [u32], count: u32) -
     requires room { engine.now.variables < length stamps.old }
     requires within { All (λ l. l.variable ≤ engine.now.variables) lits.now }
     requires fresh { All (λ n. n < count) stamps.old }
-    ensures distance { result ≡ min (distance_of engine.now.trail lits.now) (2 ^ 32 - 1) }
+    ensures lbd { result ≡ min (lbd_of engine.now.trail lits.now) (2 ^ 32 - 1) }
     ensures past { All (λ n. n ≤ count) stamps.new }
     ensures long { length stamps.new ≡ length stamps.old }
 {
     // There are at most as many levels as variables.
     let _ = engine.assigned();
-    let mut distance: u32 = 0;
+    let mut lbd: u32 = 0;
     for lit in lits {
         let level = engine.level(lit.variable()).unwrap_or(0) as usize;
         if level > 0 && stamps[level] != count {
             stamps[level] = count;
-            distance = distance.saturating_add(1);
+            lbd = lbd.saturating_add(1);
         }
     }
-    distance
+    lbd
 }

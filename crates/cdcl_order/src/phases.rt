@@ -1,7 +1,7 @@
 // The value that a decision tries first: the one that the variable had last (phase saving; Handbook
 // of Satisfiability, chapter on conflict-driven clause learning). From time to time all of them go
-// back to the values of the best solution, which is the last one: a search for cheaper solutions
-// mostly finds the next one near it.
+// back to the values of the best solution (rephasing), which is the last one: a search for cheaper
+// solutions mostly finds the next one near it.
 ghost use Rattle.std.specs.Prelude.{◌≡◌, ◌<◌, ◌≤◌, length, IfOk};
 ghost use Rattle.cdcl_order.specs.Phases.{first_phases, phase_of, with_value, solved, restarted};
 ghost use Rattle.cdcl_order.specs.Phases.{suggested, with_first, values_under};
@@ -11,7 +11,7 @@ use cnf::types::Lit;
 use std::alloc::{AllocError, Global};
 use std::marker::Model;
 
-/// The values to try first.
+/// The saved phases: the values to try first.
 #[derive(Drop)]
 pub(crate) struct Phases {
     // By variable, that of 1 first: the value that it had last; at first false.
@@ -22,7 +22,7 @@ pub(crate) struct Phases {
     is_solved: bool,
     // How many conflicts came since a restart last took the values back, up to 2^64 - 1.
     conflicts: u64,
-    // After so many a restart takes them back again: from 1000 up to 2^64 - 1.
+    // After so many a restart takes them back again: from `WAIT` up to 2^64 - 1.
     wait: u64,
 }
 
@@ -109,8 +109,8 @@ impl Phases {
         self.conflicts = self.conflicts.saturating_add(1);
     }
 
-    /// The search has started over.
-    pub(crate) fn start_over(&mut self)
+    /// The search has restarted.
+    pub(crate) fn restart(&mut self)
         ensures restarted { self.new ≡ restarted self.old }
         ensures long { length self.new.last ≡ length self.old.last }
     {

@@ -1,9 +1,9 @@
-// The policy of a search: which variable it decides, and at which value, when it starts over, when
-// it deletes learned clauses, and which. A search relies on little of it, so another policy changes
+// The policy of a search: which variable it decides, and at which value, when it restarts, when it
+// deletes learned clauses, and which. A search relies on little of it, so another policy changes
 // only this crate: `next` answers a literal without a value, and none only where each variable has
 // one; a restart is due only after a conflict; what is chosen for deletion is any list of clauses,
 // each of which the search tests.
-ghost use Rattle.std.specs.Prelude.{◌≡◌, ◌<◌, ◌≤◌, ◌^◌, true, false, All, IfOk, IfSome, IfNone};
+ghost use Rattle.std.specs.Prelude.{◌≡◌, ◌<◌, ◌≤◌, true, false, All, IfOk, IfSome, IfNone};
 ghost use Rattle.cnf.specs.declared.limits.TheConstants.{VARIABLE_LIMIT};
 ghost use Rattle.propagate.specs.Watches.{is_attached};
 ghost use Rattle.propagate.specs.Fits.{Fits};
@@ -28,11 +28,11 @@ use std::marker::Model;
 pub struct Policy {
     // Which variable is decided next.
     order: Order,
-    // At which value.
+    // At which value: saved phases.
     phases: Phases,
-    // When to start over.
+    // When to restart.
     pace: Pace,
-    // Counts block distances.
+    // Counts LBDs.
     levels: Levels,
     // What is known of the worth of learned clauses.
     standings: Standings,
@@ -42,7 +42,7 @@ pub struct Policy {
     deletions: u64,
     // How many literals were put back, up to 2^64 - 1.
     undone: u64,
-    // How often the search has started over, up to 2^64 - 1.
+    // How often the search has restarted, up to 2^64 - 1.
     restarts: u64,
 }
 
@@ -142,8 +142,8 @@ impl Policy {
 
     /// A conflict taught a clause: by these reasons, the conflict among them. Its analysis met
     /// these variables, and those beside them stand in the reasons of the clause's literals: they
-    /// count too. The engine is still as it was at the conflict. It answers the clause's block
-    /// distance: the number of levels above 0 among its literals.
+    /// are bumped too. The engine is still as it was at the conflict. It answers the clause's LBD:
+    /// the number of levels above 0 among its literals.
     pub fn learn_from(
         &mut self,
         engine: &Engine,
@@ -167,10 +167,10 @@ impl Policy {
         for reason in reasons {
             self.note_use(engine, store, *reason);
         }
-        self.levels.distance(engine, lits)
+        self.levels.count_lbd(engine, lits)
     }
 
-    /// The clause served in an analysis. Its distance is counted again where it may be less now.
+    /// The clause served in an analysis. Its LBD is counted again where it may be less now.
     fn note_use(&mut self, engine: &Engine, store: &Store, reference: CRef)
         requires variables { engine.now.variables ≡ self.old.variables }
         requires fits { Fits engine.now store.now.slots }
@@ -181,43 +181,43 @@ impl Policy {
         if !standing.is_known() {
             return;
         }
-        let mut distance = standing.distance;
-        if distance > KEPT {
-            distance = distance.min(self.levels.distance(engine, store.lits(reference)));
+        let mut lbd = standing.lbd;
+        if lbd > KEPT {
+            lbd = lbd.min(self.levels.count_lbd(engine, store.lits(reference)));
         }
-        self.standings
-            .set(reference, ClauseStanding::fresh(distance));
+        self.standings.set(reference, ClauseStanding::fresh(lbd));
     }
 
-    /// The learned clause came to the store, with so many literals, and this block distance.
-    pub fn note_learned(&mut self, reference: CRef, length: usize, distance: u32)
+    /// The learned clause came to the store, with so many literals, and this LBD.
+    pub fn note_learned(&mut self, reference: CRef, length: usize, lbd: u32)
         ensures unchanged { self.new ≡ self.old }
     {
         if length > 2 {
             self.long = self.long.saturating_add(1);
         }
-        self.standings
-            .add(reference, ClauseStanding::fresh(distance));
+        self.standings.add(reference, ClauseStanding::fresh(lbd));
     }
 
-    /// Whether it is time to start over.
+    /// Whether it is time to restart.
     pub fn is_restart_due(&self) -> bool
         ensures { result ≡ true → self.now.has_learned ≡ true }
     {
         self.pace.is_due()
     }
 
-    /// The search has started over: it is at level 0.
-    pub fn start_over(&mut self)
+    /// The search has restarted: no level is left but those of assumptions.
+    pub fn restart(&mut self)
         ensures { self.new ≡ record self.old { has_learned = false } }
     {
-        self.pace.start_over();
-        self.phases.start_over();
+        self.pace.restart();
+        self.phases.restart();
         self.restarts = self.restarts.saturating_add(1);
     }
 
     /// How far the search has come.
-    pub fn report(&self, budget: &Budget) -> SearchReport {
+    pub fn report(&self, budget: &Budget) -> SearchReport
+        ensures conflicts { result.conflicts ≡ budget.now.learned }
+    {
         SearchReport {
             conflicts: budget.learned(),
             propagations: self.undone,

@@ -9,18 +9,18 @@ use std::marker::Model;
 /// What is known of a learned clause, in eight bytes.
 #[derive(Clone, Copy, Debug, PartialEq, Eq, Drop)]
 pub(crate) struct ClauseStanding {
-    /// Its block distance, the least that was counted; 2^32 - 1 where none is known.
-    pub(crate) distance: u32,
+    /// Its LBD (literal block distance), the least that was counted; 2^32 - 1 where none is known.
+    pub(crate) lbd: u32,
     /// How many deletions it outlives by its last use: from 0 to 2.
     pub(crate) used: u8,
 }
 
 const _: () = prove!(size_of::<ClauseStanding>() == 8);
 
-/// A clause up to this distance outlives two deletions by a use, any other one.
+/// A clause up to this LBD outlives two deletions by a use, any other one.
 const NEAR: u32 = 6;
 
-/// A clause up to this distance is never deleted.
+/// A clause up to this LBD is never deleted.
 pub(crate) const KEPT: u32 = 2;
 
 impl ClauseStanding {
@@ -29,26 +29,26 @@ impl ClauseStanding {
         ensures { result ≡ unknown }
     {
         ClauseStanding {
-            distance: u32::MAX,
+            lbd: u32::MAX,
             used: 0,
         }
     }
 
-    /// A clause of this distance that is new, or has served in an analysis.
-    pub(crate) fn fresh(distance: u32) -> Self
-        ensures { result ≡ fresh distance }
+    /// A clause of this LBD that is new, or has served in an analysis.
+    pub(crate) fn fresh(lbd: u32) -> Self
+        ensures { result ≡ fresh lbd }
     {
         ClauseStanding {
-            distance,
-            used: if distance <= NEAR { 2 } else { 1 },
+            lbd,
+            used: if lbd <= NEAR { 2 } else { 1 },
         }
     }
 
-    /// Whether the distance is known.
+    /// Whether the LBD is known.
     pub(crate) fn is_known(&self) -> bool
         ensures { result ≡ is_known self.now }
     {
-        self.distance < u32::MAX
+        self.lbd < u32::MAX
     }
 }
 

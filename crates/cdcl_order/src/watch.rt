@@ -12,7 +12,7 @@ pub struct SearchReport {
     pub propagations: u64,
     /// How many learned clauses of more than two literals are live.
     pub learned: usize,
-    /// How often this solver has started over, in all its searches.
+    /// How often this solver has restarted, in all its searches.
     pub restarts: u64,
 }
 

@@ -1,4 +1,4 @@
-// The room of deleted clauses is taken back.
+// Garbage collection: the room of deleted clauses is taken back.
 ghost use Rattle.std.specs.Prelude.{◌≡◌, Some, map, length, OnOk, OnErr};
 ghost use Rattle.clauses.specs.Slots.{live_clauses};
 ghost use Rattle.cdcl_search.specs.Running.{IsReady, KeepsRunning};
@@ -8,7 +8,7 @@ use crate::tables::{move_names, move_units};
 use std::alloc::AllocError;
 
 impl Search {
-    /// Whether deleted clauses take more than half of the store's room.
+    /// Whether garbage, the deleted clauses, takes more than half of the store's room.
     pub(crate) fn is_sparse(&self) -> bool {
         let mut live: usize = 0;
         for place in 0..self.store.places() {

@@ -5,9 +5,9 @@
 // Whether one has, the rows of the clauses that watch its literals tell (`subsets`). So a core
 // takes the time of its analysis, of the assumptions and of these rows, and none by the number of
 // variables or of clauses.
-ghost use Rattle.std.specs.Prelude.{◌≡◌, ◌<◌, ◌≤◌, ◌+◌, true, false, map, length, All, Contains};
+ghost use Rattle.std.specs.Prelude.{◌≡◌, ◌<◌, ◌≤◌, true, false, map, length, All, Contains};
 ghost use Rattle.std.specs.Prelude.{IfOk, IfSome, IfNone, OnOk, OnErr, Some};
-ghost use Rattle.cnf.specs.Literal.{Literal, negation};
+ghost use Rattle.cnf.specs.Literal.{negation};
 ghost use Rattle.propagate.specs.Trail.{value_in, depth_of};
 ghost use Rattle.analyze.specs.Analyzer.{IsFalsified};
 ghost use Rattle.cdcl_search.specs.Invariant.{NotesUnits, zero_of};

@@ -1,8 +1,9 @@
 // The clauses that a solver was given, in flat memory: four bytes for each literal, and four for
 // each clause. Those of the formula are its own list, whose places tell their numbers; only clauses
 // that came later have a number each, in eight bytes more.
-ghost use Rattle.std.specs.Prelude.{◌≡◌, ◌<◌, ◌^◌, Some, [], ◌∷◌, ◌++◌, length, slice_get, map};
+ghost use Rattle.std.specs.Prelude.{◌≡◌, ◌<◌, Some, [], ◌∷◌, ◌++◌, length, slice_get, map};
 ghost use Rattle.std.specs.Prelude.{IfOk, IsErr, OnOk, OnErr, ◌≤◌};
+ghost use Rattle.cnf.specs.declared.limits.TheConstants.{MOST_PLACES};
 ghost use Rattle.lrat_log.specs.declared.lines.Name.TheVariants.{Formula};
 ghost use Rattle.lrat_log.specs.Log.{clauses_in};
 ghost use Rattle.lrat_log.specs.Steps.{given_of};
@@ -26,7 +27,8 @@ pub struct GivenClauses {
 }
 
 impl Model for GivenClauses {
-    ghost use Rattle.std.specs.Prelude.{◌≡◌, ◌+◌, ◌<◌, ◌^◌, length};
+    ghost use Rattle.std.specs.Prelude.{◌≡◌, ◌+◌, ◌≤◌, length};
+    ghost use Rattle.cnf.specs.declared.limits.TheConstants.{MOST_PLACES};
     ghost use Rattle.clauses.specs.Zipped.{zipped};
     ghost use Rattle.lrat_log.specs.Log.{Given};
     ghost use Rattle.cdcl_search.specs.GivenNumbers.{given_as, numbers_with};
@@ -36,7 +38,7 @@ impl Model for GivenClauses {
     ghost view = { λ g. zipped given_as (numbers_with g.first g.later.items) g.clauses };
 
     ghost invariant = { λ g. (length g.clauses ≡ g.first + length g.later.items)
-        × (length g.clauses < 2 ^ 32) };
+        × (length g.clauses ≤ MOST_PLACES) };
 }
 
 impl GivenClauses {
@@ -47,7 +49,7 @@ impl GivenClauses {
     /// `AllocError` where there are more than 2^32 - 1.
     pub fn of(clauses: ClauseList) -> Result<Self, AllocError>
         ensures ok { IfOk result (λ given. given ≡ given_of clauses) }
-        ensures err { IsErr result → 2 ^ 32 ≤ length clauses }
+        ensures err { IsErr result → MOST_PLACES < length clauses }
     {
         let first = clauses.len();
         if first > MOST_PLACES {
@@ -63,7 +65,7 @@ impl GivenClauses {
     /// How many clauses there are.
     pub fn len(&self) -> usize
         ensures len { result ≡ length self.now }
-        ensures few { result < 2 ^ 32 }
+        ensures few { result ≤ MOST_PLACES }
     {
         self.clauses.len()
     }

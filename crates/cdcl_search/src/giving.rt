@@ -1,5 +1,5 @@
 // Clauses that come after the formula.
-ghost use Rattle.std.specs.Prelude.{◌≡◌, ◌<◌, ◌^◌, false, All, OnOk, OnErr};
+ghost use Rattle.std.specs.Prelude.{◌≡◌, ◌<◌, false, All, OnOk, OnErr};
 ghost use Rattle.cnf.specs.declared.limits.TheConstants.{NUMBER_LIMIT};
 ghost use Rattle.propagate.specs.Fits.{IsWithin};
 ghost use Rattle.lrat_log.specs.declared.lines.Name.TheVariants.{Formula};

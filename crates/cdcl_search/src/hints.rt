@@ -1,7 +1,8 @@
 // The hints of a line: first the clauses of one literal that it needs, then those that the search
 // found.
-ghost use Rattle.std.specs.Prelude.{◌≡◌, ℕ, ◌+◌, ◌<◌, ◌≤◌, ◌^◌, true, List, [], ◌∷◌, ◌++◌, All};
+ghost use Rattle.std.specs.Prelude.{◌≡◌, ℕ, ◌+◌, ◌<◌, ◌≤◌, true, List, [], ◌∷◌, ◌++◌, All};
 ghost use Rattle.std.specs.Prelude.{Contains, IfOk, OnOk, IfSome, length, map};
+ghost use Rattle.lrat_log.specs.declared.log.TheConstants.{LINE_LIMIT};
 ghost use Rattle.clauses.specs.Slots.{clause_at};
 ghost use Rattle.propagate.specs.Watches.{is_attached};
 ghost use Rattle.cdcl_search.specs.Invariant.{name_at};
@@ -23,7 +24,7 @@ impl Search {
     pub(crate) fn hints_of(&mut self, references: &[CRef]) -> Result<Vec<Hint>, AllocError>
         requires ready { IsReady self.old }
         requires past { All (λ n. n ≤ self.old.additions) self.old.stamps.items }
-        requires few { self.old.additions < 2 ^ 61 }
+        requires few { self.old.additions < LINE_LIMIT }
         requires attached { All (λ r. is_attached self.old.engine r ≡ true) references.now }
         requires noted { AreNoted self.old.store.slots self.old.units.items self.old.engine.trail
             references.now }

@@ -7,7 +7,8 @@ use eliminate::elimination::Stack;
 /// generic function that has one leaves its proof no names for what it requires.
 #[derive(Drop)]
 pub struct Input {
-    /// The variables that were eliminated, each with the clauses that its value has to satisfy.
+    /// The reconstruction stack: the variables that were eliminated, each with the clauses that its
+    /// value has to satisfy.
     pub stack: Stack,
     /// By variable, that of 1 first: whether clauses that come later may have it, so that it is not
     /// eliminated; as many as the formula has variables.

@@ -1,4 +1,4 @@
-// What a conflict teaches: a clause, a line for it, and a level to go back to.
+// What a conflict teaches: an asserting clause, a line for it, and a level to backtrack to.
 ghost use Rattle.std.specs.Prelude.{◌≡◌, ◌<◌, OnOk, OnErr};
 ghost use Rattle.propagate.specs.Trail.{depth_of};
 ghost use Rattle.propagate.specs.Fits.{IsFalseClause};
@@ -12,8 +12,8 @@ use lrat_log::lines::Kind;
 use lrat_log::sink::Sink;
 use std::alloc::AllocError;
 
-/// Learns a clause from one that is false above level 0, and goes back to where it leaves no
-/// choice.
+/// Learns a clause from one that is false above level 0, and backtracks to the level where the
+/// learned one is unit.
 pub fn learn<S: Sink>(
     search: &mut Search,
     input: &Input,
@@ -31,11 +31,11 @@ pub fn learn<S: Sink>(
         .analyzer
         .analyze(&search.engine, &search.store, conflict)?;
     let hints = search.hints_of(learned.hints.as_slice())?;
-    let distance = search.learn_from(&learned);
+    let lbd = search.learn_from(&learned);
     search.backtrack(learned.back_level);
     let reference = search.add_line(sink, Kind::Learned, learned.lits.as_slice(), &hints)?;
     search
         .policy
-        .note_learned(reference, learned.lits.as_slice().len(), distance);
+        .note_learned(reference, learned.lits.as_slice().len(), lbd);
     Ok(())
 }

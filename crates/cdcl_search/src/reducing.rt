@@ -1,4 +1,5 @@
-// Learned clauses are deleted from time to time, so that propagation has fewer to look at.
+// The clause database is reduced: learned clauses are deleted from time to time, so that
+// propagation has fewer to look at.
 ghost use Rattle.std.specs.Prelude.{◌≡◌, ◌≤◌, true, false, Some, All, length, IfOk, OnOk, OnErr};
 ghost use Rattle.propagate.specs.Trail.{reason_in};
 ghost use Rattle.cdcl_search.specs.Invariant.{is_kept_name};

@@ -1,5 +1,5 @@
 // The state of a search, and the moves of its engine.
-ghost use Rattle.std.specs.Prelude.{◌≡◌, ℕ, true, false, ◌+◌, ◌<◌, ◌≤◌, [], ◌∷◌, ◌++◌, Some, None};
+ghost use Rattle.std.specs.Prelude.{◌≡◌, true, false, ◌+◌, ◌<◌, ◌≤◌, [], ◌∷◌, ◌++◌, Some, None};
 ghost use Rattle.std.specs.Prelude.{length, min, All, IfOk, OnOk, IfSome, IfNone};
 ghost use Rattle.propagate.specs.Trail.{literals_of, depth_of, kept_to};
 ghost use Rattle.propagate.specs.Watches.{is_attached, IsBare};
@@ -41,7 +41,7 @@ pub struct Search {
     /// By variable, that of 1 first: the number of the last addition that has its unit clause among
     /// the hints, at most `additions`; 0 where none has.
     pub stamps: Vec<u64>,
-    /// What it decides, when it starts over, and what it deletes.
+    /// What it decides, when it restarts, and what it deletes.
     pub policy: Policy,
     /// The memory of conflict analysis.
     pub analyzer: Analyzer,
@@ -83,8 +83,8 @@ impl Search {
         })
     }
 
-    /// Makes true what is left, and answers a clause that is false, or none: then no clause is
-    /// false or unit.
+    /// Unit propagation, up to a conflict or the fixpoint: answers a clause that is false, or none,
+    /// and then no clause is false or unit.
     ///
     /// # Errors
     ///
@@ -150,8 +150,8 @@ impl Search {
         self.policy.suggest(values);
     }
 
-    /// Starts over from this level, or goes on from the current one where that is lower.
-    pub fn start_over(&mut self, level: usize)
+    /// Restarts from this level, or goes on from the current one where that is lower.
+    pub fn restart(&mut self, level: usize)
         requires { IsReady self.old }
         ensures runs { KeepsRunning self.old self.new }
         ensures trail { self.new.engine.trail
@@ -163,11 +163,11 @@ impl Search {
     {
         let depth = self.engine.depth();
         self.backtrack(level.min(depth as usize) as u32);
-        self.policy.start_over();
+        self.policy.restart();
     }
 
-    /// The policy sees what the last analysis taught, before backtracking. It answers how many
-    /// levels above 0 the clause's literals stand in.
+    /// The policy sees what the last analysis taught, before backtracking. It answers the clause's
+    /// LBD.
     pub(crate) fn learn_from(&mut self, learned: &Learned) -> u32
         requires ready { IsReady self.old }
         requires hints { All (λ r. is_attached self.old.engine r ≡ true) learned.now.hints.items }
@@ -223,7 +223,6 @@ impl Search {
           literal = lit;
           reason = None;
         } ∷ [] }
-        ensures longer { length self.new.engine.trail ≡ length self.old.engine.trail + 1 }
         ensures engine { EngineMoves self.old self.new }
     {
         self.engine.decide(lit);

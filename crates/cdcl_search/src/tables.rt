@@ -1,5 +1,5 @@
 // The solver's tables after a compaction, each in one pass and in place.
-ghost use Rattle.std.specs.Prelude.{◌≡◌, ℕ, ◌<◌, ◌≤◌, List, length, map, All};
+ghost use Rattle.std.specs.Prelude.{◌≡◌, ◌<◌, ◌≤◌, length, map, All};
 ghost use Rattle.std.specs.List.Sorted.{IsStrictlyIncreasing};
 ghost use Rattle.propagate.specs.Fits.{renamed_reason};
 ghost use Rattle.cdcl_search.specs.Moves.{NamesMoved, UnitsMoved};

@@ -1,6 +1,7 @@
 // Clauses come to the store, the engine and the log together.
-ghost use Rattle.std.specs.Prelude.{◌≡◌, ◌+◌, ◌<◌, ◌^◌, false, All, [], ◌∷◌, ◌++◌, length, IfOk};
+ghost use Rattle.std.specs.Prelude.{◌≡◌, ◌+◌, ◌<◌, false, All, [], ◌∷◌, ◌++◌, length, IfOk};
 ghost use Rattle.std.specs.Prelude.{OnOk, OnErr};
+ghost use Rattle.lrat_log.specs.declared.log.TheConstants.{LINE_LIMIT};
 ghost use Rattle.cnf.specs.Lrat.{IsId};
 ghost use Rattle.propagate.specs.Fits.{IsWithin};
 ghost use Rattle.lrat_log.specs.declared.lines.Name.TheVariants.{Added};
@@ -47,11 +48,11 @@ impl Search {
         requires adds { is_delete kind ≡ false }
         requires hints { All (λ h. IsId (number_in (name_of h))) hints.now }
         requires counted { self.old.additions ≡ added_count (S.lines sink.old) }
-        requires few { self.old.additions < 2 ^ 61 }
+        requires few { self.old.additions < LINE_LIMIT }
         ensures stored { OnOk result
             (Stores self.old self.new (Added (self.old.additions + 1)) lits.now) }
         ensures additions { OnOk result (self.new.additions ≡ self.old.additions + 1) }
-        ensures few { OnOk result (self.new.additions < 2 ^ 61) }
+        ensures few { OnOk result (self.new.additions < LINE_LIMIT) }
         ensures reference { IfOk result (λ r. r ≡ length self.old.store.slots) }
         ensures lines { OnOk result (S.lines sink.new ≡ S.lines sink.old ++ record {
           kind = kind;

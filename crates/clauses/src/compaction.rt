@@ -1,4 +1,5 @@
-//! Live clauses move together, in place: heads and literals go down over what is dead.
+//! Garbage collection: live clauses move together, in place; heads and literals go down over what
+//! is dead.
 //!
 //! One pass from the first head to the last. What it has kept so far fills the front of both
 //! vectors, and each further live clause is copied to the end of that front, which is never above

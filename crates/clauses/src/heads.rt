@@ -1,5 +1,5 @@
 //! Where the literals of each clause lie, and which clauses are still there.
-ghost use Rattle.std.specs.Prelude.{◌≡◌, ℕ, ◌<◌, true, false, List, [], ◌∷◌, ◌++◌, Some, map};
+ghost use Rattle.std.specs.Prelude.{◌≡◌, ◌<◌, true, false, List, [], ◌∷◌, ◌++◌, Some, map};
 ghost use Rattle.std.specs.Prelude.{length, take, slice_get, slice_set, IsTrue, ◌↔◌, OnErr, IfOk};
 ghost use Rattle.clauses.specs.Heads.{Head, head_of, span_of};
 

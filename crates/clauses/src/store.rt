@@ -1,5 +1,6 @@
 //! The store of clauses: literals in one flat vector, a head for each clause in another. References
-//! stay valid until a compaction moves the live clauses together and tells where each went.
+//! stay valid until a compaction, which collects the garbage, moves the live clauses together and
+//! tells where each went.
 ghost use Rattle.std.specs.Prelude.{◌≡◌, ℕ, ◌+◌, ◌-◌, ◌<◌, ◌≤◌, ◌^◌, All, List, [], ◌∷◌, ◌++◌};
 ghost use Rattle.std.specs.Prelude.{Some, None, map, length, slice_set, IsTrue, ◌↔◌, OnErr};
 ghost use Rattle.std.specs.Prelude.{IfOk, IfSome};
@@ -92,8 +93,8 @@ impl MaybeCRef {
 /// all, as in MiniSat (Eén and Sörensson 2003).
 #[derive(Drop)]
 pub struct Store {
-    // The literals of all clauses, also of dead ones, one clause after another by reference; fewer
-    // than 2^32.
+    // The literals of all clauses, also of dead ones, which are garbage, one clause after another
+    // by reference; fewer than 2^32.
     literals: Vec<Lit>,
     // By reference, where the literals of the clause lie, and whether it is live; fewer than 2^32.
     heads: Heads,

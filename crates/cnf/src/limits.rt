@@ -22,6 +22,9 @@ pub const MOST_HARD: usize = 1 << 22;
 /// How many soft clauses a text may have.
 pub const MOST_SOFT: usize = 1 << 18;
 
+/// How many clauses a text may have, hard and soft ones together.
+pub const MOST_TEXT_CLAUSES: usize = MOST_HARD + MOST_SOFT;
+
 /// How many literals a text may have, repeats too.
 pub const MOST_LITERALS: usize = 1 << 26;
 

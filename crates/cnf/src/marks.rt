@@ -1,8 +1,8 @@
 // A mark for each literal, as stamps: a literal is marked where its stamp is the present one, so
 // that one step takes all marks away.
-ghost use Rattle.std.specs.Prelude.{◌≡◌, ℕ, ◌-◌, ◌*◌, ◌<◌, ◌≤◌, ◌^◌, true, false, IfOk};
+ghost use Rattle.std.specs.Prelude.{◌≡◌, ◌-◌, ◌*◌, ◌<◌, ◌≤◌, true, false, IfOk};
 ghost use Rattle.std.specs.Prelude.{MatchResult, List, [], ◌++◌, length, replicate, slice_set, All};
-ghost use Rattle.cnf.specs.Literal.{Literal, index_of};
+ghost use Rattle.cnf.specs.Literal.{index_of};
 ghost use Rattle.cnf.specs.Clause.{without_literal};
 ghost use Rattle.cnf.specs.Marks.{mark_of, IsMarked, HasPlace, are_marked};
 

@@ -1,6 +1,7 @@
 -- Cores: sets of soft clauses of which one is false. A core is worth a weight, which it takes from
--- what is left of its inputs, so that no weight is counted twice; its outputs count how many of
--- the inputs are true, and all but the first of them may be inputs of further cores.
+-- what is left of its inputs, so that no weight is counted twice; its outputs count how many of the
+-- inputs are true, by a totalizer where there are two or more, and all but the first of them may be
+-- inputs of further cores (as in OLL).
 use Rattle.std.specs.Prelude.{◌≡◌, ℕ, zero, suc, ◌+◌, ◌-◌, ◌<◌, ◌≤◌, Bool, not, ◌&&◌}
 use Rattle.std.specs.Prelude.{List, [], ◌∷◌, ◌++◌, length, map, take, replicate, Result, Ok, Err}
 use Rattle.std.specs.Prelude.{All, nat_le, slice_index_or, slice_set, if◌then◌else◌}

@@ -1,5 +1,5 @@
 // What is left of the inputs of cores.
-ghost use Rattle.std.specs.Prelude.{◌≡◌, ◌-◌, ◌<◌, ◌≤◌, length, All};
+ghost use Rattle.std.specs.Prelude.{◌≡◌, ◌-◌, ◌<◌, length, All};
 ghost use Rattle.std.specs.List.{list_all};
 ghost use Rattle.cores.specs.Cores.{charged, has_rest, HasPlaceFrom};
 

@@ -1,5 +1,5 @@
 // What cores leave of the weights, and the clauses of their outputs.
-ghost use Rattle.std.specs.Prelude.{◌≡◌, ℕ, ◌+◌, ◌<◌, ◌≤◌, ◌^◌, ◌↔◌, length, map, IfOk, IfNone};
+ghost use Rattle.std.specs.Prelude.{◌≡◌, ℕ, ◌+◌, ◌<◌, ◌≤◌, ◌↔◌, length, map, IfOk, IfNone};
 ghost use Rattle.std.specs.Prelude.{IfSome, IsTrue, Ok, Err};
 ghost use Rattle.cnf.specs.declared.limits.TheConstants.{NUMBER_LIMIT};
 ghost use Rattle.cores.specs.Cores.{CounterState, first_relaxation, no_cores, rest_of_soft};

@@ -1,4 +1,5 @@
-//! Cores: sets of soft clauses of which one is false, and the clauses that count them.
+//! Cores: sets of soft clauses of which one is false, and the clauses of the totalizers that count
+//! them.
 #![tactic(auto)]
 
 mod charging;

@@ -1,6 +1,6 @@
 // How many clauses a core would take, counted before any is made. The time is at most that of
 // making them, and the count ends where they are too many.
-ghost use Rattle.std.specs.Prelude.{◌≡◌, ℕ, ◌+◌, ◌<◌, ◌≤◌, ◌↔◌, length, MatchOption, IsTrue};
+ghost use Rattle.std.specs.Prelude.{◌≡◌, ◌+◌, ◌<◌, MatchOption};
 ghost use Rattle.cores.specs.Sizes.{sum_size, totalizer_size};
 
 /// What is left of the room after the clauses of a totalizer with at most `most` outputs and so

@@ -1,5 +1,5 @@
 // Variables one after another: the outputs of a node of a totalizer. An input is a list of one.
-ghost use Rattle.std.specs.Prelude.{◌≡◌, ◌+◌, ◌-◌, ◌<◌, ◌≤◌, ◌^◌};
+ghost use Rattle.std.specs.Prelude.{◌≡◌, ◌+◌, ◌-◌, ◌<◌, ◌≤◌};
 ghost use Rattle.cnf.specs.declared.limits.TheConstants.{VARIABLE_LIMIT};
 
 use std::marker::Model;
@@ -14,7 +14,7 @@ pub(crate) struct OutputSpan {
 }
 
 impl Model for OutputSpan {
-    ghost use Rattle.std.specs.Prelude.{◌+◌, ◌<◌, ◌≤◌, ◌^◌};
+    ghost use Rattle.std.specs.Prelude.{◌+◌, ◌<◌, ◌≤◌};
     ghost use Rattle.cnf.specs.declared.limits.TheConstants.{VARIABLE_LIMIT};
     ghost use Rattle.cores.specs.Spans.{OutputSpan as Variables};
 

@@ -2,10 +2,10 @@
 // (Bailleux and Boufkhad, "Efficient CNF Encoding of Boolean Cardinality Constraints", 2003). Their
 // clauses are most of what a formula with cores has, so each list of outputs is a first variable
 // and a number, and no vector: no memory is taken but for the clauses.
-ghost use Rattle.std.specs.Prelude.{◌≡◌, ℕ, ◌+◌, ◌*◌, ◌<◌, ◌≤◌, ◌^◌, [], ◌∷◌, ◌++◌, length, All};
+ghost use Rattle.std.specs.Prelude.{◌≡◌, ◌+◌, ◌*◌, ◌<◌, ◌≤◌, [], ◌∷◌, ◌++◌, length, All};
 ghost use Rattle.std.specs.Prelude.{map, min, IfOk, OnOk};
 ghost use Rattle.cnf.specs.declared.limits.TheConstants.{FORMULA_VARIABLE_LIMIT, VARIABLE_LIMIT};
-ghost use Rattle.cnf.specs.Literal.{Literal, positive, negative};
+ghost use Rattle.cnf.specs.Literal.{positive, negative};
 ghost use Rattle.cores.specs.Totalizer.{right_clauses, left_clauses, order_clauses, sum_clauses};
 ghost use Rattle.cores.specs.Totalizer.{totalizer};
 ghost use Rattle.cores.specs.Spans.{variables_of, IsLiteralVariable};

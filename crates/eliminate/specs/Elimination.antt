@@ -1,15 +1,18 @@
--- Eliminated variables, and how they get their values back.
-use Rattle.std.specs.Prelude.{◌≡◌, ℕ, ◌-◌, ◌<◌, ◌≤◌, Bool, false, List, length}
+-- Eliminated variables, and how reconstruction gives them their values back.
+use Rattle.std.specs.Prelude.{◌≡◌, ℕ, ◌+◌, ◌-◌, ◌<◌, ◌≤◌, Bool, false, List, [], length}
 use Rattle.std.specs.Prelude.{map, Some, slice_get, All, Contains}
 use Rattle.std.specs.Prelude.{nat_eq}
 use Rattle.std.specs.List.{IsDistinct}
 use Rattle.cnf.specs.Literal.{Literal, Assignment}
 use Rattle.cnf.specs.Clause.{Satisfies}
-use Rattle.cnf.specs.Refute.{Clauses}
+use Rattle.cnf.specs.Formula.{IsFormulaClause}
+use Rattle.cnf.specs.Refute.{Clauses, IsRefutedByHints}
 use Rattle.cnf.specs.Bits.{assignment_of}
-use Rattle.clauses.specs.Slots.{Slots, clause_at, live_places}
+use Rattle.clauses.specs.Slots.{Slots, clause_at, live_clauses, live_places}
 use Rattle.lrat_log.specs.declared.lines.Name.{Name}
-use Rattle.lrat_log.specs.Log.{id_of, number_in}
+use Rattle.lrat_log.specs.Log.{LogLine, id_of, number_in}
+use Rattle.lrat_log.specs.Steps.{IsBaseOf, given_of, log_live}
+use Rattle.eliminate.specs.declared.ending.TheConstants.{MOST_FRESH}
 pub use Rattle.eliminate_tables.specs.Removals.{Removed, positive, is_needed, becomes_true}
 pub use Rattle.eliminate_tables.specs.Removals.{extended, is_eliminated}
 
@@ -49,3 +52,25 @@ pub record HoldsWhatIsLive (slots : Slots) (names : List (ℕ × Name)) (base : 
   pub named : All (λ n. at (id_of base n.1) ≡ clause_at slots n.0) names
   pub only : (i : ℕ) (c : List Literal) → at i ≡ Some c
       → Contains (map (λ n. id_of base n.1) names) i
+
+-- what elimination leaves of a formula's clauses: this stack, and the clauses of this store
+pub record EliminationLeaves (frozen : List Bool) (before : List (List Literal))
+    (lines : List LogLine) (stack : StackState) (slots : Slots) : Type 0 where
+  -- the store has a place for each clause that is left, and no other
+  pub together : slots ≡ map Some (live_clauses slots)
+  -- it holds just what is live after the lines, each clause under a name of its own
+  pub live : (base : ℕ) → IsBaseOf (given_of before) base
+      → HoldsWhatIsLive slots stack.names base (log_live (given_of before) base lines)
+  -- each is the clause of a formula with these variables
+  pub left : All (IsFormulaClause stack.variables) (live_clauses slots)
+  -- the variables are those of the formula, and at most so many fresh ones
+  pub variables : (length frozen ≤ stack.variables)
+      × (stack.variables ≤ length frozen + MOST_FRESH)
+  -- no eliminated variable occurs
+  pub free : AreFreeOf stack.removed (live_clauses slots)
+  -- variables of the formula alone were eliminated, and none that is frozen
+  pub not_frozen : All (λ r. IsFree frozen r.variable) stack.removed
+  -- bits that satisfy what is left satisfy what was given, once they are extended
+  pub back : ExtendsBack stack before (live_clauses slots)
+  -- if hints refute what was given, the empty clause is left
+  pub refuted : IsRefutedByHints before → Contains (live_clauses slots) []

@@ -1,14 +1,14 @@
 -- What a simplifier's tables say of the store and the log: that together they are a simplified form
 -- of some formula.
-use Rattle.std.specs.Prelude.{◌≡◌, ℕ, ◌*◌, ◌+◌, ◌<◌, ◌≤◌, true, false, List, [], length}
-use Rattle.std.specs.Prelude.{Some, All, Contains, Result, MatchResult}
+use Rattle.std.specs.Prelude.{◌≡◌, ℕ, ◌*◌, ◌+◌, ◌<◌, ◌≤◌, true, false, List, [], ◌∷◌, ◌++◌}
+use Rattle.std.specs.Prelude.{length, slice_set, Some, None, All, Contains, Result, MatchResult}
 use Rattle.cnf.specs.Literal.{Literal}
 use Rattle.cnf.specs.Formula.{IsFormulaClause}
 use Rattle.cnf.specs.declared.limits.TheConstants.{FORMULA_VARIABLE_LIMIT}
 use Rattle.clauses.specs.Slots.{Slots, clause_at, live_clauses}
 use Rattle.lrat_log.specs.Log.{LogLine, IsLine, is_learned}
 use Rattle.lrat_log.specs.Steps.{given_of, StaysLogOver, AddsNoEmptyClause, learned_count}
-use Rattle.lrat_log.specs.Steps.{IsOwnGroup}
+use Rattle.lrat_log.specs.Steps.{IsOwnGroup, is_empty_clause}
 use Rattle.eliminate.specs.declared.ending.TheConstants.{MOST_FRESH}
 use Rattle.eliminate.specs.declared.simplifier.Simplifier.{Simplifier}
 use Rattle.eliminate.specs.Elimination.{is_eliminated}
@@ -74,6 +74,28 @@ pub record IsAddableLine (start : Start) (s : Simplifier) (lines : List LogLine)
   pub line : IsLine l
   pub clause : IsFormulaClause s.vars l.clause
   pub free : All (λ k. is_eliminated s.removals k.variable ≡ false) l.clause
+
+-- so it is over whatever formula
+abbrev pub IsAddable : Simplifier → Slots → List LogLine → LogLine → Type 0
+IsAddable s slots lines l = (start : Start) → IsSimplified start s slots lines
+    → IsAddableLine start s lines l
+
+-- the clause that was built stands behind those before, under this reference
+pub record Adds (s : Simplifier) (held : Slots) (t : Simplifier) (more : Slots) (r : ℕ) :
+    Type 0 where
+  pub reference : r ≡ length held
+  pub slots : more ≡ held ++ Some s.clause.items ∷ []
+  pub refuted : t.is_refuted ≡ is_empty_clause s.clause.items
+  pub vars : t.vars ≡ s.vars
+  pub removals : t.removals ≡ s.removals
+
+-- the clause under this reference is gone
+pub record Deletes (s : Simplifier) (held : Slots) (t : Simplifier) (left : Slots) (r : ℕ) :
+    Type 0 where
+  pub slots : left ≡ slice_set held r None
+  pub going : t.is_refuted ≡ false
+  pub vars : t.vars ≡ s.vars
+  pub removals : t.removals ≡ s.removals
 
 -- each clause keeps its place, and some may come
 abbrev pub Grows : Slots → Slots → Type 0

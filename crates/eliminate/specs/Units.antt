@@ -1,4 +1,4 @@
--- Literals that clauses of one literal make true.
+-- Unit propagation: literals that clauses of one literal make true.
 use Rattle.std.specs.Prelude.{◌≡◌, ℕ, ◌+◌, ◌-◌, ◌*◌, ◌<◌, ◌≤◌, Bool, true, false, List, []}
 use Rattle.std.specs.Prelude.{◌∷◌, ◌++◌, Result, MatchResult}
 use Rattle.std.specs.Prelude.{length, map, filter, Option, Some, None, slice_index_or, unwrap_or}

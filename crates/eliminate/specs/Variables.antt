@@ -1,4 +1,5 @@
--- One variable goes: its clauses are found, their resolvents are added, and then they are deleted.
+-- Bounded variable elimination. One variable goes: its clauses are found, their resolvents are
+-- added, and then they are deleted.
 use Rattle.std.specs.Prelude.{◌≡◌, ℕ, Bool, true, false, List, length, Some, ◌⊎◌, All}
 use Rattle.std.specs.Prelude.{Contains, Result, MatchResult}
 use Rattle.cnf.specs.Literal.{Literal, negation}

@@ -1,13 +1,10 @@
 // Elimination and reconstruction.
-ghost use Rattle.std.specs.Prelude.{◌≡◌, ℕ, ◌+◌, ◌-◌, ◌<◌, ◌≤◌, ◌^◌, false, []};
-ghost use Rattle.std.specs.Prelude.{length, map, Some, slice_get, All, Contains, IfOk, OnOk};
+ghost use Rattle.std.specs.Prelude.{◌≡◌, ℕ, ◌+◌, false, [], length, slice_get, IfOk};
 ghost use Rattle.std.specs.List.{enumerate_from};
-ghost use Rattle.cnf.specs.Formula.{IsFormula, IsFormulaClause};
-ghost use Rattle.cnf.specs.Refute.{IsRefutedByHints};
+ghost use Rattle.cnf.specs.Formula.{IsFormula};
 ghost use Rattle.clauses.specs.Slots.{live_clauses};
-ghost use Rattle.lrat_log.specs.Steps.{StaysLogOver, IsBaseOf, learned_count, log_live, given_of};
-ghost use Rattle.eliminate.specs.Elimination.{extended, is_eliminated, IsFree, AreFreeOf};
-ghost use Rattle.eliminate.specs.Elimination.{ExtendsBack, HoldsWhatIsLive};
+ghost use Rattle.lrat_log.specs.Steps.{StaysLogOver, learned_count, given_of};
+ghost use Rattle.eliminate.specs.Elimination.{extended, is_eliminated, EliminationLeaves};
 
 use crate::ending::define_where_open;
 use crate::rounds::simplify;
@@ -27,7 +24,8 @@ use std::mem::replace;
 pub struct Stack {
     // How many variables there are, those that elimination made too; below 2^27.
     vars: u32,
-    // The eliminated variables, each with the clauses that its value has to satisfy.
+    // The reconstruction stack: the eliminated variables, each with the clauses that its value has
+    // to satisfy.
     removed: Removals,
     // By reference, from 0, the name in the log of each clause that is left; none once they were
     // taken.
@@ -75,8 +73,9 @@ impl Stack {
         replace(&mut self.names, none)
     }
 
-    /// Sets the eliminated variables, the last eliminated first: each becomes true just where some
-    /// removed clause with it is otherwise false. All other variables keep their values.
+    /// Reconstruction sets the eliminated variables, the last eliminated first: each becomes true
+    /// just where some removed clause with it is otherwise false. All other variables keep their
+    /// values.
     pub fn extend(&self, bits: &mut [bool])
         requires { length bits.old ≡ self.now.variables }
         ensures set { bits.new ≡ extended self.now.removed bits.old }
@@ -107,23 +106,8 @@ pub fn eliminate<S: Sink>(
         (S.lines sink.new) }
     ensures none_learned { learned_count (S.lines sink.new) ≡ 0 }
 
-    // What is left in the store.
-    ensures together { OnOk result (store.new.slots ≡ map Some (live_clauses store.new.slots)) }
-    ensures live { IfOk result (λ stack. (base : ℕ)
-        → IsBaseOf (given_of (live_clauses store.old.slots)) base
-        → HoldsWhatIsLive store.new.slots stack.names base
-        (log_live (given_of (live_clauses store.old.slots)) base (S.lines sink.new))) }
-    ensures left { IfOk result (λ stack.
-        All (IsFormulaClause stack.variables) (live_clauses store.new.slots)) }
-    ensures variables { IfOk result (λ stack. (length frozen.now ≤ stack.variables)
-        × (stack.variables ≤ length frozen.now + 2 ^ 20)) }
-    ensures free { IfOk result (λ stack. AreFreeOf stack.removed (live_clauses store.new.slots)) }
-    ensures not_frozen { IfOk result (λ stack.
-        All (λ r. IsFree frozen.now r.variable) stack.removed) }
-    ensures back { IfOk result (λ stack.
-        ExtendsBack stack (live_clauses store.old.slots) (live_clauses store.new.slots)) }
-    ensures refuted { OnOk result (IsRefutedByHints (live_clauses store.old.slots)
-        → Contains (live_clauses store.new.slots) []) }
+    ensures leaves { IfOk result (λ stack. EliminationLeaves frozen.now
+        (live_clauses store.old.slots) (S.lines sink.new) stack store.new.slots) }
 {
     let mut simplifier = Simplifier::new(store.allocator(), store, frozen.len() as u32)?;
     propagate_units(&mut simplifier, store, sink)?;

@@ -1,5 +1,6 @@
-//! Elimination of variables before the search. `elimination` is what other crates call, and the
-//! subset tests by `signatures` are handed on.
+//! Preprocessing before the search: units, subsumption and self-subsuming resolution, bounded
+//! variable elimination, and fresh variables for pairs of literals. `elimination` is what other
+//! crates call, and the subset tests by `signatures` are handed on.
 #![tactic(auto)]
 
 pub use eliminate_tables::signatures;

@@ -1,15 +1,15 @@
 // What preprocessing keeps besides the store and the log. Its proof rests on names, occurrences and
 // removals; the schedule only says where work may be worthwhile.
-ghost use Rattle.std.specs.Prelude.{◌≡◌, ◌<◌, List, [], ◌∷◌, ◌++◌, Bool, false, length};
-ghost use Rattle.std.specs.Prelude.{IfOk, OnOk, IfSome, OnErr, Some, None, slice_set};
+ghost use Rattle.std.specs.Prelude.{◌≡◌, ◌<◌, List, [], Bool, false, length};
+ghost use Rattle.std.specs.Prelude.{IfOk, OnOk, IfSome, OnErr};
 ghost use Rattle.cnf.specs.Formula.{IsFormula};
 ghost use Rattle.clauses.specs.Slots.{IsLive, live_clauses};
 ghost use Rattle.lrat_log.specs.Steps.{is_empty_clause};
 ghost use Rattle.eliminate_tables.specs.Rows.{AreRows};
 ghost use Rattle.eliminate_tables.specs.declared.against.Against.TheVariants.{Within};
-ghost use Rattle.eliminate.specs.State.{Start};
-ghost use Rattle.eliminate.specs.Simplifier.{IsSimplified, IsOpen, Passes, IsAddableLine};
-ghost use Rattle.eliminate.specs.Subsuming.{AreBeside};
+ghost use Rattle.eliminate.specs.Simplifier.{IsSimplified, IsOpen, IsAddable};
+ghost use Rattle.eliminate.specs.Simplifier.{Adds, Deletes, Passes};
+ghost use Rattle.eliminate.specs.Subsuming.{IsFoundBeside};
 
 use clauses::store::{CRef, Store};
 use cnf::marks::Marks;
@@ -121,22 +121,14 @@ impl Simplifier {
         hints: &[Hint],
     ) -> Result<CRef, AllocError>
         requires is_open { IsOpen self.old store.old.slots (S.lines sink.old) }
-        requires line { (start : Start)
-            → IsSimplified start self.old store.old.slots (S.lines sink.old)
-            → IsAddableLine start self.old (S.lines sink.old) (record {
-              kind = kind;
-              clause = self.old.clause.items;
-              hints = hints.now;
-            }) }
-        ensures reference { IfOk result (λ r. r ≡ length store.old.slots) }
-        ensures slots { IfOk result (λ _.
-            store.new.slots ≡ store.old.slots ++ Some self.old.clause.items ∷ []) }
+        requires line { IsAddable self.old store.old.slots (S.lines sink.old) (record {
+          kind = kind;
+          clause = self.old.clause.items;
+          hints = hints.now;
+        }) }
+        ensures adds { IfOk result (Adds self.old store.old.slots self.new store.new.slots) }
         ensures passes { Passes result self.old store.old.slots (S.lines sink.old)
             self.new store.new.slots (S.lines sink.new) }
-        ensures refuted { IfOk result (λ _.
-            self.new.is_refuted ≡ is_empty_clause self.old.clause.items) }
-        ensures vars { OnOk result (self.new.vars ≡ self.old.vars) }
-        ensures removals { OnOk result (self.new.removals ≡ self.old.removals) }
     {
         sink.is_short();
         let reference = add(store, &mut self.names, sink, kind, &self.clause, hints)?;
@@ -157,17 +149,15 @@ impl Simplifier {
         by: CRef,
     ) -> Result<(), AllocError>
         requires is_open { IsOpen self.old store.old.slots (S.lines sink.old) }
-        requires other { by ≡ reference → ⊥ }
         requires live { IsLive store.old.slots reference }
-        requires live_too { IsLive store.old.slots by }
-        requires subset { AreBeside store.old.slots by reference Within }
-        ensures slots { IfOk result (λ _.
-            store.new.slots ≡ slice_set store.old.slots reference None) }
+        requires subsumed { IsFoundBeside store.old.slots reference (record {
+          by = by;
+          against = Within;
+        }) }
+        ensures deletes { OnOk result
+            (Deletes self.old store.old.slots self.new store.new.slots reference) }
         ensures passes { Passes result self.old store.old.slots (S.lines sink.old)
             self.new store.new.slots (S.lines sink.new) }
-        ensures going { IfOk result (λ _. self.new.is_refuted ≡ false) }
-        ensures vars { OnOk result (self.new.vars ≡ self.old.vars) }
-        ensures removals { OnOk result (self.new.removals ≡ self.old.removals) }
         ensures err { OnErr result (S.lines sink.new ≡ S.lines sink.old) }
     {
         self.schedule.leave(store.lits(reference))?;

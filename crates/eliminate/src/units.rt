@@ -1,8 +1,8 @@
-// Unit propagation before the search. Sweeps over all clauses alternate with a queue of literals
-// that became true: the queue visits the clauses in which they are false, and looks at a clause
-// only once a count says that at most one of its literals may be open, so that all visits together
-// are linear in the literals of the formula. Nothing rests on the counts: the last sweep finds no
-// clause that is false or unit.
+// Unit propagation to a fixpoint before the search. Sweeps over all clauses alternate with a queue
+// of literals that became true: the queue visits the clauses in which they are false, and looks at
+// a clause only once a count says that at most one of its literals may be open, so that all visits
+// together are linear in the literals of the formula. Nothing rests on the counts: the last sweep
+// finds no clause that is false or unit.
 ghost use Rattle.std.specs.Prelude.{◌≡◌, ◌+◌, ◌*◌, ◌<◌, ◌∷◌, [], true, false, List};
 ghost use Rattle.std.specs.Prelude.{length, replicate, Some, None, IfOk, OnOk};
 ghost use Rattle.cnf.specs.Literal.{Literal, negation};

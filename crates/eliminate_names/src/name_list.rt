@@ -1,7 +1,7 @@
 // The names of the clauses of a store, in four bytes each as long as every number is below 2^31. No
 // log that fits in memory gets that far, unless the clauses given have such numbers; from then on
 // each takes eight. So all names are narrow, or all are wide.
-ghost use Rattle.std.specs.Prelude.{◌≡◌, ◌<◌, ◌≤◌, ◌^◌, [], ◌∷◌, ◌++◌, length, take, slice_set};
+ghost use Rattle.std.specs.Prelude.{◌≡◌, ◌<◌, ◌≤◌, [], ◌∷◌, ◌++◌, length, take, slice_set};
 ghost use Rattle.std.specs.Prelude.{IfOk, OnOk, OnErr};
 ghost use Rattle.cnf.specs.declared.limits.TheConstants.{NUMBER_LIMIT};
 ghost use Rattle.eliminate_names.specs.Work.{name_at};

@@ -1,6 +1,6 @@
 // The name of each clause in the store, and how many additions the log has, which gives an added
 // clause its name.
-ghost use Rattle.std.specs.Prelude.{◌≡◌, ℕ, ◌+◌, ◌<◌, ◌≤◌, ◌^◌, List, [], ◌∷◌, ◌++◌, length, IfOk};
+ghost use Rattle.std.specs.Prelude.{◌≡◌, ◌+◌, ◌<◌, [], ◌∷◌, ◌++◌, length, IfOk};
 ghost use Rattle.std.specs.Prelude.{OnErr, slice_set, Some, None, All, map};
 ghost use Rattle.clauses.specs.Slots.{IsLive, live_clauses};
 ghost use Rattle.cnf.specs.Lrat.{IsId};

@@ -14,7 +14,7 @@ use Rattle.lrat_log.specs.declared.lines.Kind.{Kind}
 use Rattle.lrat_log.specs.declared.lines.Kind.TheVariants.{Definition}
 use Rattle.lrat_log.specs.Log.{LogLine, Given}
 use Rattle.lrat_log.specs.Steps.{StaysLogOver, AddsNoEmptyClause, learned_count, added_count}
-use Rattle.eliminate_names.specs.Work.{IsWork, NamesState}
+use Rattle.eliminate_names.specs.Work.{IsWork, NamesState, added_line}
 use Rattle.eliminate_pairs.specs.declared.frequencies.TheConstants.{FEWEST, SHORTEST}
 use Rattle.eliminate_pairs.specs.declared.pairs.PairDefinition.{PairDefinition}
 
@@ -99,6 +99,17 @@ stage_of v slots n lines =
 pub record FitNames (n : NamesState) (slots : Slots) (lines : List LogLine) : Type 0 where
   pub counted : n.additions ≡ added_count lines
   pub long : length n.names ≡ length slots
+
+-- the clause of a line stands behind those before, under the next name, and the log has the line
+pub record AddsLine (l : LogLine) (held : Slots) (n : NamesState) (log : List LogLine) (r : ℕ)
+    (more : Slots) (m : NamesState) (longer : List LogLine) : Type 0 where
+  pub reference : r ≡ length held
+  pub slots : more ≡ held ++ Some l.clause ∷ []
+  pub names : m ≡ record {
+    names = n.names ++ added_line n.additions ∷ [];
+    additions = n.additions + 1;
+  }
+  pub lines : longer ≡ log ++ l ∷ []
 
 -- what a stage is measured by: the formula's variables and clauses, clauses that are to follow from
 -- what is left, and variables that may not come back

@@ -1,4 +1,5 @@
-//! Fresh variables for pairs of literals that occur together in many clauses.
+//! Fresh variables for pairs of literals that occur together in many clauses: extended resolution,
+//! akin to bounded variable addition.
 #![tactic(auto)]
 
 mod frequencies;

@@ -13,8 +13,9 @@ const MOST_MEETINGS: usize = 1 << 23;
 /// Two literals that stand together in a clause.
 #[derive(Clone, Copy, Drop)]
 struct Meeting {
-    // The indices of the literals, the lower one first.
+    // The index of the lower literal.
     left: u32,
+    // The index of the higher one.
     right: u32,
     // The place of the clause in the store.
     place: u32,

@@ -18,8 +18,9 @@ pub(crate) struct PairCandidate {
     pub(crate) left: Lit,
     /// The one of higher index.
     pub(crate) right: Lit,
-    // The meetings, from one place up to another.
+    // The place of its first meeting among those of the table.
     start: usize,
+    // The place after its last one.
     end: usize,
     // In how many clauses every pair must stand.
     least: usize,

@@ -6,7 +6,7 @@
 // is left to the next round. Each clause that changes leaves a dead one behind, so after a round
 // the clauses move together. In a large store a further round looks only at the clauses that the
 // round before it made: a pair that was left comes again only where it occurs in enough of these.
-ghost use Rattle.std.specs.Prelude.{◌≡◌, ◌+◌, ◌<◌, ◌≤◌, ◌^◌, List, [], ◌∷◌, ◌++◌, length};
+ghost use Rattle.std.specs.Prelude.{◌≡◌, ◌+◌, ◌<◌, ◌≤◌, List, length};
 ghost use Rattle.std.specs.Prelude.{IsTrue, IfOk, OnOk, OnErr, Some};
 ghost use Rattle.std.specs.List.{AllByRecursion};
 ghost use Rattle.cnf.specs.declared.limits.TheConstants.{VARIABLE_LIMIT};
@@ -17,10 +17,10 @@ ghost use Rattle.clauses.specs.Slots.{IsLive, clause_at};
 ghost use Rattle.lrat_log.specs.Log.{number_in};
 ghost use Rattle.lrat_log.specs.declared.lines.Hint.TheVariants.{Plain};
 ghost use Rattle.lrat_log.specs.Steps.{added_count};
-ghost use Rattle.eliminate_names.specs.Work.{name_at, added_line};
-ghost use Rattle.eliminate_pairs.specs.Pairs.{side_clause, side_line, replaced, together};
+ghost use Rattle.eliminate_names.specs.Work.{name_at};
+ghost use Rattle.eliminate_pairs.specs.Pairs.{side_line, replaced, together};
 ghost use Rattle.eliminate_pairs.specs.Pairs.{IsOnOther, StandAt, StandOften, HasPairOf, IsDefined};
-ghost use Rattle.eliminate_pairs.specs.Pairs.{stage_of, FitNames, Moves, Passes};
+ghost use Rattle.eliminate_pairs.specs.Pairs.{stage_of, AddsLine, FitNames, Moves, Passes};
 
 use crate::frequencies::{FEWEST, SHORTEST, first_looked_at};
 use crate::pair_table::{PairCandidate, PairTable};
@@ -275,15 +275,10 @@ fn add_side<S: Sink>(
     requires small { variable < VARIABLE_LIMIT }
     requires named { whole < length names.old.names }
     requires counted { names.old.additions ≡ added_count (S.lines sink.old) }
-    ensures reference { IfOk result (λ r. r ≡ length store.old.slots) }
-    ensures slots { OnOk result (store.new.slots ≡ store.old.slots ++ Some
-        (side_clause variable lit) ∷ []) }
-    ensures names { OnOk result (names.new ≡ record {
-      names = names.old.names ++ added_line names.old.additions ∷ [];
-      additions = names.old.additions + 1;
-    }) }
-    ensures lines { OnOk result (S.lines sink.new
-        ≡ S.lines sink.old ++ side_line variable lit (name_at names.old.names whole) ∷ []) }
+    ensures adds { IfOk result (λ r.
+        AddsLine (side_line variable lit (name_at names.old.names whole))
+        store.old.slots names.old (S.lines sink.old) r
+        store.new.slots names.new (S.lines sink.new)) }
     ensures err { OnErr result (S.lines sink.new ≡ S.lines sink.old) }
 {
     let lits = [Lit::new(variable, false), lit.negation()];

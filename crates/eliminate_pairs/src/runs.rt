@@ -11,8 +11,9 @@ pub(crate) struct Run {
     rarity: u32,
     // The place of the clause of the first meeting.
     place: u32,
-    /// The meetings, from one place up to another.
+    /// The place of the first meeting among those of all pairs.
     pub(crate) start: u32,
+    /// The place after the last one.
     pub(crate) end: u32,
     /// The index of the lower literal.
     pub(crate) left: u32,

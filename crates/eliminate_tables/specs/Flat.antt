@@ -1,4 +1,4 @@
--- Eliminated variables with their clauses, in flat lists.
+-- The reconstruction stack in flat lists: eliminated variables with their clauses.
 use Rattle.std.specs.Prelude.{◌≡◌, ℕ, ◌<◌, ◌≤◌, List, ◌++◌, length, map, All, slice_range}
 use Rattle.cnf.specs.Literal.{Literal}
 use Rattle.cnf.specs.declared.limits.TheConstants.{VARIABLE_LIMIT}

@@ -1,4 +1,5 @@
--- Eliminated variables with their clauses, and how they get their values back.
+-- The reconstruction stack: eliminated variables with their clauses, and how they get their values
+-- back.
 use Rattle.std.specs.Prelude.{ℕ, ◌-◌, Bool, not, ◌&&◌, List, [], ◌∷◌, slice_set, ◌==◌}
 use Rattle.std.specs.List.{list_any}
 use Rattle.cnf.specs.Literal.{Literal, Assignment, literal_value}

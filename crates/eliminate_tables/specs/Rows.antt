@@ -1,4 +1,4 @@
--- Rows of references, one for each literal.
+-- Occurrence lists: rows of references, one for each literal.
 use Rattle.std.specs.Prelude.{◌≡◌, ℕ, ◌<◌, Bool, true, false, List, [], ◌∷◌, ◌++◌, length, Option}
 use Rattle.std.specs.Prelude.{Some, None, Contains, filter, fold, map, unwrap_or}
 use Rattle.std.specs.Prelude.{◌-◌, ◌/◌, nat_lt, slice_set, if◌then◌else◌}

@@ -4,7 +4,8 @@ use Rattle.std.specs.Prelude.{count_by, sum_by}
 use Rattle.std.specs.List.{list_all, list_any}
 use Rattle.cnf.specs.Literal.{Literal, negation}
 use Rattle.cnf.specs.Clause.{contains_literal, without_literal}
-use Rattle.eliminate_tables.specs.declared.worthwhile.TheConstants.{LONGEST_PARENT, MOST_LITERALS}
+use Rattle.eliminate_tables.specs.declared.worthwhile.TheConstants.{LONGEST_PARENT}
+use Rattle.eliminate_tables.specs.declared.worthwhile.TheConstants.{LONGEST_RESOLVENT}
 use Rattle.eliminate_tables.specs.declared.worthwhile.TheConstants.{MOST_OF_A_SIGN}
 
 -- the literals that a resolvent has from its second clause alone
@@ -19,7 +20,7 @@ give_tautology p c d =
 
 -- the resolvent is not too long; the first clause has the pivot beside those that it gives
 abbrev pub is_short : Literal → List Literal → List Literal → Bool
-is_short p c d = nat_le (length (rest_of p c d) + length c) (MOST_LITERALS + 1)
+is_short p c d = nat_le (length (rest_of p c d) + length c) (LONGEST_RESOLVENT + 1)
 
 -- no resolvent of c with these is long
 abbrev pub are_short : Literal → List Literal → List (List Literal) → Bool

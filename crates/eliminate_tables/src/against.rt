@@ -1,4 +1,5 @@
-// How clauses lie against the marked one, found in time linear in these.
+// How clauses lie against the marked one, whether they subsume or strengthen it, found in time
+// linear in these.
 ghost use Rattle.std.specs.Prelude.{◌≡◌, length, All};
 ghost use Rattle.cnf.specs.Marks.{HasPlace};
 ghost use Rattle.eliminate_tables.specs.Against.{LiesAgainst, against_of, but_for};

@@ -1,7 +1,8 @@
 //! Tables of preprocessing that know nothing of a log: in which clauses each literal occurs, which
 //! clauses others are compared with, which variables are worth a try, resolvents against marks, and
-//! the eliminated variables with their clauses. Clauses that others make needless are found by
-//! `signatures`, eight at a time, and by `against`, literals against marks.
+//! the reconstruction stack, which has the eliminated variables with their clauses. Clauses that
+//! others make needless are found by `signatures`, eight at a time, and by `against`, literals
+//! against marks.
 #![tactic(auto)]
 
 pub mod against;

@@ -1,5 +1,6 @@
-// In which clauses each literal occurs: a row of references for each literal, all rows in one block
-// of memory. Rows keep references of clauses that were deleted since, until they are cleaned.
+// Occurrence lists: in which clauses each literal occurs, by a row of references for each literal,
+// all rows in one block of memory. Rows keep references of clauses that were deleted since, until
+// they are cleaned.
 //
 // The rows of a formula get their room at once, an eighth more than its clauses need. A vector for
 // each row took 24 bytes a row, with room that doubles, and left its pieces between the blocks that

@@ -1,6 +1,6 @@
-// The eliminated variables with the clauses that went with them, and how the variables get their
-// values back.
-ghost use Rattle.std.specs.Prelude.{◌≡◌, ◌+◌, ◌-◌, ◌<◌, ◌≤◌, ◌^◌, false, List};
+// The reconstruction stack: the eliminated variables with the clauses that went with them, and how
+// the variables get their values back.
+ghost use Rattle.std.specs.Prelude.{◌≡◌, ◌+◌, ◌-◌, ◌<◌, ◌≤◌, false, List};
 ghost use Rattle.std.specs.Prelude.{[], ◌∷◌, ◌++◌, length, All, IfOk, OnErr};
 ghost use Rattle.cnf.specs.declared.limits.TheConstants.{VARIABLE_LIMIT};
 ghost use Rattle.cnf.specs.Literal.{Literal, literal_value};
@@ -36,7 +36,7 @@ pub(crate) struct Gone {
     end: u32,
 }
 
-/// Eliminated variables with their clauses, in three flat vectors.
+/// The reconstruction stack: eliminated variables with their clauses, in three flat vectors.
 #[derive(Drop)]
 pub struct Removals {
     // The variables, the first one that was eliminated first.

@@ -17,10 +17,10 @@ use cnf::types::Lit;
 /// A variable goes only where at most so many clauses have it, and at most so many its negation.
 const MOST_OF_A_SIGN: usize = 10;
 
-/// No resolvent has more literals.
-const MOST_LITERALS: usize = 32;
+/// No resolvent may have more literals.
+const LONGEST_RESOLVENT: usize = 32;
 
-/// Clauses that are longer are not tried: their resolvents are too long, but where each has an
+/// Clauses that are longer are not tried: their resolvents are too long, but where each has
 /// complementary literals.
 const LONGEST_PARENT: usize = 100;
 
@@ -104,7 +104,7 @@ fn count_resolvents(
     for second in seconds {
         match count_rest(marks, pivot.negation(), store.lits(*second)) {
             Some(rest) => {
-                if rest.saturating_add(lits.len()) > MOST_LITERALS + 1 {
+                if rest.saturating_add(lits.len()) > LONGEST_RESOLVENT + 1 {
                     return None;
                 }
                 count += 1;

@@ -1,7 +1,7 @@
 // What would mend a faulty line, in a sentence. Nothing rests on it: the fault and its line are the
 // reader's.
 use crate::mending::MOST_SHOWN;
-use cnf::limits::{MOST_HARD, MOST_SOFT, MOST_VARIABLES};
+use cnf::limits::{MOST_TEXT_CLAUSES, MOST_VARIABLES};
 use text::cutting::tokens;
 use text::digits::{is_blank, number};
 use text::pieces::Tokens;
@@ -268,7 +268,7 @@ fn mend_header(line: &[u8]) -> &'static str {
     );
     match numbers {
         (Some(variables), _, _) if variables > u64::from(MOST_VARIABLES) => MANY_VARIABLES,
-        (Some(_), Some(clauses), _) if clauses > MOST_CLAUSES => MANY_CLAUSES,
+        (Some(_), Some(clauses), _) if clauses > MOST_TEXT_CLAUSES as u64 => MANY_CLAUSES,
         (Some(_), Some(_), Some(_)) => TOP,
         (Some(_), Some(_), None) if word_at(line, 4).is_empty() => NO_TOP,
         _ => HEADER,
@@ -283,9 +283,6 @@ const MAXSAT: &[u8] = b"wcnf";
 
 /// A no-break space where each byte is a character.
 const BYTE_SPACE: &[u8] = b"\xa0";
-
-/// How many clauses a header may say.
-const MOST_CLAUSES: u64 = (MOST_HARD + MOST_SOFT) as u64;
 
 /// The word of the line with this number, which counts from 0; nothing where there is none.
 fn word_at(line: &[u8], place: usize) -> &[u8] {

@@ -1,5 +1,5 @@
 mod Told
-mod GivenNumbers
+mod Numbering
 mod BitLaws
 mod Comparators
 mod FrozenOutputs

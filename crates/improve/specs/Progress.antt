@@ -1,5 +1,5 @@
 -- What was told of solutions, and what could not be told.
-use Rattle.std.specs.Prelude.{ℕ, ◌+◌, List, [], ◌∷◌, ◌++◌, Option, Some}
+use Rattle.std.specs.Prelude.{ℕ, ◌+◌, ◌^◌, ◌<◌, List, [], ◌∷◌, ◌++◌, Option, Some}
 
 pub record Telling : Type 0 where
   -- the costs told, in their order
@@ -8,6 +8,10 @@ pub record Telling : Type 0 where
   pub failed : Option ℕ
   -- how often it failed
   pub failures : ℕ
+
+-- one failure more can be counted
+abbrev pub CanFail : Telling → Type 0
+CanFail t = t.failures < 2 ^ 62
 
 -- this cost was told too
 abbrev pub with_told : ℕ → Telling → Telling

@@ -1,9 +1,10 @@
-// One solver over all bounds. The formula is given once, without a bound; the clauses of each bound
-// are added to those of the bounds before, so learned clauses are kept. The certificate's formula
-// has only the clauses of the last bound: at the end the log is rewritten as one over that formula.
-ghost use Rattle.std.specs.Prelude.{◌≡◌, ◌+◌, ◌<◌, ◌≤◌, ◌^◌, [], ◌∷◌, ◌++◌};
+// One incremental solver over all bounds. The formula is given once, without a bound; the clauses
+// of each bound are added to those of the bounds before, so learned clauses are kept. The
+// certificate's formula has only the clauses of the last bound: at the end the log is rewritten as
+// one over that formula.
+ghost use Rattle.std.specs.Prelude.{◌≡◌, ◌+◌, ◌<◌, ◌≤◌, [], ◌∷◌, ◌++◌};
 ghost use Rattle.std.specs.Prelude.{ℕ, false, List, length, All, IfOk, OnOk};
-ghost use Rattle.cnf.specs.declared.limits.TheConstants.{NUMBER_LIMIT};
+ghost use Rattle.cnf.specs.declared.limits.TheConstants.{MOST_PLACES, NUMBER_LIMIT};
 ghost use Rattle.cnf.specs.Literal.{Literal};
 ghost use Rattle.cnf.specs.Clause.{has_repeat, is_tautology};
 ghost use Rattle.lrat_log.specs.Log.{clauses_in};
@@ -126,7 +127,7 @@ impl Bounds {
 
     /// The values of a solution, by variable from 1, are tried first from now on.
     pub fn suggest(&mut self, bits: &[bool])
-        ensures { self.new ≡ self.old }
+        ensures unchanged { self.new ≡ self.old }
     {
         self.solver.suggest(bits);
     }
@@ -226,7 +227,7 @@ fn collect_weaker(
     last: usize,
 ) -> Result<Vec<(Vec<Lit>, u64)>, AllocError>
     requires { fixed + last ≤ length given.now }
-    ensures few { length given.now < 2 ^ 58 }
+    ensures few { length given.now ≤ MOST_PLACES }
     ensures weaker { IfOk result (λ weaker. (a b c : List (List Literal))
         → clauses_in given.now ≡ a ++ (b ++ c) → length a ≡ fixed → length c ≡ last
         → weaker_list weaker.items ≡ weaker_among (fixed + 1) c b) }
@@ -236,7 +237,7 @@ fn collect_weaker(
 }
 
 /// Gives the clauses, in their order.
-#[tactic(auto, using(crate::proofs::GivenNumbers::gives_none, crate::proofs::GivenNumbers::gives_on))]
+#[tactic(auto, using(crate::proofs::Numbering::gives_none, crate::proofs::Numbering::gives_on))]
 fn give_all(solver: &mut Solver<Log>, clauses: &[Clause]) -> Result<(), AllocError>
     requires usable { IsUsable solver.old }
     requires frozen { All (λ c. All (IsFrozen solver.old.frozen) c) clauses.now }

@@ -1,16 +1,18 @@
-//! The way by cores: a core-guided search whose lower bound meets the best solution, and then a
-//! refutation by the cores. Where it does not end within its share of the effort, the search goes
-//! on by bounds. `stages` says how long cores are looked for, and when they are tried.
-ghost use Rattle.std.specs.Prelude.{◌≡◌, ℕ, ◌+◌, ◌<◌, ◌≤◌, ◌^◌, [], None};
+//! The way by cores: a stratified core-guided search whose lower bound meets the best solution, and
+//! then a refutation by the cores. Where it does not end within its share of the effort, the search
+//! goes on by bounds. `stages` says how long cores are looked for, and when they are tried.
+ghost use Rattle.std.specs.Prelude.{◌≡◌, ◌+◌, ◌<◌, ◌≤◌, None};
 ghost use Rattle.std.specs.Prelude.{IfOk, IfErr, IfSome, OnOk};
 ghost use Rattle.cnf.specs.Literal.{Assignment};
 ghost use Rattle.cnf.specs.Problem.{IsFeasible};
 ghost use Rattle.lrat_log.specs.Steps.{learned_count};
-ghost use Rattle.improve_cores.specs.CoreWork.{IsSearchFor, CountsLearned};
+ghost use Rattle.improve_cores.specs.CoreWork.{IsSearchFor};
 ghost use Rattle.improve_cores.specs.Events.{AreRightCores};
+ghost use Rattle.improve.specs.declared.by_cores.TheConstants.{MOST_RESERVED};
 ghost use Rattle.improve.specs.Improving.{work_count};
+ghost use Rattle.improve.specs.Progress.{CanFail};
 ghost use Rattle.improve.specs.Standing.{IsStanding, IsEarlyWork, HasNoCores, GoesOn, Fails};
-ghost use Rattle.improve.specs.Standing.{IsCoreProof, AreFeasible, IsAttempt, by_cores_count};
+ghost use Rattle.improve.specs.Standing.{IsCoreProof, AreFeasible, by_cores_count};
 ghost use Rattle.improve.specs.Watch.{AreShown};
 ghost use Rattle.improve_trials.specs.Trials.{IsShown};
 
@@ -51,7 +53,7 @@ pub fn refute_by_cores<T: Progress, W: Watch>(
     standing: &mut Standing,
     work: &mut Work,
 ) -> Result<Option<ByCores>, ImproveFault>
-    requires failures { (T.state progress.old).failures < 2 ^ 62 }
+    requires failures { CanFail (T.state progress.old) }
     requires standing { IsStanding instance.now standing.old }
     requires work { IsEarlyWork instance.now work.old }
     requires none { HasNoCores work.old }
@@ -120,7 +122,7 @@ fn keep_search(instance: &Instance, search: CoreSearch, work: &mut Work)
 
 /// So many variables are reserved to count with.
 fn reserve_of(instance: &Instance) -> u32
-    ensures { result ≤ 2 ^ 20 }
+    ensures { result ≤ MOST_RESERVED }
 {
     let wanted = instance.soft().len().saturating_mul(RESERVED_EACH);
     wanted.saturating_add(RESERVED).min(MOST_RESERVED) as u32
@@ -154,7 +156,7 @@ pub(crate) fn close_gap<T: Progress, W: Watch>(
     standing: &mut Standing,
     search: &mut CoreSearch,
 ) -> Result<bool, ImproveFault>
-    requires failures { (T.state progress.old).failures < 2 ^ 62 }
+    requires failures { CanFail (T.state progress.old) }
     requires standing { IsStanding instance.now standing.old }
     requires search { IsSearchFor instance.now search.old }
     ensures follows { (first : T) → T.follows first progress.old → T.follows first progress.new }
@@ -197,7 +199,7 @@ fn note_model<T: Progress, W: Watch>(
     standing: &mut Standing,
     bits: Vec<bool>,
 ) -> Result<(), ImproveFault>
-    requires failures { (T.state progress.old).failures < 2 ^ 62 }
+    requires failures { CanFail (T.state progress.old) }
     requires standing { IsStanding instance.now standing.old }
     requires feasible { AreFeasible instance.now bits.items }
     ensures follows { (first : T) → T.follows first progress.old → T.follows first progress.new }
@@ -238,7 +240,7 @@ pub(crate) fn refute<T: Progress, W: Watch>(
     counted: Counted,
     shown: &mut u64,
 ) -> Result<Option<ByCores>, ImproveFault>
-    requires failures { (T.state progress.old).failures < 2 ^ 62 }
+    requires failures { CanFail (T.state progress.old) }
     requires standing { IsStanding instance.now standing.old }
     requires work { IsEarlyWork instance.now work.old }
     requires cores { AreRightCores instance.now counted }

@@ -1,6 +1,6 @@
 // Where a search reports the cost of each better solution.
-ghost use Rattle.std.specs.Prelude.{◌≡◌, ◌<◌, ◌^◌, OnOk, OnErr};
-ghost use Rattle.improve.specs.Progress.{Telling, with_told, with_failed};
+ghost use Rattle.std.specs.Prelude.{◌≡◌, OnOk, OnErr};
+ghost use Rattle.improve.specs.Progress.{Telling, CanFail, with_told, with_failed};
 
 /// A cost could not be told.
 #[derive(Clone, Copy, Debug, PartialEq, Eq, Drop)]
@@ -21,7 +21,7 @@ pub trait Progress {
     ///
     /// `ProgressFault` where it could not be told.
     fn improved(&mut self, cost: u64) -> Result<(), ProgressFault>
-        requires { (state self.old).failures < 2 ^ 62 }
+        requires { CanFail (state self.old) }
         ensures ok { OnOk result (state self.new ≡ with_told cost (state self.old)) }
         ensures err { OnErr result (state self.new ≡ with_failed cost (state self.old)) }
         ensures follows { (first : Self) → follows first self.old → follows first self.new };

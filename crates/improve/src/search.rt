@@ -1,6 +1,6 @@
 //! The improving search: each solution bounds the cost of the next (Handbook of Satisfiability,
 //! chapter MaxSAT, linear search from satisfiable to unsatisfiable).
-ghost use Rattle.std.specs.Prelude.{◌≡◌, ◌+◌, ◌<◌, ◌^◌, [], ◌∷◌};
+ghost use Rattle.std.specs.Prelude.{◌≡◌, ◌+◌, ◌<◌, [], ◌∷◌};
 ghost use Rattle.std.specs.Prelude.{ℕ, List, All, Ok, IfOk, IfErr, OnOk, OnErr};
 ghost use Rattle.cnf.specs.Refute.{IsRefutedByHints};
 ghost use Rattle.lrat_log.specs.Steps.{IsAcceptedLog, AddsNoEmptyClause, learned_count};
@@ -11,7 +11,7 @@ ghost use Rattle.cdcl.specs.Solving.{given_to};
 ghost use Rattle.improve.specs.Improving.{Improves, IsHardLog, IsRightFound, IsSolution, OnWork};
 ghost use Rattle.improve.specs.Improving.{PaysForHard, EndsWith, AreFalling, IsCostOfSome};
 ghost use Rattle.improve.specs.Improving.{work_count};
-ghost use Rattle.improve.specs.Progress.{with_told, with_failed};
+ghost use Rattle.improve.specs.Progress.{CanFail, with_told, with_failed};
 ghost use Rattle.improve.specs.Bounds.{IsOver, IsOverHard};
 ghost use Rattle.improve.specs.Standing.{IsStanding, IsEarlyWork, HasNoCores, Ends};
 ghost use Rattle.improve.specs.Standing.{IsCoreProof, AreFeasible, IsOnlyHard};
@@ -48,7 +48,7 @@ pub fn improve<T: Progress>(
     budget: &mut Budget,
     progress: &mut T,
 ) -> Result<Found, ImproveFault>
-    requires { (T.state progress.old).failures < 2 ^ 62 }
+    requires { CanFail (T.state progress.old) }
     ensures follows { (first : T) → T.follows first progress.old → T.follows first progress.new }
     ensures improves { Improves Profile.One instance.now result
         (T.state progress.old) (T.state progress.new)
@@ -68,7 +68,7 @@ pub fn improve_as<T: Progress>(
     progress: &mut T,
     profile: Profile,
 ) -> Result<Found, ImproveFault>
-    requires { (T.state progress.old).failures < 2 ^ 62 }
+    requires { CanFail (T.state progress.old) }
     ensures follows { (first : T) → T.follows first progress.old → T.follows first progress.new }
     ensures improves { Improves profile instance.now result
         (T.state progress.old) (T.state progress.new)
@@ -90,7 +90,7 @@ pub fn improve_watched<T: Progress, W: Watch>(
     profile: Profile,
     watch: &mut W,
 ) -> Result<Found, ImproveFault>
-    requires { (T.state progress.old).failures < 2 ^ 62 }
+    requires { CanFail (T.state progress.old) }
     ensures follows { (first : T) → T.follows first progress.old → T.follows first progress.new }
     ensures shown { AreShown instance.now (T.state progress.old) (T.state progress.new)
         (W.seen watch.old) (W.seen watch.new) }
@@ -136,7 +136,7 @@ pub fn improve_from<T: Progress, W: Watch>(
     profile: Profile,
     watch: &mut W,
 ) -> Result<Found, ImproveFault>
-    requires failures { (T.state progress.old).failures < 2 ^ 62 }
+    requires failures { CanFail (T.state progress.old) }
     requires solution { AreFeasible instance.now bits.items }
     ensures follows { (first : T) → T.follows first progress.old → T.follows first progress.new }
     ensures shown { AreShown instance.now (T.state progress.old) (T.state progress.new)
@@ -194,7 +194,7 @@ fn lower<T: Progress, W: Watch>(
     first: Solution,
     is_given: bool,
 ) -> Result<Found, ImproveFault>
-    requires failures { (T.state progress.old).failures < 2 ^ 62 }
+    requires failures { CanFail (T.state progress.old) }
     requires solution { IsSolution instance.now first.bits.items first.cost }
     requires hard { IsHardLog instance.now hard }
     ensures follows { (first : T) → T.follows first progress.old → T.follows first progress.new }
@@ -235,7 +235,7 @@ fn go_on<T: Progress, W: Watch>(
     work: Work,
     is_given: bool,
 ) -> Result<Found, ImproveFault>
-    requires failures { (T.state progress.old).failures < 2 ^ 62 }
+    requires failures { CanFail (T.state progress.old) }
     requires standing { IsStanding instance.now standing }
     requires work { IsEarlyWork instance.now work }
     requires none { HasNoCores work }
@@ -270,7 +270,7 @@ fn lower_by_bounds<T: Progress, W: Watch>(
     work: Work,
     is_given: bool,
 ) -> Result<Found, ImproveFault>
-    requires failures { (T.state progress.old).failures < 2 ^ 62 }
+    requires failures { CanFail (T.state progress.old) }
     requires standing { IsStanding instance.now standing }
     requires work { IsEarlyWork instance.now work }
     ensures follows { (first : T) → T.follows first progress.old → T.follows first progress.new }
@@ -329,7 +329,7 @@ fn tighten<T: Progress, W: Watch>(
     first: Solution,
     work: Work,
 ) -> Result<Found, ImproveFault>
-    requires failures { (T.state progress.old).failures < 2 ^ 62 }
+    requires failures { CanFail (T.state progress.old) }
     requires standing { IsStanding instance.now
         (record { best = first; earlier = bounds.old.costs }) }
     requires work { IsEarlyWork instance.now work }
@@ -370,7 +370,7 @@ pub fn tell<T: Progress, W: Watch>(
     watch: &mut W,
     solution: &Solution,
 ) -> Result<(), ProgressFault>
-    requires failures { (T.state progress.old).failures < 2 ^ 62 }
+    requires failures { CanFail (T.state progress.old) }
     requires solution { IsSolution instance.now solution.now.bits.items solution.now.cost }
     ensures ok { OnOk result
         (T.state progress.new ≡ with_told solution.now.cost (T.state progress.old)) }

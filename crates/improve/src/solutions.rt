@@ -1,5 +1,5 @@
 // Solutions with their cost.
-ghost use Rattle.std.specs.Prelude.{◌≡◌, ◌≤◌, length, take};
+ghost use Rattle.std.specs.Prelude.{◌≡◌, ◌≤◌, length};
 ghost use Rattle.cnf.specs.Literal.{Assignment};
 ghost use Rattle.cnf.specs.Bits.{Extends};
 ghost use Rattle.cnf.specs.Problem.{IsFeasible, cost_under};

@@ -2,15 +2,13 @@
 //! refutation by its cores is tried. For the optimum there is one stage, and its cores have to be
 //! worth what the best solution costs. Where lower bounds are wanted there are more, and any cores
 //! are tried. So a bound is there soon, and better ones come later.
-ghost use Rattle.std.specs.Prelude.{◌≡◌, ℕ, ◌+◌, ◌<◌, ◌^◌};
+ghost use Rattle.std.specs.Prelude.{◌≡◌, ◌+◌, ◌<◌};
 ghost use Rattle.std.specs.Prelude.{IfOk, IfErr, IfSome, OnOk};
-ghost use Rattle.cnf.specs.Literal.{Assignment};
-ghost use Rattle.cnf.specs.Problem.{IsFeasible};
 ghost use Rattle.lrat_log.specs.Steps.{learned_count};
 ghost use Rattle.improve_cores.specs.CoreWork.{IsSearchFor};
-ghost use Rattle.improve_cores.specs.Events.{AreRightCores};
 ghost use Rattle.improve.specs.Improving.{work_count};
-ghost use Rattle.improve.specs.Standing.{IsStanding, IsEarlyWork, HasNoCores, GoesOn, Fails};
+ghost use Rattle.improve.specs.Progress.{CanFail};
+ghost use Rattle.improve.specs.Standing.{IsStanding, IsEarlyWork, GoesOn, Fails};
 ghost use Rattle.improve.specs.Standing.{IsCoreProof, by_cores_count};
 ghost use Rattle.improve.specs.Watch.{AreShown};
 
@@ -83,7 +81,7 @@ pub(crate) fn run_stages<T: Progress, W: Watch>(
     search: &mut CoreSearch,
     plan: Plan,
 ) -> Result<Option<ByCores>, ImproveFault>
-    requires failures { (T.state progress.old).failures < 2 ^ 62 }
+    requires failures { CanFail (T.state progress.old) }
     requires standing { IsStanding instance.now standing.old }
     requires work { IsEarlyWork instance.now work.old }
     requires search { IsSearchFor instance.now search.old }
@@ -135,7 +133,7 @@ fn run_stage<T: Progress, W: Watch>(
     search: &mut CoreSearch,
     stage: &mut StageState,
 ) -> Result<Option<ByCores>, ImproveFault>
-    requires failures { (T.state progress.old).failures < 2 ^ 62 }
+    requires failures { CanFail (T.state progress.old) }
     requires standing { IsStanding instance.now standing.old }
     requires work { IsEarlyWork instance.now work.old }
     requires search { IsSearchFor instance.now search.old }

@@ -4,8 +4,7 @@
 //! nothing: a search over an instance that has a solution never adds the empty clause, whatever
 //! cores are found. No proof needs to know more of the search: clauses and assumptions are tested
 //! at run time, and one that does not fit is not used.
-ghost use Rattle.std.specs.Prelude.{◌≡◌, ℕ, [], ◌++◌, All, Contains, IfOk, IsTrue};
-ghost use Rattle.cnf.specs.Literal.{positive};
+ghost use Rattle.std.specs.Prelude.{◌≡◌, [], All, IfOk, IsTrue};
 ghost use Rattle.cnf.specs.Clause.{has_repeat};
 ghost use Rattle.cnf.specs.Problem.{IsFeasible};
 ghost use Rattle.lrat_log.specs.Steps.{learned_count};
@@ -202,7 +201,7 @@ impl CountingSolver {
 
     /// Gives back the memory of its search, after which nothing is found.
     pub(crate) fn retire(&mut self)
-        ensures { self.new ≡ self.old }
+        ensures unchanged { self.new ≡ self.old }
     {
         self.solver.retire();
     }

@@ -1,5 +1,6 @@
-//! The search for cores: sets of soft clauses of which one is falsified, found under assumptions
-//! over one solver. What they are worth together is a lower bound of each solution's cost.
+//! Core-guided search (OLL): cores, sets of soft clauses of which one is falsified, are found under
+//! assumptions over one solver. What they are worth together is a lower bound of each solution's
+//! cost.
 #![tactic(auto)]
 
 mod checked;

@@ -21,13 +21,14 @@
 //!
 //! What is promised of the search does not depend on its policy: see `counting_solver` and
 //! `counted`.
-ghost use Rattle.std.specs.Prelude.{◌≡◌, ◌≤◌, ◌^◌, IfOk, IfSome};
+ghost use Rattle.std.specs.Prelude.{◌≡◌, ◌≤◌, IfOk, IfSome};
+ghost use Rattle.bound.specs.declared.relaxed.TheConstants.{MOST_RESERVE};
 ghost use Rattle.cnf.specs.Literal.{Assignment};
 ghost use Rattle.cnf.specs.Problem.{IsFeasible};
 ghost use Rattle.lrat_log.specs.Steps.{learned_count};
 ghost use Rattle.improve_cores.specs.CoreWork.{IsSearchFor, KeepsFormula, KeepsClauses};
 ghost use Rattle.improve_cores.specs.CoreWork.{CountsLearned};
-ghost use Rattle.improve_cores.specs.Counting.{IsAnswerOf, GivesOnly};
+ghost use Rattle.improve_cores.specs.Counting.{GivesOnly};
 ghost use Rattle.improve_cores.specs.Events.{AreRightCores, IsEventOf, IsStepOf};
 ghost use Rattle.improve_cores.specs.Work.{IsSearchWork};
 
@@ -112,14 +113,14 @@ impl Model for CoreSearch {
 }
 
 impl CoreSearch {
-    /// A search for cores, with `reserve` variables to count with, up to 2^20. It may learn nothing
-    /// before `allow`.
+    /// A search for cores, with `reserve` variables to count with, up to `MOST_RESERVE`. It may
+    /// learn nothing before `allow`.
     ///
     /// # Errors
     ///
     /// `AllocError` where memory was refused.
     pub fn new(instance: &Instance, reserve: u32) -> Result<Self, AllocError>
-        requires { reserve ≤ 2 ^ 20 }
+        requires { reserve ≤ MOST_RESERVE }
         ensures search { IfOk result (IsSearchFor instance.now) }
         ensures none_learned { IfOk result (λ w. learned_count w.lines ≡ 0) }
     {
@@ -152,7 +153,7 @@ impl CoreSearch {
     /// From now on the search may be over before its share is spent, where the cores are not worth
     /// enough in time.
     pub fn may_give_up(&mut self, instance: &Instance)
-        ensures { self.new ≡ self.old }
+        ensures unchanged { self.new ≡ self.old }
     {
         self.policy.outlook = Outlook::watched(instance.soft().len());
     }
@@ -161,14 +162,14 @@ impl CoreSearch {
     /// about `patience` clauses without a core or a model for the next lower one: there more is
     /// assumed, so cores are found sooner, and are worth less.
     pub fn allow(&mut self, more: u64, patience: u64)
-        ensures { self.new ≡ self.old }
+        ensures unchanged { self.new ≡ self.old }
     {
         self.policy.allow(more, patience);
     }
 
     /// Gives back the memory that only a search needs: no further core is looked for.
     pub fn retire(&mut self)
-        ensures { self.new ≡ self.old }
+        ensures unchanged { self.new ≡ self.old }
     {
         self.policy.end();
         self.solver.retire();

@@ -1,8 +1,9 @@
-// A core is shortened: the search is repeated with the core as its assumptions while it shrinks.
-// Then each literal in turn is left out, and the others are assumed for a few conflicts (as in
-// deletion-based extraction of minimal cores). Without shortening the refutation took more
-// conflicts; with propagation alone, without conflicts, cores were longer. docs/EXPERIMENTS.md,
-// under 'The search for cores', says what decisions besides the assumptions (`DECISIONS`) gain.
+// A core is shortened: the search is repeated with the core as its assumptions while it shrinks
+// (core trimming, as in RC2). Then each literal in turn is left out, and the others are assumed for
+// a few conflicts (as in deletion-based extraction of minimal cores). Without shortening the
+// refutation took more conflicts; with propagation alone, without conflicts, cores were longer.
+// docs/EXPERIMENTS.md, under 'The search for cores', says what decisions besides the assumptions
+// (`DECISIONS`) gain.
 ghost use Rattle.std.specs.Prelude.{◌≡◌};
 ghost use Rattle.improve_cores.specs.CoreWork.{CountsLearned, KeepsClauses};
 

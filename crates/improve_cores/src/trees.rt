@@ -1,9 +1,9 @@
-// Totalizers that grow output by output (Bailleux and Boufkhad 2003; grown as in Martins, Joshi,
-// Manquinho and Lynce 2014): a node counts the inputs below it, and has as many outputs as were
-// asked for: a core rarely needs more than a few. New variables are taken from those that were
-// reserved. An output comes with the clauses by which the outputs of the halves imply it, and with
-// the one by which it implies the output before it. What it implies of the halves is left out,
-// since outputs are only assumed false.
+// Incremental totalizers, which grow output by output (Bailleux and Boufkhad 2003; grown as in
+// Martins, Joshi, Manquinho and Lynce 2014): a node counts the inputs below it, and has as many
+// outputs as were asked for: a core rarely needs more than a few. New variables are taken from
+// those that were reserved. An output comes with the clauses by which the outputs of the halves
+// imply it, and with the one by which it implies the output before it. What it implies of the
+// halves is left out, since outputs are only assumed false.
 use crate::checked::{at, narrow};
 use cnf::clause_list::ClauseList;
 use cnf::limits::VARIABLE_LIMIT;
@@ -27,7 +27,10 @@ struct Node {
 /// The places of two nodes.
 #[derive(Clone, Copy, Drop)]
 struct NodeHalves {
+    // The place of the node of the first half of the inputs, which has one fewer than the second
+    // where their number is odd.
     left: u32,
+    // The place of the node of the second half.
     right: u32,
 }
 

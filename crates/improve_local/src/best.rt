@@ -3,9 +3,10 @@
 use crate::checked::{at, set};
 use std::alloc::{AllocError, Global};
 
+/// The best bits so far, and the flips that lead from them to those of the search.
 #[derive(Drop)]
 pub(crate) struct Best {
-    // As many as variables.
+    // The best bits, one for each variable from 0 on.
     bits: Vec<bool>,
     // The variables that were flipped since, in their order, as many as there is room for. There
     // is room for as many as variables.
@@ -25,10 +26,12 @@ impl Best {
         })
     }
 
+    /// The best bits so far, one for each variable from 0 on.
     pub(crate) fn bits(&self) -> &[bool] {
         &self.bits
     }
 
+    /// The best bits, once the search is over.
     pub(crate) fn into_bits(self) -> Vec<bool> {
         self.bits
     }

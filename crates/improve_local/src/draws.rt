@@ -13,6 +13,7 @@ pub(crate) struct Draws {
 }
 
 impl Draws {
+    /// Each row begins in the same place, so that two runs draw the same numbers.
     pub(crate) fn new() -> Self {
         Draws { last: 12_345 }
     }

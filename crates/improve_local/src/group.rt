@@ -3,6 +3,7 @@
 use crate::checked::{at, narrow, set};
 use std::alloc::{AllocError, Global};
 
+/// Some of the numbers from 0 on that lie below a bound, each at most once.
 #[derive(Drop)]
 pub(crate) struct Group {
     // The numbers that are in it, each once; there is room for all.

@@ -5,7 +5,6 @@ ghost use Rattle.std.specs.Prelude.{◌≡◌, length, IfOk};
 ghost use Rattle.lrat_log.specs.Steps.{learned_count};
 ghost use Rattle.bound.specs.Bound.{core_cnf};
 ghost use Rattle.improve_cores.specs.CoreWork.{AreStepsOver, CountsLearned, KeepsClauses};
-ghost use Rattle.improve_cores.specs.Counting.{IsAnswerOf};
 ghost use Rattle.improve_cores.specs.Events.{AreRightCores};
 ghost use Rattle.improve_trials.specs.Refuting.{IsEndOf};
 

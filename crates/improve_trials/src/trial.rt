@@ -1,9 +1,7 @@
 // One search for a refutation by cores.
 ghost use Rattle.std.specs.Prelude.{◌≡◌, ◌+◌, ◌<◌, IfOk, IfSome};
 ghost use Rattle.lrat_log.specs.Steps.{learned_count};
-ghost use Rattle.improve_cores.specs.CoreWork.{CountsLearned};
 ghost use Rattle.improve_cores.specs.Events.{AreRightCores};
-ghost use Rattle.improve_trials.specs.Refuting.{IsEndOf};
 ghost use Rattle.improve_trials.specs.Trials.{IsTrial, trial_lines};
 
 use crate::refuting::{Effort, Refutation, Refuted};

@@ -7,7 +7,7 @@
 ghost use Rattle.std.specs.Prelude.{◌≡◌, ◌+◌, ◌*◌, ◌<◌, ◌≤◌, ◌^◌, ℕ, true, List, length, drop};
 ghost use Rattle.std.specs.Prelude.{All, IfOk};
 ghost use Rattle.cnf.specs.declared.limits.TheConstants.{NUMBER_LIMIT, VARIABLE_LIMIT};
-ghost use Rattle.cnf.specs.Literal.{Literal, index_of};
+ghost use Rattle.cnf.specs.Literal.{index_of};
 ghost use Rattle.cnf.specs.Clause.{contains_literal};
 ghost use Rattle.cnf.specs.Marks.{IsMarked, HasPlace};
 ghost use Rattle.lrat_log.specs.Log.{clauses_in};

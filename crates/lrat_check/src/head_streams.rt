@@ -1,5 +1,5 @@
 // The head of a certificate that a reader gives.
-ghost use Rattle.std.specs.Prelude.{◌≡◌, IfOk};
+ghost use Rattle.std.specs.Prelude.{IfOk};
 ghost use Rattle.lrat_check.specs.Heads.{HasReadHead, HasRoom, head_reading};
 
 use crate::heads::{CertificateHead, Taken};

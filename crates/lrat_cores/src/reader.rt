@@ -1,9 +1,9 @@
 //! Reads a line of the head of a certificate: a core line, `core W H x1 .. xm 0`, with the weight,
 //! the number of outputs, and the inputs of a core, or the first line that is none.
-ghost use Rattle.std.specs.Prelude.{◌≡◌, ℕ, List, ◌∷◌, ◌++◌, ◌<◌, ◌^◌, true, false, IfOk, IfSome};
-ghost use Rattle.std.specs.Prelude.{Some, None, MatchOption, [], OnOk};
+ghost use Rattle.std.specs.Prelude.{◌≡◌, ◌<◌, false, IfOk};
+ghost use Rattle.std.specs.Prelude.{Some, None, MatchOption, []};
 ghost use Rattle.text.specs.Text.{tokens_of};
-ghost use Rattle.lrat_cores.specs.Form.{is_core_word, plain, ended_numbers, core_of};
+ghost use Rattle.lrat_cores.specs.Form.{is_core_word, plain};
 ghost use Rattle.lrat_cores.specs.Reader.{IsHeadLine, AreInputs, IsCore, IsNotPlain, IsNextPlain};
 
 use cnf::limits::NUMBER_LIMIT;

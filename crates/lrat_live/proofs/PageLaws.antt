@@ -8,6 +8,7 @@ use Rattle.std.proofs.lemmas.List.{get_or-set_same, get_or-set_other, get_or-map
 use Rattle.std.proofs.lemmas.List.{length-map}
 use Rattle.cnf.specs.Numbers.{one_if}
 use Rattle.lrat_live.specs.Pages.{count_in}
+use Rattle.lrat_live.specs.declared.pages.TheConstants.{PAGE}
 
 -- numbers
 more_here : (h n s was one : ℕ) → h ≡ n → s ≡ was → n ≡ was + 1 → one ≡ 1 → h ≡ s + one
@@ -87,76 +88,76 @@ reached old new n long fewer kept fresh p =
     ]
 
 -- places of one page
-same_place : (p place : ℕ) → p / 4096 ≡ place / 4096
-    → one_if (p % 4096 == place % 4096) ≡ one_if (p == place)
+same_place : (p place : ℕ) → p / PAGE ≡ place / PAGE
+    → one_if (p % PAGE == place % PAGE) ≡ one_if (p == place)
 same_place p place e =
     elim (cases_eq p place) [
       | inl same ↦
-          ap one_if (eq-eqb (p % 4096) (place % 4096) (ap (λ k. k % 4096) same))
+          ap one_if (eq-eqb (p % PAGE) (place % PAGE) (ap (λ k. k % PAGE) same))
           ∙ sym (ap one_if (eq-eqb p place same))
       | inr other ↦
-          ap one_if (ne_eqb (p % 4096) (place % 4096) (λ m. other (omega (arith, e, m))))
+          ap one_if (ne_eqb (p % PAGE) (place % PAGE) (λ m. other (omega (arith, e, m))))
           ∙ sym (ap one_if (ne_eqb p place other))
     ]
 
 -- the page of a place is another one
 module _ {X : Type 0} (f : X → List ℕ) (pages : List X) (place : ℕ) (old new : X)
-    (within : place / 4096 < length pages) (was : old ≡ get_or pages (place / 4096) old) where
+    (within : place / PAGE < length pages) (was : old ≡ get_or pages (place / PAGE) old) where
   abbrev rows : List (List ℕ)
   rows = map f pages
 
   abbrev after : List (List ℕ)
-  after = map f (set pages (place / 4096) new)
+  after = map f (set pages (place / PAGE) new)
 
-  written : after ≡ set rows (place / 4096) (f new)
-  written = map-set f pages (place / 4096) new
+  written : after ≡ set rows (place / PAGE) (f new)
+  written = map-set f pages (place / PAGE) new
 
-  before : f old ≡ get_or rows (place / 4096) []
-  before = ap f was ∙ sym (get_or-map f pages (place / 4096) old [] within)
+  before : f old ≡ get_or rows (place / PAGE) []
+  before = ap f was ∙ sym (get_or-map f pages (place / PAGE) old [] within)
 
-  here : (p : ℕ) → p / 4096 ≡ place / 4096 → count_in after p ≡ slice_index (f new) (p % 4096)
+  here : (p : ℕ) → p / PAGE ≡ place / PAGE → count_in after p ≡ slice_index (f new) (p % PAGE)
   here p e =
-      let inside : place / 4096 < length rows = omega (arith, within, length-map pages f) in
+      let inside : place / PAGE < length rows = omega (arith, within, length-map pages f) in
       ap (λ xs. count_in xs p) written
-      ∙ ap (λ row. slice_index row (p % 4096))
-      (subst (λ i. get_or (set rows (place / 4096) (f new)) i [] ≡ f new) (sym e)
-      (get_or-set_same rows (place / 4096) (f new) [] inside))
+      ∙ ap (λ row. slice_index row (p % PAGE))
+      (subst (λ i. get_or (set rows (place / PAGE) (f new)) i [] ≡ f new) (sym e)
+      (get_or-set_same rows (place / PAGE) (f new) [] inside))
 
-  there : (p : ℕ) → (p / 4096 ≡ place / 4096 → ⊥) → count_in after p ≡ count_in rows p
+  there : (p : ℕ) → (p / PAGE ≡ place / PAGE → ⊥) → count_in after p ≡ count_in rows p
   there p other =
       ap (λ xs. count_in xs p) written
-      ∙ ap (λ row. slice_index row (p % 4096))
-      (get_or-set_other rows (place / 4096) (p / 4096) (f new) [] other)
+      ∙ ap (λ row. slice_index row (p % PAGE))
+      (get_or-set_other rows (place / PAGE) (p / PAGE) (f new) [] other)
 
-  was_here : (p : ℕ) → p / 4096 ≡ place / 4096
-      → slice_index (f old) (p % 4096) ≡ count_in rows p
-  was_here p e = ap (λ row. slice_index row (p % 4096)) before
-      ∙ ap (λ i. slice_index (get_or rows i []) (p % 4096)) (sym e)
+  was_here : (p : ℕ) → p / PAGE ≡ place / PAGE
+      → slice_index (f old) (p % PAGE) ≡ count_in rows p
+  was_here p e = ap (λ row. slice_index row (p % PAGE)) before
+      ∙ ap (λ i. slice_index (get_or rows i []) (p % PAGE)) (sym e)
 
   pub page_raised : ((q : ℕ) → slice_index (f new) q
-      ≡ slice_index (f old) q + one_if (q == place % 4096))
+      ≡ slice_index (f old) q + one_if (q == place % PAGE))
       → (p : ℕ) → count_in after p ≡ count_in rows p + one_if (p == place)
   page_raised step p =
-      elim (cases_eq (p / 4096) (place / 4096)) [
+      elim (cases_eq (p / PAGE) (place / PAGE)) [
         | inl e ↦
-            here p e ∙ step (p % 4096)
-            ∙ ap (λ n. slice_index (f old) (p % 4096) + n) (same_place p place e)
+            here p e ∙ step (p % PAGE)
+            ∙ ap (λ n. slice_index (f old) (p % PAGE) + n) (same_place p place e)
             ∙ ap (λ n. n + one_if (p == place)) (was_here p e)
         | inr other ↦
             more_there (count_in after p) (count_in rows p) (one_if (p == place)) (there p other)
-            (ap one_if (ne_eqb p place (λ e. other (ap (λ k. k / 4096) e))))
+            (ap one_if (ne_eqb p place (λ e. other (ap (λ k. k / PAGE) e))))
       ]
 
   pub page_lowered : ((q : ℕ) → slice_index (f new) q
-      ≡ slice_index (f old) q - one_if (q == place % 4096))
+      ≡ slice_index (f old) q - one_if (q == place % PAGE))
       → (p : ℕ) → count_in after p ≡ count_in rows p - one_if (p == place)
   page_lowered step p =
-      elim (cases_eq (p / 4096) (place / 4096)) [
+      elim (cases_eq (p / PAGE) (place / PAGE)) [
         | inl e ↦
-            here p e ∙ step (p % 4096)
-            ∙ ap (λ n. slice_index (f old) (p % 4096) - n) (same_place p place e)
+            here p e ∙ step (p % PAGE)
+            ∙ ap (λ n. slice_index (f old) (p % PAGE) - n) (same_place p place e)
             ∙ ap (λ n. n - one_if (p == place)) (was_here p e)
         | inr other ↦
             less_there (count_in after p) (count_in rows p) (one_if (p == place)) (there p other)
-            (ap one_if (ne_eqb p place (λ e. other (ap (λ k. k / 4096) e))))
+            (ap one_if (ne_eqb p place (λ e. other (ap (λ k. k / PAGE) e))))
       ]

@@ -13,6 +13,7 @@ use Rattle.lrat_live.specs.Listed.{listed_from}
 use Rattle.lrat_live.specs.Near.{is_live, nowhere, literals_at, spanned, spans_from, AreSpread}
 use Rattle.lrat_live.specs.Near.{AreWithin, padded, given_in, recent_in, IsNear}
 use Rattle.lrat_live.specs.declared.spans.LiveSpan.{LiveSpan}
+use Rattle.lrat_live.specs.declared.spans.TheConstants.{MOST_KEPT}
 use Rattle.lrat_live.proofs.SpanLaws.{spanned-append, spanned_live, spanned_none, spanned_cut}
 use Rattle.lrat_live.proofs.SpanLaws.{spanned_below, spread_within, spread_up, spread_le}
 use Rattle.lrat_live.proofs.SpanLaws.{spread_take, spread_none, spread-append, end_live}
@@ -21,7 +22,7 @@ use Rattle.lrat_live.proofs.StartLaws.{joined, spread_from, spanned_from, live_b
 -- a formula's clauses
 module _ (ls : List Literal) (ss : List LiveSpan) (cs : List (List Literal)) (given : ℕ)
     (lits : ls ≡ joined cs) (spans : ss ≡ nowhere ∷ spans_from 0 cs)
-    (few : length (joined cs) + 1 < 2 ^ 32) (count : given + 1 ≡ length ss) where
+    (few : length (joined cs) ≤ MOST_KEPT) (count : given + 1 ≡ length ss) where
   whole : take (given + 1) ss ≡ nowhere ∷ spans_from 0 cs
   whole = take_all (given + 1) ss (omega (arith, count)) ∙ spans
 
@@ -143,7 +144,7 @@ module _ (ls : List Literal) (ss : List LiveSpan) (given given_literals gap : �
 
   -- a clause behind the last span
   module _ (c : List Literal) (id : ℕ) (at : length ss + gap ≡ id)
-      (few : length ls + length c + 1 < 2 ^ 32) where
+      (few : length ls + length c ≤ MOST_KEPT) where
     abbrev x : LiveSpan
     x = record { start = length ls; length = length c }
 

@@ -1,5 +1,5 @@
 -- The spans of a formula's clauses: one more, where they lie, and which clauses they give.
-use Rattle.std.proofs.Common.{◌≡◌, ℕ, ◌+◌, ◌-◌, ◌<◌, ◌≤◌, ◌^◌, true, List}
+use Rattle.std.proofs.Common.{◌≡◌, ℕ, ◌+◌, ◌-◌, ◌≤◌, true, List}
 use Rattle.std.proofs.Common.{[], ◌∷◌, ◌++◌, length, take, drop, Some, refl, sym, ◌∙◌}
 use Rattle.std.proofs.Common.{ap, subst, arith}
 use Rattle.std.specs.Prelude.{slice_get}
@@ -13,6 +13,7 @@ use Rattle.cnf.specs.Literal.{Literal}
 use Rattle.lrat_live.specs.Listed.{listed_from}
 use Rattle.lrat_live.specs.Near.{is_live, literals_at, spanned, spans_from, AreSpread}
 use Rattle.lrat_live.specs.declared.spans.LiveSpan.{LiveSpan}
+use Rattle.lrat_live.specs.declared.spans.TheConstants.{DEAD, MOST_KEPT}
 use Rattle.lrat_live.proofs.SpanLaws.{spanned_live, end_live}
 
 -- the literals of all clauses
@@ -53,11 +54,11 @@ pub spans_more : (start : ℕ) (cs : List (List Literal)) (p : ℕ) (c : List Li
 spans_more start cs p c e =
     ap (spans_from start) (one_more cs p c e) ∙ spans_push start (take p cs) c
 
-pub live_below : (n m : ℕ) → n < 4294967295 → is_live (record { start = n; length = m }) ≡ true
-live_below n m h = rw (ne_eqb n 4294967295 (λ e. absurd (omega arith))) refl
+pub live_below : (n m : ℕ) → n ≤ MOST_KEPT → is_live (record { start = n; length = m }) ≡ true
+live_below n m h = rw (ne_eqb n DEAD (λ e. absurd (omega arith))) refl
 
 pub spread_from : (start : ℕ) (cs : List (List Literal)) (to : ℕ)
-    → start + length (joined cs) ≤ to → to + 1 < 2 ^ 32 → AreSpread start (spans_from start cs) to
+    → start + length (joined cs) ≤ to → to ≤ MOST_KEPT → AreSpread start (spans_from start cs) to
 spread_from start [] to h few = omega arith
 spread_from start (c ∷ cs) to h few =
     let all : (start + length c) + length (joined cs) ≤ to =
@@ -71,7 +72,7 @@ spread_from start (c ∷ cs) to h few =
     )
 
 pub spanned_from : (ls : List Literal) (n start : ℕ) (cs : List (List Literal))
-    → drop start ls ≡ joined cs → start + length (joined cs) + 1 < 2 ^ 32
+    → drop start ls ≡ joined cs → start + length (joined cs) ≤ MOST_KEPT
     → spanned ls n (spans_from start cs) ≡ listed_from n cs
 spanned_from ls n start [] e few = refl
 spanned_from ls n start (c ∷ cs) e few =

@@ -1,5 +1,5 @@
 -- A table after a clause was added, and after dead entries were taken out.
-use Rattle.std.proofs.Common.{◌≡◌, ℕ, ◌+◌, ◌<◌, ◌≤◌, ◌^◌, true, List, [], ◌∷◌, ◌++◌, length, get_or}
+use Rattle.std.proofs.Common.{◌≡◌, ℕ, ◌+◌, ◌<◌, ◌≤◌, true, List, [], ◌∷◌, ◌++◌, length, get_or}
 use Rattle.std.proofs.Common.{set, sym, ◌∙◌, ap, subst, arith}
 use Rattle.std.specs.Prelude.{All, slice_index}
 use Rattle.std.proofs.lemmas.List.{get_or-map, length-map, length-set, length-append, length_push}
@@ -11,6 +11,7 @@ use Rattle.lrat_live.specs.Chains.{bucket_of, IsChained}
 use Rattle.lrat_live.specs.Table.{Cell, cell_of, cells_of, keys_of, nexts_of, clauses_in, AllLive}
 use Rattle.lrat_live.specs.Table.{IsLaid, IsAboveLast, IsTable}
 use Rattle.lrat_live.specs.declared.entries.AddedEntry.{AddedEntry}
+use Rattle.lrat_live.specs.declared.spans.TheConstants.{MOST_KEPT}
 use Rattle.lrat_live.proofs.Chains.{chained_push}
 use Rattle.lrat_live.proofs.Table.{length-keys}
 use Rattle.lrat_live.proofs.Clauses.{laid_push, laid_within, rises_push, clauses_push}
@@ -47,8 +48,8 @@ module _ (ls more : List Literal) (es grown : List AddedEntry) (before hs : List
       (chained : IsChained (length hs) hs (keys_of (cells_of grown)) (nexts_of grown))
       (room : length grown < length hs) (is : bucket ≡ bucket_of (length hs) e.id)
       (small : bucket < length hs) (next : e.next ≡ slice_index hs bucket)
-      (at : place ≡ length grown + 1) (few_literals : length ls + length more + 1 < 2 ^ 32)
-      (few_entries : length grown + 2 < 2 ^ 32) where
+      (at : place ≡ length grown + 1) (few_literals : length ls + length more ≤ MOST_KEPT)
+      (few_entries : length grown + 1 ≤ MOST_KEPT) where
     links : List ℕ
     links = nexts_of (grown ++ e ∷ [])
 

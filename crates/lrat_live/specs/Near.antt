@@ -4,7 +4,7 @@ use Rattle.std.specs.Prelude.{length, take, drop, get_or, replicate, slice_range
 use Rattle.std.specs.Prelude.{if◌then◌else◌}
 use Rattle.cnf.specs.Literal.{Literal}
 use Rattle.lrat_live.specs.declared.spans.LiveSpan.{LiveSpan}
-use Rattle.lrat_live.specs.declared.spans.TheConstants.{DEAD}
+use Rattle.lrat_live.specs.declared.spans.TheConstants.{DEAD, MOST_KEPT}
 
 abbrev pub is_live : LiveSpan → Bool
 is_live s = not (s.start == DEAD)
@@ -81,4 +81,4 @@ pub record IsNear (literals : List Literal) (spans : List LiveSpan) (given given
   pub last_id : gap + length spans ≤ 2 ^ 64
   pub formula : AreSpread 0 (take (given + 1) spans) given_literals
   pub recent : AreSpread given_literals (drop (given + 1) spans) (length literals)
-  pub few : length literals + 1 < 2 ^ 32
+  pub few : length literals ≤ MOST_KEPT

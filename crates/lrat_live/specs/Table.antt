@@ -1,11 +1,12 @@
 -- Clauses in one flat list of literals, each with an entry that says where its literals lie.
-use Rattle.std.specs.Prelude.{◌≡◌, ℕ, ◌+◌, ◌<◌, ◌≤◌, ◌^◌, Bool, true, List, [], ◌∷◌, map, length}
+use Rattle.std.specs.Prelude.{◌≡◌, ℕ, ◌+◌, ◌<◌, ◌≤◌, Bool, true, List, [], ◌∷◌, map, length}
 use Rattle.std.specs.Prelude.{slice_index, slice_range, take, if◌then◌else◌}
 use Rattle.std.specs.List.{AllByRecursion}
 use Rattle.cnf.specs.Numbers.{RisesFrom}
 use Rattle.cnf.specs.Literal.{Literal}
 use Rattle.lrat_live.specs.Chains.{IsChained}
 use Rattle.lrat_live.specs.declared.entries.AddedEntry.{AddedEntry}
+use Rattle.lrat_live.specs.declared.spans.TheConstants.{MOST_KEPT}
 
 -- an entry without its link
 pub record Cell : Type 0 where
@@ -59,7 +60,7 @@ pub record IsTable (literals : List Literal) (entries : List AddedEntry)
     (heads : List ℕ) : Type 0 where
   pub laid : IsLaid 0 (cells_of entries) (length literals)
   pub rising : RisesFrom 0 (keys_of (cells_of entries))
-  pub few_literals : length literals + 1 < 2 ^ 32
-  pub few_entries : length entries + 1 < 2 ^ 32
+  pub few_literals : length literals ≤ MOST_KEPT
+  pub few_entries : length entries ≤ MOST_KEPT
   pub room : length entries ≤ length heads
   pub chained : IsChained (length heads) heads (keys_of (cells_of entries)) (nexts_of entries)

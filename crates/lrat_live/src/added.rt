@@ -1,6 +1,6 @@
 // The added clauses that are recent no longer, in flat memory: it grows with what is live, and not
 // with the length of the certificate.
-ghost use Rattle.std.specs.Prelude.{◌≡◌, ℕ, List, ◌<◌, ◌≤◌, ◌^◌, ◌↔◌, ◌∷◌, [], ◌++◌, ◌/◌, length};
+ghost use Rattle.std.specs.Prelude.{◌≡◌, ℕ, List, ◌<◌, ◌≤◌, ◌↔◌, ◌∷◌, [], ◌++◌, ◌/◌, length};
 ghost use Rattle.std.specs.Prelude.{All, IsTrue};
 ghost use Rattle.std.specs.Prelude.{IsSome, OnOk, OnErr};
 ghost use Rattle.std.specs.Option.{option_copied};
@@ -8,6 +8,7 @@ ghost use Rattle.cnf.specs.Literal.{Literal};
 ghost use Rattle.lrat_live.specs.Counts.{AreCounts};
 ghost use Rattle.lrat_live.specs.Listed.{listed_at, without_id};
 ghost use Rattle.lrat_live.specs.Pages.{count_in};
+ghost use Rattle.lrat_live.specs.declared.spans.TheConstants.{MOST_KEPT};
 
 use crate::append::append;
 use crate::counts::count_entries;
@@ -21,7 +22,7 @@ use std::marker::Model;
 /// An entry takes as much memory as six literals.
 const ENTRY: usize = 6;
 
-/// So much dead memory, in literals, is left where it is.
+/// So much garbage, in literals, is left where it is.
 const LITTLE: usize = 4096;
 
 /// The live ones of the added clauses that are recent no longer, with their ids.
@@ -33,7 +34,7 @@ pub(crate) struct Added {
     entries: Vec<AddedEntry>,
     /// For each bucket the place of its newest entry, from 1, or 0.
     heads: Vec<u32>,
-    /// What reclaiming would free, in literals.
+    /// The garbage: what reclaiming would free, in literals.
     dead: usize,
 }
 
@@ -64,8 +65,8 @@ impl Added {
     }
 
     /// Adds a clause under an id above all others. An AllocError comes where memory was refused, or
-    /// where there would be more than 2^32 - 2 clauses or literals, dead ones too; the clauses then
-    /// stay as they are.
+    /// where there would be more than `MOST_KEPT` clauses or literals, dead ones too; the clauses
+    /// then stay as they are.
     pub(crate) fn add(&mut self, id: u64, lits: &[Lit]) -> Result<(), AllocError>
         requires rising { All (λ e. e.0 < id) self.old }
         ensures ok { OnOk result (self.new ≡ self.old ++ (id, lits.now) ∷ []) }
@@ -83,7 +84,7 @@ impl Added {
     /// How many clauses take room, dead ones too.
     pub(crate) fn entries(&self) -> usize
         ensures all { length self.now ≤ result }
-        ensures few { result < 2 ^ 32 }
+        ensures few { result ≤ MOST_KEPT }
     {
         self.entries.len()
     }

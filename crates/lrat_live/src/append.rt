@@ -4,7 +4,7 @@ ghost use Rattle.lrat_live.specs.Table.{cells_of, keys_of, clauses_in, IsTable, 
 ghost use Rattle.lrat_live.specs.Table.{IsAboveLast};
 
 use crate::entries::{AddedEntry, bucket, grow};
-use crate::spans::MOST;
+use crate::spans::MOST_KEPT;
 use cnf::types::Lit;
 use std::alloc::AllocError;
 
@@ -27,7 +27,7 @@ pub(crate) fn append(
     ensures err_entries { OnErr result (cells_of entries.new.items ≡ cells_of entries.old.items) }
 {
     let start = lits.len();
-    if entries.len() >= MOST || clause.len() > MOST - start {
+    if entries.len() >= MOST_KEPT || clause.len() > MOST_KEPT - start {
         return Err(AllocError);
     }
     grow(heads, entries)?;

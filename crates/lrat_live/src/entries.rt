@@ -5,11 +5,12 @@
 // deletions leave gaps among the older ids. So it is found there for two of three hints on added
 // clauses of a certificate of pigeons (from the first id for one of 160), and for each where
 // nothing was deleted.
-ghost use Rattle.std.specs.Prelude.{◌≡◌, ℕ, ◌+◌, ◌-◌, ◌<◌, ◌≤◌, ◌^◌, length, MatchOption, OnOk};
+ghost use Rattle.std.specs.Prelude.{◌≡◌, ◌+◌, ◌-◌, ◌<◌, ◌≤◌, length, MatchOption, OnOk};
 ghost use Rattle.std.specs.Prelude.{IsTrue, ◌↔◌, IfSome};
 ghost use Rattle.cnf.specs.Numbers.{RisesFrom};
 ghost use Rattle.lrat_live.specs.Chains.{folded, bucket_of, place_of, IsChained};
 ghost use Rattle.lrat_live.specs.Table.{cells_of, keys_of, nexts_of, IsAboveLast};
+ghost use Rattle.lrat_live.specs.declared.spans.TheConstants.{MOST_KEPT};
 
 use std::alloc::AllocError;
 
@@ -106,7 +107,7 @@ pub(crate) fn is_above(entries: &[AddedEntry], id: u64) -> bool
 /// Links all entries anew.
 pub(crate) fn link(heads: &mut [u32], entries: &mut [AddedEntry])
     requires room { length entries.old ≤ length heads.old }
-    requires few { length entries.old < 2 ^ 32 }
+    requires few { length entries.old ≤ MOST_KEPT }
     ensures chained { IsChained (length heads.new) heads.new (keys_of (cells_of entries.new))
         (nexts_of entries.new) }
     ensures cells { cells_of entries.new ≡ cells_of entries.old }
@@ -127,7 +128,7 @@ const BUCKETS: usize = 16;
 /// When it is refused nothing changes.
 pub(crate) fn grow(heads: &mut Vec<u32>, entries: &mut [AddedEntry]) -> Result<(), AllocError>
     requires room { length entries.old ≤ length heads.old.items }
-    requires few { length entries.old < 2 ^ 32 }
+    requires few { length entries.old ≤ MOST_KEPT }
     requires chained { IsChained (length heads.old.items) heads.old.items
         (keys_of (cells_of entries.old))
         (nexts_of entries.old) }

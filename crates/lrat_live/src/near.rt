@@ -19,7 +19,7 @@ ghost use Rattle.lrat_live.specs.Pages.{count_in};
 
 use crate::added::{Added, is_mostly_dead};
 use crate::pages::Counts;
-use crate::spans::{DEAD, LiveSpan, MOST, count_live, is_live, literals_at, spans_of};
+use crate::spans::{DEAD, LiveSpan, MOST_KEPT, count_live, is_live, literals_at, spans_of};
 use crate::window::{extend, move_on, place_for, squeeze};
 use cnf::types::{Formula, Lit};
 use std::alloc::AllocError;
@@ -28,7 +28,7 @@ use std::marker::Model;
 /// The clauses whose ids lead straight to their places.
 #[derive(Drop)]
 pub(crate) struct Near {
-    /// The formula's literals, then those of the recent clauses in rising id; at most `MOST`.
+    /// The formula's literals, then those of the recent clauses in rising id; at most `MOST_KEPT`.
     lits: Vec<Lit>,
     /// At place 0 that of no clause; then those of the formula's ids, from 1; then those of the
     /// recent ids, each of them one more than the one before.
@@ -87,7 +87,7 @@ fn place_of(spans: &[LiveSpan], given: u64, gap: u64, id: u64) -> Option<usize>
 
 impl Near {
     /// The formula's clauses; its literals stay where they are. An AllocError comes where memory
-    /// was refused, or where there are more than `MOST` literals.
+    /// was refused, or where there are more than `MOST_KEPT` literals.
     pub(crate) fn new(formula: Formula) -> Result<Self, AllocError>
         ensures given { IfOk result (λ near. near.given ≡ listed_from 1 formula.clauses) }
         ensures recent { IfOk result (λ near. near.recent ≡ []) }
@@ -141,8 +141,8 @@ impl Near {
     }
 
     /// Adds a clause under an id above those of all recent ones; false where the window does not
-    /// reach the id, or where there would be more than `MOST` literals. The clauses then stay as
-    /// they are, as they do where memory is refused.
+    /// reach the id, or where there would be more than `MOST_KEPT` literals. The clauses then stay
+    /// as they are, as they do where memory is refused.
     pub(crate) fn push(&mut self, id: u64, lits: &[Lit]) -> Result<bool, AllocError>
         requires rising { All (λ e. e.0 < id) self.old.recent }
         ensures given { self.new.given ≡ self.old.given }
@@ -152,7 +152,7 @@ impl Near {
     {
         let head = self.given as usize + 1;
         let first = self.given + 1 + self.gap;
-        if lits.len() > MOST - self.lits.len() {
+        if lits.len() > MOST_KEPT - self.lits.len() {
             return Ok(false);
         }
         let Some(place) = place_for(self.spans.len(), head, first, self.live, id) else {

@@ -1,10 +1,11 @@
 // A count for each literal's index, in pages. A line may name a literal of the greatest variable,
 // and one table up to that took a second and a gigabyte to fill; so a page has places only once one
 // of its literals is counted, and up to that one.
-ghost use Rattle.std.specs.Prelude.{◌≡◌, ℕ, ◌+◌, ◌-◌, ◌<◌, ◌^◌, ◌==◌, length, map, OnOk};
+ghost use Rattle.std.specs.Prelude.{◌≡◌, ℕ, ◌+◌, ◌-◌, ◌<◌, ◌==◌, length, map, OnOk};
 ghost use Rattle.std.specs.Prelude.{slice_index};
 ghost use Rattle.cnf.specs.Numbers.{one_if};
 ghost use Rattle.lrat_live.specs.Pages.{count_in};
+ghost use Rattle.lrat_live.specs.declared.pages.TheConstants.{PAGE};
 
 use std::alloc::{AllocError, Global};
 use std::marker::Model;
@@ -37,7 +38,7 @@ fn count_at(page: &[u32], place: usize) -> u32
 
 /// Lets the page reach a place.
 fn reach(page: &mut Vec<u32>, place: usize) -> Result<(), AllocError>
-    requires { place < 2 ^ 28 }
+    requires { place < PAGE }
     ensures counts { OnOk result
         ((p : ℕ) → slice_index page.new.items p ≡ slice_index page.old.items p) }
     ensures within { OnOk result (place < length page.new.items) }
@@ -52,7 +53,7 @@ fn reach(page: &mut Vec<u32>, place: usize) -> Result<(), AllocError>
 /// One more at a place of a page. An AllocError comes where memory was refused, or where the count
 /// would be 2^32.
 fn raise_one(page: &mut Vec<u32>, place: usize) -> Result<(), AllocError>
-    requires { place < 2 ^ 28 }
+    requires { place < PAGE }
     ensures { OnOk result ((p : ℕ)
         → slice_index page.new.items p ≡ slice_index page.old.items p + one_if (p == place)) }
 {

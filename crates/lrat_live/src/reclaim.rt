@@ -1,7 +1,9 @@
-// Memory of dead entries is taken back: entries and literals move down together, in place.
-ghost use Rattle.std.specs.Prelude.{◌≡◌, ◌+◌, ◌<◌, ◌≤◌, ◌^◌, drop, length};
+// Garbage collection: memory of dead entries is taken back, as entries and literals move down
+// together, in place.
+ghost use Rattle.std.specs.Prelude.{◌≡◌, ◌+◌, ◌≤◌, drop, length};
 ghost use lib.Seq.{paste};
 ghost use Rattle.lrat_live.specs.Table.{cells_of, clauses_in, IsLaid, IsTable, AllLive};
+ghost use Rattle.lrat_live.specs.declared.spans.TheConstants.{MOST_KEPT};
 
 use crate::entries::{AddedEntry, link};
 use cnf::types::Lit;
@@ -9,7 +11,7 @@ use cnf::types::Lit;
 /// Drops the dead entries and their literals.
 pub(crate) fn compact(entries: &mut Vec<AddedEntry>, lits: &mut Vec<Lit>)
     requires laid { IsLaid 0 (cells_of entries.old.items) (length lits.old.items) }
-    requires few { length lits.old.items < 2 ^ 32 }
+    requires few { length lits.old.items ≤ MOST_KEPT }
     ensures laid { IsLaid 0 (cells_of entries.new.items) (length lits.new.items) }
     ensures live { AllLive (cells_of entries.new.items) }
     ensures clauses { clauses_in lits.new.items (cells_of entries.new.items)

@@ -1,5 +1,5 @@
 // Where the literals of clauses lie that are found by their ids alone: a span for each id.
-ghost use Rattle.std.specs.Prelude.{◌≡◌, ℕ, List, ◌∷◌, ◌+◌, ◌<◌, ◌≤◌, ◌^◌, ◌++◌, length};
+ghost use Rattle.std.specs.Prelude.{◌≡◌, ℕ, List, ◌∷◌, ◌+◌, ◌≤◌, ◌++◌, length};
 ghost use Rattle.std.specs.Prelude.{IfOk, OnOk};
 ghost use Rattle.std.specs.List.{flat_map};
 ghost use Rattle.cnf.specs.Literal.{Literal};
@@ -7,6 +7,7 @@ ghost use Rattle.lrat_live.specs.Counts.{AreCounts};
 ghost use Rattle.lrat_live.specs.Near.{is_live, nowhere, literals_at, spanned, spans_from};
 ghost use Rattle.lrat_live.specs.Near.{AreWithin};
 ghost use Rattle.lrat_live.specs.Pages.{count_in};
+ghost use Rattle.lrat_live.specs.declared.spans.TheConstants.{MOST_KEPT};
 
 use crate::counts::raise;
 use crate::pages::Counts;
@@ -17,7 +18,7 @@ use std::alloc::AllocError;
 /// Where a clause's literals lie.
 #[derive(Clone, Copy, Drop)]
 pub(crate) struct LiveSpan {
-    /// The place of its first literal, at most `MOST`, or `DEAD` where no clause is live.
+    /// The place of its first literal, at most `MOST_KEPT`, or `DEAD` where no clause is live.
     pub(crate) start: u32,
     /// How many literals it has.
     pub(crate) length: u32,
@@ -27,7 +28,7 @@ pub(crate) struct LiveSpan {
 pub(crate) const DEAD: u32 = 4_294_967_295;
 
 /// There are at most so many literals, and entries, so that each place is below `DEAD`.
-pub(crate) const MOST: usize = 4_294_967_294;
+pub(crate) const MOST_KEPT: usize = 4_294_967_294;
 
 /// The span of no clause.
 pub(crate) fn nowhere() -> LiveSpan
@@ -58,10 +59,10 @@ pub(crate) fn literals_at(lits: &[Lit], span: LiveSpan) -> &[Lit]
 }
 
 /// The spans of a formula's clauses by their ids, from 1; no clause has the id 0. An AllocError
-/// comes where memory was refused, or where there are more than `MOST` literals.
+/// comes where memory was refused, or where there are more than `MOST_KEPT` literals.
 pub(crate) fn spans_of(clauses: &ClauseList) -> Result<Vec<LiveSpan>, AllocError>
     ensures spans { IfOk result (λ spans. spans.items ≡ nowhere ∷ spans_from 0 clauses.now) }
-    ensures few { OnOk result (length (flat_map (λ c. c) clauses.now) + 1 < 2 ^ 32) }
+    ensures few { OnOk result (length (flat_map (λ c. c) clauses.now) ≤ MOST_KEPT) }
 {
     let mut spans = Vec::new(clauses.allocator());
     spans.reserve(clauses.len().saturating_add(1))?;
@@ -69,7 +70,7 @@ pub(crate) fn spans_of(clauses: &ClauseList) -> Result<Vec<LiveSpan>, AllocError
     let mut start = 0;
     for place in 0..clauses.len() {
         let length = clauses.get(place).len();
-        if length > MOST - start {
+        if length > MOST_KEPT - start {
             return Err(AllocError);
         }
         spans.push(LiveSpan {

@@ -3,6 +3,7 @@ ghost use Rattle.std.specs.Prelude.{◌≡◌, ℕ, ◌+◌, ◌≤◌, ◌<◌,
 ghost use Rattle.std.specs.Prelude.{OnOk, OnErr, IfSome, ◌⊎◌};
 ghost use Rattle.lrat_live.specs.Listed.{IsRising};
 ghost use Rattle.lrat_live.specs.Near.{spanned, padded, nowhere, AreWithin, AreSpread};
+ghost use Rattle.lrat_live.specs.declared.spans.TheConstants.{MOST_KEPT};
 
 use crate::added::Added;
 use crate::reclaim::move_down;
@@ -50,7 +51,7 @@ pub(crate) fn extend(
     place: usize,
     clause: &[Lit],
 ) -> Result<(), AllocError>
-    requires few { length lits.old.items + length clause.now + 1 < 2 ^ 32 }
+    requires few { length lits.old.items + length clause.now ≤ MOST_KEPT }
     ensures lits { OnOk result (lits.new.items ≡ lits.old.items ++ clause.now) }
     ensures lits_stay { OnErr result (lits.new.items ≡ lits.old.items) }
     ensures ok { OnOk result (spans.new.items ≡ padded place spans.old.items
@@ -99,7 +100,7 @@ pub(crate) fn move_on(
 /// Moves the literals of live clauses down over dead ones, as far as a place.
 pub(crate) fn squeeze(lits: &mut Vec<Lit>, spans: &mut [LiveSpan], from: usize)
     requires spread { AreSpread from spans.old (length lits.old.items) }
-    requires few { length lits.old.items + 1 < 2 ^ 32 }
+    requires few { length lits.old.items ≤ MOST_KEPT }
     ensures spread { AreSpread from spans.new (length lits.new.items) }
     ensures below { take from lits.new.items ≡ take from lits.old.items }
     ensures fewer { length lits.new.items ≤ length lits.old.items }

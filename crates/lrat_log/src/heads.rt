@@ -7,8 +7,9 @@
 // matter: from the first line on that does not fit each takes three words, with places up to 2^46.
 // To build and write a log of long lines takes 0.2 % more instructions than with three words for
 // each.
-ghost use Rattle.std.specs.Prelude.{◌≡◌, ◌*◌, ◌<◌, ◌≤◌, ◌^◌, [], ◌∷◌, ◌++◌, length, slice_get};
+ghost use Rattle.std.specs.Prelude.{◌≡◌, ◌*◌, ◌<◌, ◌≤◌, [], ◌∷◌, ◌++◌, length, slice_get};
 ghost use Rattle.std.specs.Prelude.{IfOk, IfSome, OnOk, OnErr, Some, if◌then◌else◌};
+ghost use Rattle.lrat_log.specs.declared.heads.TheConstants.{BLOCK, LITS_LIMIT, HINTS_LIMIT};
 ghost use Rattle.lrat_log.specs.Heads.{kind_at, number_of, near_head, near_heads, far_head};
 
 use crate::lines::Kind;
@@ -69,6 +70,7 @@ pub struct HeadList {
 
 impl Model for HeadList {
     ghost use Rattle.std.specs.Prelude.{List, ◌++◌, ◌≤◌, ◌*◌, length, map};
+    ghost use Rattle.lrat_log.specs.declared.heads.TheConstants.{BLOCK};
     ghost use Rattle.lrat_log.specs.declared.heads.LineHead.{LineHead};
     ghost use Rattle.lrat_log.specs.Heads.{near_heads, far_head};
 
@@ -76,7 +78,7 @@ impl Model for HeadList {
 
     ghost view = { λ h. near_heads 0 h.bases.items h.near.items ++ map far_head h.far.items };
 
-    ghost invariant = { λ h. length h.near.items ≤ 32 * length h.bases.items };
+    ghost invariant = { λ h. length h.near.items ≤ BLOCK * length h.bases.items };
 }
 
 impl HeadList {
@@ -119,7 +121,7 @@ impl HeadList {
     /// bytes, which no memory holds. The heads are then as they were.
     pub fn push(&mut self, head: LineHead) -> Result<(), AllocError>
         ensures ok { OnOk result (self.new ≡ self.old ++ head ∷ []) }
-        ensures few { OnOk result (head.hints_end < 2 ^ 46) }
+        ensures few { OnOk result (head.hints_end < HINTS_LIMIT) }
         ensures err { OnErr result (self.new ≡ self.old) }
     {
         let far = FarHead::new(head)?;
@@ -134,21 +136,22 @@ impl HeadList {
 /// The places where the first line of a block ends.
 #[derive(Clone, Copy, Drop)]
 struct BlockEnds {
-    // The place behind its last literal, below 2^47.
+    // The place behind its last literal, below `LITS_LIMIT`.
     lits: u64,
-    // The place behind its last hint, below 2^46.
+    // The place behind its last hint, below `HINTS_LIMIT`.
     hints: u64,
 }
 
 impl Model for BlockEnds {
-    ghost use Rattle.std.specs.Prelude.{◌<◌, ◌^◌};
+    ghost use Rattle.std.specs.Prelude.{◌<◌};
+    ghost use Rattle.lrat_log.specs.declared.heads.TheConstants.{LITS_LIMIT, HINTS_LIMIT};
     ghost use Rattle.lrat_log.specs.Heads.{Ends};
 
     ghost Value = { Ends };
 
     ghost view = { λ b. record { lits = b.lits; hints = b.hints } };
 
-    ghost invariant = { λ b. (b.lits < 2 ^ 47) × (b.hints < 2 ^ 46) };
+    ghost invariant = { λ b. (b.lits < LITS_LIMIT) × (b.hints < HINTS_LIMIT) };
 
     ghost inverse = { λ e. record { lits = e.lits; hints = e.hints } };
 }
@@ -177,8 +180,8 @@ impl FarHead {
         ensures kind { IfOk result (λ far. (far_head far).kind ≡ head.kind) }
         ensures lits { IfOk result (λ far. (far_head far).lits_end ≡ head.lits_end) }
         ensures hints { IfOk result (λ far. (far_head far).hints_end ≡ head.hints_end) }
-        ensures few_lits { OnOk result (head.lits_end < 2 ^ 47) }
-        ensures few_hints { OnOk result (head.hints_end < 2 ^ 46) }
+        ensures few_lits { OnOk result (head.lits_end < LITS_LIMIT) }
+        ensures few_hints { OnOk result (head.hints_end < HINTS_LIMIT) }
     {
         let (lits, hints) = (head.lits_end, head.hints_end);
         if lits >= LITS_LIMIT || hints >= HINTS_LIMIT {
@@ -212,15 +215,15 @@ fn push_near(
     near: &mut Vec<u32>,
     head: LineHead,
 ) -> Result<bool, AllocError>
-    requires based { length near.old.items ≤ 32 * length bases.old.items }
-    requires few_lits { head.lits_end < 2 ^ 47 }
-    requires few_hints { head.hints_end < 2 ^ 46 }
+    requires based { length near.old.items ≤ BLOCK * length bases.old.items }
+    requires few_lits { head.lits_end < LITS_LIMIT }
+    requires few_hints { head.hints_end < HINTS_LIMIT }
     ensures ok { IfOk result (λ fits. near_heads 0 bases.new.items near.new.items
         ≡ (if fits then near_heads 0 bases.old.items near.old.items ++ head ∷ []
         else near_heads 0 bases.old.items near.old.items)) }
     ensures err { OnErr result (near_heads 0 bases.new.items near.new.items
         ≡ near_heads 0 bases.old.items near.old.items) }
-    ensures based { length near.new.items ≤ 32 * length bases.new.items }
+    ensures based { length near.new.items ≤ BLOCK * length bases.new.items }
 {
     let block = near.len() / BLOCK;
     if block == bases.len() {

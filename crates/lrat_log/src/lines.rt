@@ -2,7 +2,7 @@
 // since that depends on the formula that is given to the checker. So its lines speak of clauses by
 // name: a clause of the formula by its number there, and a clause that the log added by its number
 // among the additions.
-ghost use Rattle.std.specs.Prelude.{◌≡◌, ℕ, ◌<◌, ◌≤◌, ◌^◌};
+ghost use Rattle.std.specs.Prelude.{◌≡◌, ℕ, ◌<◌};
 ghost use Rattle.cnf.specs.declared.limits.TheConstants.{NUMBER_LIMIT};
 
 use std::marker::Model;
@@ -15,7 +15,7 @@ pub struct Number {
 }
 
 impl Model for Number {
-    ghost use Rattle.std.specs.Prelude.{ℕ, ◌<◌, ◌^◌};
+    ghost use Rattle.std.specs.Prelude.{ℕ, ◌<◌};
     ghost use Rattle.cnf.specs.declared.limits.TheConstants.{NUMBER_LIMIT};
 
     ghost Value = { ℕ };

@@ -6,8 +6,8 @@
 // knows how they
 // are packed.
 // What is left is mostly literals, whose slices are lent as they lie.
-ghost use Rattle.std.specs.Prelude.{◌≡◌, ℕ, ◌+◌, ◌<◌, ◌≤◌, ◌^◌, ◌++◌, List, [], Some, length, All};
-ghost use Rattle.std.specs.Prelude.{IfOk, OnOk, OnErr, slice_get, slice_range, ◌==◌};
+ghost use Rattle.std.specs.Prelude.{◌≡◌, ◌+◌, ◌<◌, ◌≤◌, List, [], Some, length, All};
+ghost use Rattle.std.specs.Prelude.{IfOk, slice_get, slice_range, ◌==◌};
 ghost use Rattle.cnf.specs.declared.limits.TheConstants.{NUMBER_LIMIT};
 ghost use Rattle.text.specs.LratText.{IsTextOf};
 ghost use Rattle.text.specs.Writing.{Writes, Puts};

@@ -2,7 +2,7 @@
 // bound has a comparator for each of them among its clauses, and the certificate's formula has only
 // that of the last bound. Each clause of the others has a clause of the last as a subset, so it is
 // added by a line of its own, and the lines of the log name it by that line.
-ghost use Rattle.std.specs.Prelude.{◌≡◌, ◌+◌, ◌<◌, ◌^◌, length, map, All, IfOk, OnOk};
+ghost use Rattle.std.specs.Prelude.{◌≡◌, ◌+◌, ◌<◌, length, map, All, IfOk, OnOk};
 ghost use Rattle.std.specs.Prelude.{[], ◌∷◌, ◌++◌};
 ghost use Rattle.cnf.specs.declared.limits.TheConstants.{NUMBER_LIMIT};
 ghost use Rattle.cnf.specs.Lrat.{IsId};

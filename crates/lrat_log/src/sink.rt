@@ -1,5 +1,6 @@
 // What takes the lines of a solver: a log in memory, or a writer that passes them on.
-ghost use Rattle.std.specs.Prelude.{◌≡◌, ℕ, ◌<◌, ◌^◌, List, [], ◌∷◌, ◌++◌, length, OnOk, OnErr};
+ghost use Rattle.std.specs.Prelude.{◌≡◌, ◌<◌, List, [], ◌∷◌, ◌++◌, length, OnOk, OnErr};
+ghost use Rattle.lrat_log.specs.declared.log.TheConstants.{LINE_LIMIT};
 ghost use Rattle.lrat_log.specs.Log.{LogLine, IsLine};
 
 use crate::lines::{Hint, Kind};
@@ -32,5 +33,5 @@ pub trait Sink: Drop {
     /// trait: a law has to hold of every list of lines, and this holds of those that were built, by
     /// the invariant of the type, which only a call hands on.
     fn is_short(&self)
-        ensures { length (lines self.now) < 2 ^ 61 };
+        ensures { length (lines self.now) < LINE_LIMIT };
 }

@@ -1,5 +1,6 @@
 // The lines of a certificate, on their way to a writer.
-ghost use Rattle.std.specs.Prelude.{◌≡◌, ◌<◌, ◌≤◌, ◌^◌, ◌++◌, length, map, drop, slice_index, All};
+ghost use Rattle.std.specs.Prelude.{◌≡◌, ◌-◌, ◌<◌, ◌≤◌, map, drop, slice_index, All};
+ghost use Rattle.lrat_log.specs.declared.spelling.TheConstants.{NUMBER_ROOM};
 ghost use Rattle.cnf.specs.declared.limits.TheConstants.{NUMBER_LIMIT};
 ghost use Rattle.cnf.specs.Lrat.{Addition, Deletion};
 ghost use Rattle.text.specs.Writing.{Puts};
@@ -133,8 +134,8 @@ fn put_number<W: Write>(
 
 /// Spells the number before the last byte of the room; answers where it begins.
 fn spell(negative: bool, number: u64, room: &mut [u8; NUMBER_ROOM]) -> usize
-    requires { slice_index room.old 21 ≡ 32 }
-    ensures within { result ≤ 22 }
+    requires { slice_index room.old (NUMBER_ROOM - 1) ≡ 32 }
+    ensures within { result ≤ NUMBER_ROOM }
     ensures text { drop result room.new ≡ number_text negative number }
 {
     let start = write_digits(number, room, NUMBER_ROOM - 1);

@@ -1,7 +1,7 @@
 -- The verdict at one line, where the live clauses are a list.
 use Rattle.std.proofs.Common.{◌≡◌, ℕ, ◌+◌, ◌<◌, Bool, true, false, List, [], ◌∷◌, ◌++◌, length}
 use Rattle.std.proofs.Common.{Option, Some, None, Ok, Err, Result, refl, sym, ◌∙◌, ap, subst, arith}
-use Rattle.std.specs.Prelude.{IfOk, nat_eq}
+use Rattle.std.specs.Prelude.{IfOk, OnErr, nat_eq}
 use Rattle.std.specs.declared.alloc.AllocError.{AllocError}
 use Rattle.std.proofs.lemmas.Bool.{ne_eqb}
 use Rattle.cnf.specs.Literal.{Literal}
@@ -9,10 +9,11 @@ use Rattle.lrat_read.specs.Form.{Addition, line_of}
 use Rattle.lrat_read.specs.Reader.{LineState, IsReadAs}
 use Rattle.lrat_read.specs.declared.types.Form.{Form}
 use Rattle.lrat_read.specs.declared.types.Form.TheVariants.{Addition as IsAddition}
+use Rattle.lrat_machine.specs.declared.state.ClauseBase.{ClauseBase}
 use Rattle.lrat_machine.specs.declared.verdicts.Cause.{Cause}
 use Rattle.lrat_machine.specs.declared.verdicts.Verdict.TheVariants.{No}
 use Rattle.lrat_live.specs.Listed.{Listed}
-use Rattle.lrat_machine.specs.Machine.{MachineState, StepsTo, verdict_after}
+use Rattle.lrat_machine.specs.Machine.{MachineState, StepsTo, IsApplied, state_with, verdict_after}
 use Rattle.lrat_machine.specs.Steps.{Adds, IsFaultOf, IsUpTo, live_of}
 use Rattle.lrat_machine.specs.Verdict.{addition_fault, verdict_on}
 use Rattle.lrat_machine.proofs.Proofs.{here_fault, here_ends, here_adds}
@@ -65,14 +66,14 @@ steps_addition old new last next n ended ts s None u h a (c, line, large, same) 
 steps_addition old new last next n ended ts s (Some cause) u h a (c, line, large, same) more =
     fault_at old last n s.id ts c s.hints cause line (sym (h c large same)) more
 
-pub steps_added : (old new : Listed) (last next : ℕ) (before ended : Bool) (form : Form)
-    (s : LineState) (r : Result (Option Cause) AllocError) → form ≡ IsAddition → before ≡ false
-    → IsUpTo last old → IfOk r (λ f. IsFaultOf (live_of last old) s f)
-    → IfOk r (λ f. f ≡ None → Adds old last s new next ended)
-    → IfOk r (λ f. (ts : List (List ℕ)) (n : ℕ) → IsReadAs ts form s
-    → StepsTo (state_of old last before n) ts f (state_of new next ended (n + 1)))
-steps_added old new last next before ended form s (Ok f) e not_ended u h a = λ ts n read.
-    subst (λ b. StepsTo (state_of old last b n) ts f (state_of new next ended (n + 1)))
+pub addition_applied : (form : Form) (s : LineState) (old new : ClauseBase)
+    (r : Result (Option Cause) AllocError) → form ≡ IsAddition → old.ended ≡ false
+    → IsUpTo old.last old.live → IfOk r (λ f. IsFaultOf (live_of old.last old.live) s f)
+    → IfOk r (λ f. f ≡ None → Adds old.live old.last s new.live new.last new.ended)
+    → OnErr r (new ≡ old) → (n : ℕ) → IsApplied form s old n new (n + 1) r
+addition_applied form s old new (Ok f) e not_ended u h a same n = λ ts read.
+    subst (λ b. StepsTo (state_of old.live old.last b n) ts f (state_with new (n + 1)))
     (sym not_ended)
-    (steps_addition old new last next n ended ts s f u h a (subst (λ x. IsReadAs ts x s) e read))
-steps_added old new last next before ended form s (Err x) e not_ended u h a = tt
+    (steps_addition old.live new.live old.last new.last n new.ended ts s f u h a
+    (subst (λ x. IsReadAs ts x s) e read))
+addition_applied form s old new (Err x) e not_ended u h a same n = same

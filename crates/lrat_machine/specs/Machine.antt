@@ -1,10 +1,14 @@
 -- What the checker knows after some lines, and the verdict where further lines follow.
-use Rattle.std.specs.Prelude.{◌≡◌, ℕ, ◌+◌, Bool, List, ◌∷◌, Option, MatchOption}
+use Rattle.std.specs.Prelude.{◌≡◌, ℕ, ◌+◌, Bool, List, ◌∷◌, Option, MatchOption, Result, Ok, Err}
+use Rattle.std.specs.declared.alloc.AllocError.{AllocError}
 use Rattle.cnf.specs.Literal.{Literal}
 use Rattle.cnf.specs.Lrat.{Live}
 use Rattle.lrat_live.specs.Listed.{listed_at}
 pub use Rattle.lrat_live.specs.Listed.{listed_from}
+use Rattle.lrat_read.specs.Reader.{LineState, IsReadAs}
+use Rattle.lrat_read.specs.declared.types.Form.{Form}
 use Rattle.lrat_machine.specs.Verdict.{verdict_on}
+use Rattle.lrat_machine.specs.declared.state.ClauseBase.{ClauseBase}
 use Rattle.lrat_machine.specs.declared.verdicts.Cause.{Cause}
 use Rattle.lrat_machine.specs.declared.verdicts.Verdict.{Verdict}
 use Rattle.lrat_machine.specs.declared.verdicts.Verdict.TheVariants.{No}
@@ -16,6 +20,15 @@ pub record MachineState : Type 0 where
   pub ended : Bool
   -- how many lines there were
   pub lines : ℕ
+
+-- what so many lines left
+abbrev pub state_with : ClauseBase → ℕ → MachineState
+state_with base lines = record {
+  clauses = base.live;
+  last = base.last;
+  ended = base.ended;
+  lines = lines;
+}
 
 -- the same with so many lines more, of which none has a token
 abbrev pub after_lines : MachineState → ℕ → MachineState
@@ -39,3 +52,12 @@ StepsTo old ts fault new =
     (more : List (List (List ℕ)))
     → MatchOption fault (verdict_after old (ts ∷ more) ≡ verdict_after new more)
     (λ cause. verdict_after old (ts ∷ more) ≡ No cause (old.lines + 1))
+
+-- what came of applying a line of this form: from one base, after so many lines, it leads on to the
+-- other, or the certificate fails at it; where memory was refused, the base is as before
+abbrev pub IsApplied : Form → LineState → ClauseBase → ℕ → ClauseBase → ℕ
+    → Result (Option Cause) AllocError → Type 0
+IsApplied form line old before new after (Ok fault) =
+    (ts : List (List ℕ)) → IsReadAs ts form line
+    → StepsTo (state_with old before) ts fault (state_with new after)
+IsApplied form line old before new after (Err e) = new ≡ old

@@ -1,7 +1,7 @@
 // Additions: a clause whose negation its hints refute (RUP), or one whose resolvents on its first
 // literal are refuted each by hints of their own (RAT).
-ghost use Rattle.std.specs.Prelude.{◌≡◌, ℕ, ◌<◌, ◌≤◌, true, false, not, ◌||◌, [], Some, None, IfOk};
-ghost use Rattle.std.specs.Prelude.{map, if◌then◌else◌};
+ghost use Rattle.std.specs.Prelude.{◌≡◌, ◌<◌, ◌≤◌, true, false, not, ◌||◌, [], Some, None, IfOk};
+ghost use Rattle.std.specs.Prelude.{map};
 ghost use Rattle.cnf.specs.Literal.{negation};
 ghost use Rattle.cnf.specs.Clause.{has_repeat, is_tautology};
 ghost use Rattle.lrat_machine.specs.Assumed.{AreWithin};

@@ -5,7 +5,7 @@
 // others are counted and the last one is an `Option`.
 // Tried: a table that marks the false literals, so that no negation is computed. The compiler then
 // unrolls by four in place of two: 1.4 % fewer to 0.9 % more instructions, and no less time.
-ghost use Rattle.std.specs.Prelude.{◌≡◌, ℕ, ◌+◌, ◌<◌, ◌≤◌, true, false, List, Some, IfOk};
+ghost use Rattle.std.specs.Prelude.{◌≡◌, ◌+◌, ◌<◌, false, List, Some, IfOk};
 ghost use Rattle.std.specs.Prelude.{length, get_or, map, take, All, IfSome};
 ghost use Rattle.std.specs.Option.{option_copied};
 ghost use Rattle.cnf.specs.Literal.{Literal};

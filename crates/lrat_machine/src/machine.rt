@@ -1,10 +1,10 @@
 // The checker between lines: what is live, and whether the empty clause was added.
-ghost use Rattle.std.specs.Prelude.{◌≡◌, ℕ, ◌+◌, ◌<◌, ◌^◌, List, [], ◌∷◌, ◌++◌, map, length, false};
-ghost use Rattle.std.specs.Prelude.{nat_eq, IfOk, OnErr, IsSome, MatchOption, Some, None};
+ghost use Rattle.std.specs.Prelude.{◌≡◌, ℕ, ◌+◌, ◌<◌, ◌^◌, List, [], map, length, false};
+ghost use Rattle.std.specs.Prelude.{IfOk, OnErr, MatchOption, Some, None};
 ghost use Rattle.cnf.specs.Formula.{IsFormula};
 ghost use Rattle.text.specs.Text.{tokens_of};
 ghost use Rattle.lrat_live.specs.Listed.{listed_from};
-ghost use Rattle.lrat_machine.specs.Machine.{MachineState, StepsTo, after_lines, verdict_after};
+ghost use Rattle.lrat_machine.specs.Machine.{StepsTo, IsApplied, after_lines, verdict_after};
 ghost use Rattle.lrat_machine.specs.Steps.{Adds, IsBase, IsFaultOf, live_of};
 ghost use Rattle.lrat_machine.specs.Verdict.{deleted};
 ghost use Rattle.lrat_read.specs.Reader.{IsReadAs};
@@ -41,17 +41,12 @@ pub struct Machine {
 }
 
 impl Model for Machine {
-    ghost use Rattle.lrat_machine.specs.Machine.{MachineState};
+    ghost use Rattle.lrat_machine.specs.Machine.{MachineState, state_with};
     ghost use Rattle.lrat_machine.specs.Steps.{IsBase};
 
     ghost Value = { MachineState };
 
-    ghost view = { λ m. record {
-      clauses = m.base.live;
-      last = m.base.last;
-      ended = m.base.ended;
-      lines = m.lines;
-    } };
+    ghost view = { λ m. state_with m.base m.lines };
 
     ghost invariant = { λ m. IsBase m.scratch.assumed.variables m.base.last m.base.live };
 }
@@ -105,17 +100,8 @@ fn apply_line(
     scratch: &mut Scratch,
 ) -> Result<Option<Cause>, AllocError>
     requires { IsBase scratch.old.assumed.variables base.old.last base.old.live }
-    ensures steps { IfOk result (λ f. (ts : List (List ℕ)) (n : ℕ) → IsReadAs ts form line.now
-        → StepsTo (record
-        { clauses = base.old.live; last = base.old.last; ended = base.old.ended; lines = n }) ts
-        f (record {
-          clauses = base.new.live;
-          last = base.new.last;
-          ended = base.new.ended;
-          lines = n + 1;
-        })) }
+    ensures applied { (n : ℕ) → IsApplied form line.now base.old n base.new (n + 1) result }
     ensures base { IsBase scratch.new.assumed.variables base.new.last base.new.live }
-    ensures err { OnErr result (base.new ≡ base.old) }
 {
     match (form, base.ended) {
         (Form::Blank, _) => Ok(None),
@@ -137,22 +123,10 @@ fn apply_next(
 ) -> Result<Option<Cause>, AllocError>
     requires base { IsBase scratch.old.assumed.variables base.old.last base.old.live }
     requires room { lines.old + 1 < 2 ^ 64 }
-    ensures steps { IfOk result (λ f. (ts : List (List ℕ)) → IsReadAs ts form line.now
-        → StepsTo (record {
-          clauses = base.old.live;
-          last = base.old.last;
-          ended = base.old.ended;
-          lines = lines.old;
-        }) ts f (record {
-          clauses = base.new.live;
-          last = base.new.last;
-          ended = base.new.ended;
-          lines = lines.new;
-        })) }
-    ensures lines { IfOk result (λ f. lines.new ≡ lines.old + 1) }
+    ensures applied { IsApplied form line.now base.old lines.old base.new lines.new result }
     ensures base { IsBase scratch.new.assumed.variables base.new.last base.new.live }
-    ensures err_base { OnErr result (base.new ≡ base.old) }
-    ensures err_lines { OnErr result (lines.new ≡ lines.old) }
+    ensures lines { IfOk result (λ f. lines.new ≡ lines.old + 1) }
+    ensures err { OnErr result (lines.new ≡ lines.old) }
 {
     let fault = apply_line(form, line, base, scratch)?;
     *lines += 1;

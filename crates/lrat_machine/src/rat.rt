@@ -4,7 +4,7 @@
 // it for each takes n^2 steps. So where it is longer than what the line assumes, each literal that
 // is assumed is first looked for in it, which is done by halving (`LiveClauses::shows`).
 // Still slow: a long candidate that is not true, whose literals are all assumed for each group.
-ghost use Rattle.std.specs.Prelude.{◌≡◌, ℕ, ◌++◌, Some, IfOk, OnOk, length, take, map, All, true};
+ghost use Rattle.std.specs.Prelude.{◌≡◌, ◌++◌, Some, IfOk, OnOk, length, take, map, All, true};
 ghost use Rattle.std.specs.Prelude.{if◌then◌else◌};
 ghost use Rattle.std.specs.List.{list_any};
 ghost use Rattle.cnf.specs.Literal.{negation};

@@ -46,10 +46,11 @@ pub enum Cause {
     CoreSum,
 }
 
-/// The certificate holds, or the first fault and its line: from 1, or 0 where the text ends too
-/// soon.
+/// What a check found.
 #[derive(Clone, Copy, Debug, PartialEq, Eq, Drop)]
 pub enum Verdict {
+    /// The certificate holds.
     Yes,
+    /// The first fault and its line: from 1, or 0 where the text ends too soon.
     No(Cause, u64),
 }

@@ -1,5 +1,5 @@
 // What was read of a line, lent by the buffers that hold it.
-ghost use Rattle.std.specs.Prelude.{◌≡◌, ◌<◌, ◌^◌};
+ghost use Rattle.std.specs.Prelude.{◌≡◌, ◌<◌};
 ghost use Rattle.cnf.specs.declared.limits.TheConstants.{NUMBER_LIMIT};
 
 use crate::types::{Form, SignedId};
@@ -20,7 +20,7 @@ pub struct LineView<'a> {
 }
 
 impl<'a> Model for LineView<'a> {
-    ghost use Rattle.std.specs.Prelude.{◌<◌, ◌^◌};
+    ghost use Rattle.std.specs.Prelude.{◌<◌};
     ghost use Rattle.cnf.specs.declared.limits.TheConstants.{NUMBER_LIMIT};
     ghost use Rattle.lrat_read.specs.Reader.{LineState};
 

@@ -60,7 +60,9 @@ pub struct Used {
 /// A number, with a dash before it or without.
 #[derive(Clone, Copy, Drop)]
 struct PlainNumber {
+    /// Whether a dash stands before it.
     is_dashed: bool,
+    /// What its digits write, below 10^8, and the place behind them.
     digits: Digits,
 }
 

@@ -1,5 +1,5 @@
 // The reader of lines, with its buffers.
-ghost use Rattle.std.specs.Prelude.{◌≡◌, ◌<◌, ◌≤◌, ◌^◌, [], drop, length, false, IfOk};
+ghost use Rattle.std.specs.Prelude.{◌≡◌, ◌<◌, ◌≤◌, [], drop, length, false, IfOk};
 ghost use Rattle.text.specs.Text.{tokens_of};
 ghost use Rattle.lrat_read.specs.Reader.{IsReadAs, IsAdditionRead, IsDeletionRead};
 
@@ -25,7 +25,7 @@ pub struct LineReader {
 }
 
 impl Model for LineReader {
-    ghost use Rattle.std.specs.Prelude.{◌<◌, ◌^◌};
+    ghost use Rattle.std.specs.Prelude.{◌<◌};
     ghost use Rattle.cnf.specs.declared.limits.TheConstants.{NUMBER_LIMIT};
     ghost use Rattle.lrat_read.specs.Reader.{LineState};
 

@@ -1,5 +1,5 @@
 //! A result as it is read.
-ghost use Rattle.std.specs.Prelude.{◌<◌, ◌^◌};
+ghost use Rattle.std.specs.Prelude.{◌<◌};
 ghost use Rattle.cnf.specs.declared.limits.TheConstants.{NUMBER_LIMIT};
 
 /// What an `s` line says.
@@ -39,9 +39,13 @@ pub struct ClaimedSolution {
 /// What a result says, with the lines of its solution where it has one.
 #[derive(Drop)]
 pub enum Said {
+    /// No solution costs less than this one.
     Optimum(ClaimedSolution),
+    /// There is no solution.
     Unsat,
+    /// This solution, and nothing of its being optimal.
     Sat(ClaimedSolution),
+    /// Nothing: a limit was met before a solution.
     Limit,
 }
 
@@ -81,5 +85,6 @@ pub(crate) enum Reading {
 pub enum ReportFault {
     /// The first line that cannot stand there, or 0 where the text ends too soon.
     Form(u64),
+    /// Memory was refused.
     Memory,
 }

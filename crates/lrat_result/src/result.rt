@@ -1,6 +1,6 @@
 //! What a result text says, read line by line: `o` lines with falling costs, one `s` line, and
 //! where that has a solution one `v` line.
-ghost use Rattle.std.specs.Prelude.{◌≡◌, ℕ, List, ◌<◌, ◌^◌, IfOk, IfErr, IfSome, false, [], ◌∷◌};
+ghost use Rattle.std.specs.Prelude.{◌≡◌, ℕ, List, ◌<◌, IfOk, IfErr, IfSome, false, [], ◌∷◌};
 ghost use Rattle.std.specs.Option.{option_map};
 ghost use Rattle.cnf.specs.declared.limits.TheConstants.{NUMBER_LIMIT};
 ghost use Rattle.text.specs.Text.{tokens_of};

@@ -7,9 +7,13 @@ use text::cutting::tokens;
 /// The tokens of a line, told apart up to three.
 #[derive(Clone, Copy)]
 pub(crate) enum Words<'a> {
+    /// The line has no token.
     None,
+    /// Its only token.
     One(&'a [u8]),
+    /// Both, in order.
     Two(&'a [u8], &'a [u8]),
+    /// All three, in order.
     Three(&'a [u8], &'a [u8], &'a [u8]),
     /// More than three: only the first is needed, since it tells a comment.
     More(&'a [u8]),

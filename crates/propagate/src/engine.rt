@@ -275,9 +275,9 @@ impl Engine {
         self.trail.depth()
     }
 
-    /// Makes true what is left, and answers an attached clause that is false, or none: then no
-    /// attached clause is false or unit. What became true stands at the end of the trail, at the
-    /// current level.
+    /// Unit propagation, up to a conflict or the fixpoint: answers an attached clause that is
+    /// false, or none, and then no attached clause is false or unit. What became true stands at the
+    /// end of the trail, at the current level.
     ///
     /// # Errors
     ///

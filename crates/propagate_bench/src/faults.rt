@@ -2,6 +2,7 @@
 use propagate::engine::EngineFault;
 use std::alloc::AllocError;
 
+/// Why the program has no answer.
 #[derive(Clone, Copy, Debug, PartialEq, Eq, Drop)]
 pub(crate) enum BenchFault {
     /// The words of the command line are others.

@@ -1,5 +1,5 @@
 // Rounds of decisions, in an order and with signs that depend on the round alone.
-ghost use Rattle.std.specs.Prelude.{◌≡◌, ◌<◌, ◌^◌, OnOk};
+ghost use Rattle.std.specs.Prelude.{◌≡◌, ◌<◌, OnOk};
 ghost use Rattle.cnf.specs.declared.limits.TheConstants.{VARIABLE_LIMIT};
 ghost use Rattle.propagate.specs.Fits.{Fits};
 

@@ -59,12 +59,14 @@ impl Truth {
         }
     }
 
+    /// Whether the literal is true; not where it is open.
     pub(crate) fn is_true(self) -> bool
         ensures { IsTrue result ↔ (self ≡ Some true) }
     {
         matches!(self.known, Known::True)
     }
 
+    /// Whether the literal is false; not where it is open.
     pub(crate) fn is_false(self) -> bool
         ensures { IsTrue result ↔ (self ≡ Some false) }
     {

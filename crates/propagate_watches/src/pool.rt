@@ -4,7 +4,7 @@
 // after another, `set` writes those that stay over those that leave, and `push` adds an entry to
 // another row. What is left over at the end of the row `truncate` cuts off; where propagation stops
 // before it, `close` takes the gap out. Where the rows lie is the business of `FlatRows`.
-ghost use Rattle.std.specs.Prelude.{◌≡◌, ℕ, ◌<◌, ◌≤◌, List, [], ◌∷◌, ◌++◌, length, map, replicate};
+ghost use Rattle.std.specs.Prelude.{◌≡◌, ◌<◌, ◌≤◌, List, [], ◌∷◌, ◌++◌, length, map, replicate};
 ghost use Rattle.std.specs.Prelude.{take, Some, slice_get, slice_set, OnOk, OnErr, IfOk};
 ghost use Rattle.std.specs.Prelude.{filter, not, ◌==◌};
 ghost use Rattle.propagate_watches.specs.Pool.{row_at, with_row, closed_row};
@@ -24,8 +24,8 @@ use std::marker::Model;
 pub struct WatchEntry {
     /// The clause.
     pub reference: CRef,
-    /// Where this literal is true the clause need not be looked at. It may also be the other one
-    /// that is watched.
+    /// The blocker: where this literal is true the clause need not be looked at. It may also be the
+    /// other one that is watched.
     pub blocker: Lit,
 }
 

@@ -4,7 +4,7 @@
 // writes it by `rewatch`. It knows that such a clause watches two literals, so it reads only the
 // pair, and the tags, one byte each, are elsewhere. With a pair goes the third literal of a
 // clause of three: those of up to three literals need no look into the store.
-ghost use Rattle.std.specs.Prelude.{◌≡◌, ℕ, ◌<◌, List, [], length, take, slice_set, OnOk, OnErr};
+ghost use Rattle.std.specs.Prelude.{◌≡◌, ◌<◌, List, [], length, take, slice_set, OnOk, OnErr};
 ghost use Rattle.cnf.specs.Literal.{Literal};
 ghost use Rattle.propagate_watches.specs.Doomed.{IsSpared};
 ghost use Rattle.propagate_watches.specs.Table.{attachment_in, rest_in, rest_after, grown_table};
@@ -56,20 +56,24 @@ impl Rest {
 /// An attachment without its literals.
 #[derive(Clone, Copy, Debug, PartialEq, Eq, Drop)]
 pub(crate) enum Tag {
-    // As in `Attachment`.
+    /// As `Attachment::Detached`.
     Detached,
+    /// As `Attachment::Waiting`.
     Waiting,
+    /// As `Attachment::Satisfied`.
     Satisfied,
+    /// As `Attachment::Watching`; its literals are in the pair.
     Watching,
 }
 
 /// The two literals that a clause watches, and those beside; of no meaning where it watches none.
 #[derive(Clone, Copy, Debug, PartialEq, Eq, Drop)]
 pub(crate) struct Pair {
-    // The two that are watched, in any order.
+    // One of the two that are watched, in any order.
     pub(crate) one: Lit,
+    // The other one that is watched.
     pub(crate) other: Lit,
-    // The others.
+    // The literals of the clause that are not watched.
     pub(crate) rest: Rest,
 }
 

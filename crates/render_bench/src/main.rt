@@ -4,7 +4,7 @@
 //! standard output; `render_bench build N` only builds it.
 #![tactic(auto)]
 
-ghost use Rattle.std.specs.Prelude.{◌≡◌, ◌<◌, ◌≤◌, ◌^◌, All, IfOk};
+ghost use Rattle.std.specs.Prelude.{◌<◌, ◌≤◌, ◌^◌, All, IfOk};
 ghost use Rattle.cnf.specs.declared.limits.TheConstants.{NUMBER_LIMIT};
 ghost use Rattle.cnf.specs.Lrat.{IsId};
 ghost use Rattle.lrat_log.specs.Log.{HasSmallIds, id_of, name_of, number_in};

@@ -1,6 +1,6 @@
 // What was found, on its way to the writers: the certificate first, whole and flushed, then the
 // lines of the status and the bits.
-ghost use Rattle.std.specs.Prelude.{◌≡◌, ◌+◌, ◌<◌, ◌^◌, ◌++◌, ◌∷◌, []};
+ghost use Rattle.std.specs.Prelude.{◌≡◌, ◌+◌, ◌<◌, ◌++◌, ◌∷◌, []};
 ghost use Rattle.std.specs.Prelude.{length, codes, OnOk, IfErr, All};
 ghost use Rattle.cnf.specs.declared.limits.TheConstants.{CLAUSE_LIMIT, NUMBER_LIMIT};
 ghost use Rattle.text.specs.LratText.{IsTextOf};

@@ -16,40 +16,40 @@ pub const MOST_CONFLICTS: u64 = NUMBER_LIMIT;
 
 const SOLVE_NOTES: &str = "\
 Prints a line 'o COST' for each solution that is better than all before it, as
-soon as it is known; then one line 's STATUS'; and, if there is a solution, a
-line 'v' with a digit 0 or 1 for each variable.
+soon as it is known, and then one line 's STATUS'. If a solution was found, a
+line 'v' comes last, with a bit, 0 or 1, for each variable.
 
 Statuses:
   30  s OPTIMUM FOUND    the bits cost the last COST, and nothing is cheaper
   20  s UNSATISFIABLE    no assignment satisfies the hard clauses
   10  s SATISFIABLE      the effort ran out; the bits cost the last COST
-   0  s UNKNOWN          the effort ran out before any solution was told
-   1  NO and its fault   the RESULT of --from is not right for FILE
+   0  s UNKNOWN          the effort ran out before any solution was found
+   1  NO and its fault   the RESULT of --from is not correct for FILE
    2  FILE or the command line is faulty
    3  a file cannot be opened, read or written, or memory ran out
 
-If FILE has no clause at all, the optimum costs 0, and 'warning: no clause was
+If FILE has no clauses at all, the optimum costs 0, and 'warning: no clause was
 read' is written to standard error.
 
---conflicts N limits the effort: each learned clause and each solution that is
-told costs one unit. A million units take a minute or more. What was learned
-stays in memory for the certificate, even without --proof: 4 bytes for each
-literal and hint of a line, 0.4 to 2 KB for each conflict. The same N gives
+--conflicts N limits the effort: each learned clause and each reported solution
+costs one unit. A million units take a minute or more. What is learned stays in
+memory for the certificate, even without --proof: 4 bytes for each literal and
+each hint of a line, which is 0.4 to 2 KB for each conflict. The same N gives
 the same answer on every machine, whatever its speed.
 
-The certificate proves OPTIMUM FOUND and UNSATISFIABLE to anyone who checks it,
-and is written before the 's' line. The other statuses have none. Without
+The certificate proves OPTIMUM FOUND or UNSATISFIABLE to anyone who checks it.
+It is written before the 's' line. The other statuses have none. Without
 --proof it is dropped.
 
---profile 5 finds the most optima; check needs the profile that the certificate
-was made in. WMAX_PROFILE is the profile of solve, check and encode where no
---profile is given:
+--profile 5 finds the most optima. check needs the profile that the certificate
+was made in. The environment variable WMAX_PROFILE is the profile of solve,
+check and encode if --profile is not given:
 
   export WMAX_PROFILE=5
 
-With --best PATH a run can be stopped at any moment, and the same command goes
-on from the solution in PATH. --progress shows how far it is. In a script that
-stops at errors, write
+With --best PATH a run can be stopped at any moment. The same command then goes
+on from the solution in PATH. --progress shows how far the run is. In a script
+that stops at errors, write
 
   wmax solve a.wcnf > a.result || [ $? = 30 ]
 
@@ -58,11 +58,11 @@ Example:
 
 Faults:
   error: line N: FirstToken  line N begins with neither 'h', a weight nor 'c'
-  error: line N: Weight      a weight that is no number from 1 on: 0, 01, 1.5
-  error: line N: Literal     a word that is no literal: x, +1, 01
+  error: line N: Weight      the weight is not a number from 1 on: 0, 01, 1.5
+  error: line N: Literal     a word is not a literal: x, +1, 01
   error: line N: NoZero      the clause on line N has no 0 at its end
   error: line N: AfterZero   something follows the 0 of the clause
-  error: line N: OldForm     a line 'p' after a clause or another 'p'
+  error: line N: OldForm     a line 'p' comes after a clause or another 'p'
   error: Read                FILE, RESULT or PATH cannot be opened or read
   error: Memory              memory ran out
   error: Output              standard output cannot be written
@@ -70,28 +70,28 @@ Faults:
 docs/FAULTS.md and the manual page have the others.";
 
 const CHECK_NOTES: &str = "\
-Prints YES, or NO with the first fault and its line. OPTIMUM FOUND is checked
-against the formula for 'cheaper than the last o line', or, if PROOF begins with
-core lines, against the formula of these cores; UNSATISFIABLE is checked against
+Prints YES, or NO with the first fault and its line. For OPTIMUM FOUND, PROOF
+has to refute the formula for 'cheaper than the last o line' or, if it begins
+with core lines, the formula of these cores. For UNSATISFIABLE it has to refute
 the hard clauses. SATISFIABLE and UNKNOWN claim nothing that a certificate could
-show: NO.
+show, so the answer is NO.
 
 Statuses:
    0  YES: the result is true
    1  NO, the first fault, and the line of FILE, RESULT or PROOF that has it
    2  the command line is faulty
-   3  a file cannot be read, the verdict not be written, or memory ran out
+   3  a file cannot be read, the verdict cannot be written, or memory ran out
 
-Give the profile that the certificate was made in, here or by WMAX_PROFILE. In
-another one it is mostly refused, as with NO DeadId 1, NO IdOrder 1 or NO
-LineForm 1. --profile any tries them all.
+Give the profile that the certificate was made in, by --profile or WMAX_PROFILE.
+In any other profile it is mostly refused, for example by NO DeadId 1, NO
+IdOrder 1 or NO LineForm 1. --profile any tries them all.
 
 Example:
   wmax check --profile 5 a.wcnf a.result a.lrat
 
 Faults:
   NO Text N                 line N of FILE is faulty: wmax explain says how
-  NO ResultForm N           line N of RESULT cannot stand there
+  NO ResultForm N           line N of RESULT is not allowed there
   NO BitsLength N           line N has too few or too many bits
   NO NotFeasible N          the bits on line N break a hard clause
   NO CostWrong N            the bits do not cost what line N says
@@ -100,24 +100,24 @@ Faults:
   NO HintNotUnit N          a clause that line N of PROOF names is not unit
   NO NoConflict N           the clauses named on line N of PROOF do not suffice
   NO NoEmptyClause 0        PROOF ends too soon
-  NO CoreForm N             line N of PROOF is no core line, or one too many
+  NO CoreForm N             line N of PROOF is not a core line, or one too many
   NO CoreWeight N           the core on line N is worth 0, or more than is left
   NO CoreSum N              the cores before line N are worth less than the cost
 docs/FAULTS.md and the manual page have the others.";
 
 const LOWER_NOTES: &str = "\
-Prints 'at least L' if PROOF begins with core lines and checks: no solution of
-FILE costs less than the cores are worth together. So the certificate of an
-optimum proved by cores gives that optimum. Prints 'no solution' if PROOF has no
-core lines and refutes the hard clauses, as that of an UNSATISFIABLE result
-does. Any other certificate proves nothing without its RESULT: NO, the first
-fault and its line.
+Prints 'at least L' if PROOF begins with core lines and is correct: no solution
+of FILE costs less than L, which is what the cores are worth together. So the
+certificate of an optimum proved by cores gives that optimum. Prints 'no
+solution' if PROOF has no core lines and refutes the hard clauses, like the
+certificate of an UNSATISFIABLE result. Any other certificate proves nothing
+without its RESULT: then NO, the first fault and its line are printed.
 
 Statuses:
    0  at least L, or no solution
    1  NO, the first fault, and the line of FILE or PROOF that has it
    2  the command line is faulty
-   3  a file cannot be read, the answer not be written, or memory ran out
+   3  a file cannot be read, the answer cannot be written, or memory ran out
 
 Example:
   wmax solve --lower a.bound --best a.best a.wcnf
@@ -128,23 +128,24 @@ Faults:
   NO DeadId N         line N of PROOF names a clause that is not there
   NO NoConflict N     the clauses named on line N of PROOF do not suffice
   NO NoEmptyClause 0  PROOF ends too soon
-  NO CoreForm N       line N of PROOF is no core line, or one too many
+  NO CoreForm N       line N of PROOF is not a core line, or one too many
   NO CoreWeight N     the core on line N is worth 0, or more than is left
 docs/FAULTS.md and the manual page have the others.";
 
 const EXPLAIN_NOTES: &str = "\
-With RESULT: prints its cost; each soft clause that its bits give up, heaviest
-first, with its line, the comment above it, and the sum so far; each hard clause
-that they break; and the names of true variables. Without RESULT: the numbers of
-variables, hard and soft clauses in FILE, and the sum of the weights. If FILE is
-faulty: the line, the word, and how to correct it. With PROOF, if RESULT is
-right: also what wmax lower prints, and the gap: its cost minus that bound.
+With RESULT: prints its cost, each soft clause that its bits give up, each hard
+clause that they break, and the names of the true variables. The soft clauses
+come heaviest first, each with its line, the comment above it and the sum so
+far. Without RESULT: prints how many variables, hard clauses and soft clauses
+FILE has, and the sum of the weights. If FILE is faulty: prints the faulty line
+and word, and how to correct it. With PROOF, if RESULT is correct: also prints
+what wmax lower prints, and the gap, which is the cost minus that bound.
 
 Statuses:
    0  the bits are a solution of the cost that RESULT states, or it has no bits
-   1  they are not; NO ResultForm: RESULT cannot be read; NO: see wmax lower
+   1  they are not, RESULT cannot be read (NO ResultForm), or PROOF is faulty
    2  FILE or the command line is faulty
-   3  a file cannot be read, the output not be written, or memory ran out
+   3  a file cannot be read, the output cannot be written, or memory ran out
 
 Example:
   wmax explain a.wcnf a.result
@@ -153,7 +154,7 @@ Example:
 
 Faults:
   error: line N: NoZero  the clause on line N of FILE has no 0 at its end
-  NO ResultForm N        line N of RESULT cannot stand there
+  NO ResultForm N        line N of RESULT is not allowed there
   error: Read            a file cannot be opened or read
   error: Memory          memory ran out
   error: Output          standard output cannot be written
@@ -162,14 +163,15 @@ docs/FAULTS.md and the manual page have all.";
 
 const ENCODE_NOTES: &str = "\
 The formula is satisfiable exactly when some solution costs less than COST. So a
-certificate for the optimum COST refutes it, unless it has core lines; then its
-other lines refute the formula that --proof prints. Other LRAT checkers can take
-formula and certificate, and a SAT solver that writes LRAT can make one.
+certificate of the optimum COST refutes it. If the certificate has core lines,
+its other lines refute the formula that --proof prints instead. Other LRAT
+checkers can check a certificate against the formula, and any SAT solver that
+writes LRAT can make one.
 
 Statuses:
    0  the formula is written
    2  FILE, a core line of CERTIFICATE or the command line is faulty
-   3  a file cannot be read, the formula not be written, or memory ran out
+   3  a file cannot be read, the formula cannot be written, or memory ran out
 
 Example:
   wmax encode --profile 5 --proof a.lrat a.wcnf 3 > a.cnf
@@ -177,7 +179,7 @@ Example:
 
 Faults:
   error: line N: NoZero      the clause on line N of FILE has no 0 at its end
-  error: line N: CoreForm    line N is no core line, or one too many
+  error: line N: CoreForm    line N is not a core line, or one too many
   error: line N: CoreWeight  the core on line N is worth 0, or more than is left
   error: line N: CoreSum     the cores before line N are worth less than COST
   error: Read                a file cannot be opened or read
@@ -187,10 +189,11 @@ Faults:
 docs/FAULTS.md and the manual page have all.";
 
 const NOTES: &str = "\
-Statuses: solve 30, 20, 10, 0, 1; check, lower and explain 0, 1; encode 0; each
-2 and 3 for faults. 'wmax COMMAND --help' says what they mean. FILE may be
-/dev/stdin or a pipe such as <(zcat a.wcnf.gz). The variable WMAX_PROFILE of the
-environment is the profile of solve, check and encode without --profile.
+Statuses: solve 30, 20, 10, 0, 1; check, lower and explain 0, 1; encode 0; all
+of them 2 and 3 for faults. 'wmax COMMAND --help' says what they mean. FILE may
+be /dev/stdin or a pipe such as <(zcat a.wcnf.gz). The environment variable
+WMAX_PROFILE is the profile of solve, check and encode if --profile is not
+given.
 
 Example:
   wmax solve --profile 5 --proof a.lrat a.wcnf > a.result
@@ -203,64 +206,65 @@ const VERSION: &str = "1.0.0";
 // The help of options stands on lines of its own, ten columns from the left, and is broken by hand:
 // `clap` breaks no line.
 const PROFILE_HELP: &str = "\
-How 'cheaper' is encoded; by default as WMAX_PROFILE says, else 1.
-1: all weights are added column by column;
+How 'cheaper' is encoded. The default is WMAX_PROFILE if set, else 1.
+1: adders add all weights column by column;
 2: as 1, without variables for soft clauses of one literal;
-3: weights are added in pairs, light ones first;
-4: sums of weights along a tree that follows the hard clauses;
-5: cores first, which begin the certificate, then as 4; it finds the
-most optima.
+3: adders add the weights in pairs, light ones first;
+4: generalized totalizers along a tree that follows the hard clauses;
+5: cores first, by core-guided search, and then as 4. The cores begin
+the certificate. Profile 5 finds the most optima.
 check needs the profile that the certificate was made in";
 
 const PROFILE_OR_ANY_HELP: &str = "\
-The profile that the certificate was made in; by default as
-WMAX_PROFILE says, else 1. any tries 5, 4, 3, 2, 1 until one says YES;
-otherwise it prints NO with the fault that is furthest down. PROOF is
-read again for each, so it cannot be a pipe then";
+The profile that the certificate was made in. The default is
+WMAX_PROFILE if set, else 1. any tries 5, 4, 3, 2 and 1 until one says
+YES. If none does, it prints NO with the fault on the latest line of
+PROOF. PROOF is read again for each profile, so it cannot be a pipe";
 
 const CONFLICTS_HELP: &str = "\
-The effort: at most N learned clauses and solutions together. Time and
-memory grow with it. The same N always gives the same
+The effort: at most N learned clauses and solutions in all. Time and
+memory grow with N. The same N always gives the same
 answer";
 
 const PROOF_HELP: &str = "\
-Where the LRAT certificate goes. PATH is created or emptied before the
-search and written at its end. It cannot be FILE or RESULT";
+Writes the LRAT certificate to PATH at the end of the search. PATH is
+created or emptied before the search. It cannot be FILE or RESULT";
 
 const BEST_HELP: &str = "\
-Keeps the best solution in PATH, as a whole result at every moment. If
-PATH has a solution of FILE already, the search begins with it, and
-replaces it by one that is no dearer. A result without a solution and
+Keeps the best solution in PATH, as a complete result at every moment.
+If PATH already has a solution of FILE, the search begins with it, and
+replaces it by one that costs no more. A result without a solution and
 an empty file are replaced. Anything else in PATH is refused, and so
-is a PATH that cannot be written or is FILE or the certificate. PATH
+is a PATH that cannot be written, or is FILE or the certificate. PATH
 says OPTIMUM FOUND once this run has proved it";
 
 const LOWER_HELP: &str = "\
 Keeps the best lower bound that cores prove in PATH, as a certificate
-for wmax lower that is whole at every moment. PATH is made with the
-first bound: there is none if the optimum is 0, or without a solution.
-Every profile looks for cores then, and for longer; only profile 5
-ends once a bound meets the cost. If PATH has a bound for FILE, only a
-better one replaces it. Anything else in PATH is refused, and so is a
-PATH that cannot be written, or that the run uses otherwise. Texts are
-first written to PATH.part, here and for --best";
+for wmax lower that is complete at every moment. PATH is created with
+the first bound. There is no bound if the optimum is 0, or if there is
+no solution. With --lower every profile looks for cores, and looks for
+longer. Only profile 5 ends as soon as a bound meets the cost. If PATH
+already has a bound for FILE, only a better one replaces it. Anything
+else in PATH is refused, and so is a PATH that cannot be written, or
+that the run uses otherwise. Files are first written to PATH.part,
+here and for --best";
 
 const FROM_HELP: &str = "\
-Begins with the solution in RESULT, perhaps one of another solver. Its
-cost or a lower one is the first o line, which takes one unit of the
-effort. The search below that tries its values first. If RESULT is not
-right for FILE, the fault that check would report is printed, and
-there is no search. A RESULT without a solution (UNKNOWN,
-UNSATISFIABLE) is accepted, and the search begins without it. If
---best has a cheaper solution, the search begins with that one";
+Begins with the solution in RESULT, which may be from another solver.
+Its cost or a lower one is the first o line, which takes one unit of
+the effort. The search for cheaper solutions tries its values first.
+If RESULT is not correct for FILE, the fault that check would report
+is printed, and there is no search. A RESULT without a solution
+(UNKNOWN, UNSATISFIABLE) is accepted, and the search begins without
+one. If --best has a cheaper solution, the search begins with that";
 
 const PROGRESS_HELP: &str = "\
 Shows on standard error how far the search is: a line at each better
 solution and at the end, and at most one a second in between.
 'at least L' is what the cores found so far are worth (profile 5, or
-with --lower). It need not be proved yet: see --lower. The gap is the
-difference as a share of the cost. MB is the memory in use. A terminal
-shows only the last line";
+with --lower). L may not be proved yet: see --lower. The gap is the
+cost minus L, as a share of the cost. MB is the memory in use. A
+terminal shows only the last line";
 
 const CERTIFICATE_HELP: &str = "\
 With --profile 5: prints the formula that the lines of CERTIFICATE

@@ -1,6 +1,7 @@
 // The run: a text in, a result and its certificate out.
-ghost use Rattle.std.specs.Prelude.{◌≡◌, ◌<◌, ◌^◌, IfOk, IfErr, IsTrue};
+ghost use Rattle.std.specs.Prelude.{◌≡◌, ◌<◌, IfOk, IfErr, IsTrue};
 ghost use Rattle.improve.specs.Improving.{Improves};
+ghost use Rattle.improve.specs.Progress.{CanFail};
 ghost use Rattle.improve.specs.Standing.{AreFeasible};
 ghost use Rattle.improve.specs.Watch.{AreShown};
 ghost use Rattle.report.specs.Running.{EndsAs, Leaves, Searches, outcome_of};
@@ -29,7 +30,7 @@ use wcnf::reading::read_from;
 /// each solution that is better than all before, as soon as it is known; one line `s`; and for a
 /// solution a line `v` with a digit for each variable. The certificate is LRAT as text (Cruz-Filipe
 /// et al. 2017). For `OPTIMUM FOUND` it refutes the formula for 'cheaper than that', for
-/// `UNSATISFIABLE` the hard clauses; for the other two none is written. It is whole and flushed
+/// `UNSATISFIABLE` the hard clauses; `SATISFIABLE` and `UNKNOWN` have none. It is whole and flushed
 /// before the first byte of the `s` line.
 ///
 /// If this answers Ok and what it wrote says `OPTIMUM FOUND` with a cost and bits, then the bits
@@ -191,7 +192,7 @@ fn search<T: Progress, K: RunWatch>(
     profile: Profile,
     keeper: &mut K,
 ) -> Result<Found, ImproveFault>
-    requires { (T.state progress.old).failures < 2 ^ 62 }
+    requires { CanFail (T.state progress.old) }
     ensures follows { (first : T) → T.follows first progress.old → T.follows first progress.new }
     ensures improves { Improves profile instance.now result
         (T.state progress.old) (T.state progress.new)

@@ -11,6 +11,7 @@ use Rattle.sums_tree.specs.Groups.{Placed, groups, grouped_from, binding}
 use Rattle.sums_tree.specs.Arranging.{tree}
 use Rattle.sums_tree.specs.Arrangement.{arranged, steps_to}
 use Rattle.sums_tree.proofs.Laws.{length-tree, no_tree, tree_is_arrangement}
+use Rattle.sums.specs.declared.summing.TheConstants.{TRIES}
 use Rattle.sums.specs.Sums.{Node, root, first_small, tree_weight, sums_over, IsArrangedBy}
 use Rattle.sums.specs.Sums.{SumsSayCheaper, AreSmall}
 use Rattle.sums.specs.Stepping.{root_made, steps_weight}
@@ -24,21 +25,21 @@ no_groups p e =
     (grouped_from (binding p) 0 [] [] cs))) (no_tree p e)
 
 over_steps : (p : Problem) (o : Option Tree) → tree p ≡ o → length (groups p) ≤ 2 ^ 15
-    → first_small (root_made p (steps_to o)) 63 0 (steps_weight p (steps_to o)) ≡ sums_over p o
-over_steps p None e few = first_found (root_made p []) 63 0 0 (omega arith) (omega arith)
+    → first_small (root_made p (steps_to o)) TRIES 0 (steps_weight p (steps_to o)) ≡ sums_over p o
+over_steps p None e few = first_found (root_made p []) TRIES 0 0 (omega arith) (omega arith)
 over_steps p (Some t) e few =
     first_by_steps p t
-    ∙ ap (λ b. if b then None else first_small (root p t) 63 0 (tree_weight p t))
+    ∙ ap (λ b. if b then None else first_small (root p t) TRIES 0 (tree_weight p t))
     (sym (le-ltb (2 ^ 15) (length (groups_of t)) (omega (arith, length-tree p t e))))
 
 pub arranged_sums : (p : Problem) (ss : List Step) → arranged p ≡ Some ss
-    → first_small (root_made p ss) 63 0 (steps_weight p ss) ≡ sums_over p (tree p)
+    → first_small (root_made p ss) TRIES 0 (steps_weight p ss) ≡ sums_over p (tree p)
 arranged_sums p ss =
     elim (nat_le (length (groups p)) (2 ^ 15)) as (λ b. nat_le (length (groups p)) (2 ^ 15) ≡ b
     → (if b then Some (steps_to (tree p)) else None) ≡ Some ss
-    → first_small (root_made p ss) 63 0 (steps_weight p ss) ≡ sums_over p (tree p)) [
+    → first_small (root_made p ss) TRIES 0 (steps_weight p ss) ≡ sums_over p (tree p)) [
       | true ↦ λ f e.
-          ap (λ zs. first_small (root_made p zs) 63 0 (steps_weight p zs))
+          ap (λ zs. first_small (root_made p zs) TRIES 0 (steps_weight p zs))
           (sym (inner (steps_to (tree p)) e))
           ∙ over_steps p (tree p) refl (leb-true (length (groups p)) (2 ^ 15) f)
       | false ↦ λ f e. absurd (none e)
@@ -54,7 +55,7 @@ too_many_groups : (p : Problem) (o : Option Tree) → tree p ≡ o → 2 ^ 15 < 
     → None ≡ sums_over p o
 too_many_groups p None e many = absurd (omega (arith, no_groups p e))
 too_many_groups p (Some t) e many =
-    ap (λ b. if b then None else first_small (root p t) 63 0 (tree_weight p t))
+    ap (λ b. if b then None else first_small (root p t) TRIES 0 (tree_weight p t))
     (sym (lt-ltb (2 ^ 15) (length (groups_of t)) (omega (arith, length-tree p t e))))
 
 pub arranged_none : (p : Problem) → arranged p ≡ None → None ≡ sums_over p (tree p)

@@ -16,6 +16,7 @@ use Rattle.cnf.proofs.Laws.{all_append, all_parts}
 use Rattle.sums_tree.specs.Tree.{Tree, groups_of}
 use Rattle.sums_tree.specs.Groups.{placed}
 use Rattle.sums_tree.specs.Arranging.{IsArrangement}
+use Rattle.sums.specs.declared.summing.TheConstants.{TRIES}
 use Rattle.sums.specs.Sums.{AtLeast, Node, root, comparator, at_most, relaxed}
 use Rattle.sums.specs.Sums.{relaxed_from, IsArrangedBy, AreSmall, no, not_number, none_above, ones}
 use Rattle.sums.specs.Sums.{with_digit, led, digit_clauses, low_clauses}
@@ -227,7 +228,7 @@ record IsRoot (p : Problem) (tree : Tree) (n : Node) : Type 0 where
   below : digits ≤ 62
 
 first_is : (p : Problem) (tree : Tree) (n : Node) (steps d left : ℕ)
-    → d + steps ≤ 63 → first_small (root p tree) steps d left ≡ Some n → IsRoot p tree n
+    → d + steps ≤ TRIES → first_small (root p tree) steps d left ≡ Some n → IsRoot p tree n
 unfolding first_small
 first_is p tree n zero d left le = λ e. absurd (none e)
   where
@@ -265,9 +266,9 @@ over_is : (p : Problem) (tree : Tree) (n : Node) → sums_over p (Some tree) ≡
     → IsRoot p tree n
 over_is p tree n =
     elim (nat_lt (2 ^ 15) (length (groups_of tree))) as (λ b. (if b then None
-    else first_small (root p tree) 63 0 (tree_weight p tree)) ≡ Some n → IsRoot p tree n) [
+    else first_small (root p tree) TRIES 0 (tree_weight p tree)) ≡ Some n → IsRoot p tree n) [
       | true ↦ λ e. absurd (none e)
-      | false ↦ first_is p tree n 63 0 (tree_weight p tree) (omega arith)
+      | false ↦ first_is p tree n TRIES 0 (tree_weight p tree) (omega arith)
     ]
   where
     none : None ≡ Some n → ⊥

@@ -10,9 +10,10 @@ use Rattle.cnf.specs.Clause.{Satisfies}
 use Rattle.cnf.specs.Problem.{Problem}
 use Rattle.cnf.proofs.Laws.{all_parts}
 use Rattle.sums_tree.specs.Tree.{Tree, Leaf, Fork}
+use Rattle.sums.specs.declared.stepping.TheConstants.{MOST_BELOW}
 use Rattle.sums.specs.Sums.{AtLeast, join, Own, Both, own_list, split, with_carries}
 use Rattle.sums.specs.Sums.{members, counted, lowest, without_lowest, digits_of, rest_of}
-use Rattle.sums.specs.Sums.{both_digits, most_below, node}
+use Rattle.sums.specs.Sums.{both_digits, node}
 use Rattle.sums.proofs.Worth.{Hold, worth, IsOrdered, join_worth, least, IsOrderedOwn}
 use Rattle.sums.proofs.Worth.{own_list_worth, split_worth}
 use Rattle.sums.proofs.Shape.{IsCounting, Counts, room, own_counts, join_counts, split_counts}
@@ -159,18 +160,18 @@ node_enough problem p most (Leaf group) v t k =
       top = r.top;
     }
 node_enough problem p most (Fork left right) v t k =
-    let l = node problem p most_below left v in
-    let r = node problem p most_below right l.fresh in
+    let l = node problem p MOST_BELOW left v in
+    let r = node problem p MOST_BELOW right l.fresh in
     let own = with_carries most r.fresh [] (both_digits l.digits r.digits) (Both l.top r.top) in
-    let ls = node_shaped problem p most_below left v in
-    let rs = node_shaped problem p most_below right l.fresh in
+    let ls = node_shaped problem p MOST_BELOW left v in
+    let rs = node_shaped problem p MOST_BELOW right l.fresh in
     let k2 = all_parts (Satisfies t) (l.clauses ++ r.clauses) own.clauses k in
     let k1 = all_parts (Satisfies t) l.clauses r.clauses k2.0 in
-    let first = node_enough problem p most_below left v t k1.0 in
-    let second = node_enough problem p most_below right l.fresh t k1.1 in
+    let first = node_enough problem p MOST_BELOW left v t k1.0 in
+    let second = node_enough problem p MOST_BELOW right l.fresh t k1.1 in
     let all =
     carries_enough t most r.fresh [] (both_digits l.digits r.digits) (Both l.top r.top)
-    (record { numbers = tt; many = refl }) (both_counting most_below l.digits r.digits ls.digits
+    (record { numbers = tt; many = refl }) (both_counting MOST_BELOW l.digits r.digits ls.digits
     rs.digits) (both_ordered t l.digits r.digits first.ordered second.ordered)
     (first.top, second.top) tt k2.1 in
     let least =

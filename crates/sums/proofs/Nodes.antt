@@ -13,9 +13,10 @@ use Rattle.cnf.specs.Clause.{Satisfies}
 use Rattle.cnf.specs.Problem.{Problem}
 use Rattle.cnf.proofs.Laws.{all_append, all_weaker}
 use Rattle.sums_tree.specs.Tree.{Tree, Leaf, Fork}
+use Rattle.sums.specs.declared.stepping.TheConstants.{MOST_BELOW}
 use Rattle.sums.specs.Sums.{AtLeast, join, Own, Both, own_list, split, Node, with_carries}
 use Rattle.sums.specs.Sums.{members, counted, lowest, without_lowest, digits_of, rest_of}
-use Rattle.sums.specs.Sums.{both_digits, most_below, node}
+use Rattle.sums.specs.Sums.{both_digits, node}
 use Rattle.sums.proofs.Worth.{Hold}
 use Rattle.sums.proofs.Shape.{Counts, IsCounting, room, room_of, own_counts, join_counts}
 use Rattle.sums.proofs.Shape.{split_counts, digits_counting, rest_rising, both_counting}
@@ -251,22 +252,22 @@ node_extends problem p most (Leaf group) w v s t le same b once =
     subst (λ n. NodeExtends v t n (node problem p most (Leaf group) v))
     (omega (arith, given_same w s t xs b same)) r
 node_extends problem p most (Fork left right) w v s t le same b once =
-    let l = node problem p most_below left v in
-    let r = node problem p most_below right l.fresh in
+    let l = node problem p MOST_BELOW left v in
+    let r = node problem p MOST_BELOW right l.fresh in
     let own = with_carries most r.fresh [] (both_digits l.digits r.digits) (Both l.top r.top) in
-    let lg = node_grows problem p most_below left v in
-    let rg = node_grows problem p most_below right l.fresh in
-    let ls = node_shaped problem p most_below left v in
-    let rs = node_shaped problem p most_below right l.fresh in
-    let first = node_extends problem p most_below left w v s t le same b.0 once.0 in
+    let lg = node_grows problem p MOST_BELOW left v in
+    let rg = node_grows problem p MOST_BELOW right l.fresh in
+    let ls = node_shaped problem p MOST_BELOW left v in
+    let rs = node_shaped problem p MOST_BELOW right l.fresh in
+    let first = node_extends problem p MOST_BELOW left w v s t le same b.0 once.0 in
     let second =
-    node_extends problem p most_below right w l.fresh s first.to (omega (arith, lg.up))
+    node_extends problem p MOST_BELOW right w l.fresh s first.to (omega (arith, lg.up))
     (same_on w v s t first.to le same first.same) b.1 once.1 in
     let lf =
-    node_of (Below l.fresh) problem p most_below left v
+    node_of (Below l.fresh) problem p MOST_BELOW left v
     (tree_below problem w l.fresh left (omega (arith, lg.up)) b.0) (λ x le lt. lt) in
     let rf =
-    node_of (Below r.fresh) problem p most_below right l.fresh
+    node_of (Below r.fresh) problem p MOST_BELOW right l.fresh
     (tree_below problem w r.fresh right (omega (arith, lg.up, rg.up)) b.1) (λ x le lt. lt) in
     let up = rg.up in
     let n = tree_given problem s left in
@@ -274,7 +275,7 @@ node_extends problem p most (Fork left right) w v s t le same b once =
     let third =
     carries_extend most r.fresh second.to [] 0 (both_digits l.digits r.digits) (Both l.top r.top)
     (n + m) tt tt (omega arith) (record { numbers = tt; many = refl })
-    (both_counting most_below l.digits r.digits ls.digits rs.digits)
+    (both_counting MOST_BELOW l.digits r.digits ls.digits rs.digits)
     (both_of (Below r.fresh) l.digits r.digits
     (all_weaker (ListOf (Below l.fresh)) (ListOf (Below r.fresh)) l.digits
     (λ xs h. list_below l.fresh r.fresh xs up h) lf.digits) rf.digits)

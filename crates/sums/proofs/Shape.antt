@@ -9,10 +9,11 @@ use Rattle.cnf.specs.Numbers.{RisesFrom}
 use Rattle.cnf.specs.Problem.{Problem}
 use Rattle.cnf.proofs.Laws.{all_append, all_weaker}
 use Rattle.sums_tree.specs.Tree.{Tree, Leaf, Fork}
+use Rattle.sums.specs.declared.stepping.TheConstants.{MOST_BELOW}
 use Rattle.sums.specs.Sums.{AtLeast, Split, rising, named_from, numbers, sums_with, joined, join}
 use Rattle.sums.specs.Sums.{group_list, Own, Members, Both, own_list, halves, split}
 use Rattle.sums.specs.Sums.{with_carries, Node, members, counted, lowest, without_lowest, digits_of}
-use Rattle.sums.specs.Sums.{rest_of, both_digits, most_below, node, odd_clauses}
+use Rattle.sums.specs.Sums.{rest_of, both_digits, node, odd_clauses}
 use Rattle.sums.proofs.Numbers.{has, rising_has, rising_rises, rising_all}
 use Rattle.sums.proofs.Numbers.{CountsFrom, counts_all, counts_has, counts_rises, counts_from}
 use Rattle.sums.proofs.Numbers.{rises_all, numbers-named, length-named, length-numbers, sums_all}
@@ -304,13 +305,13 @@ node_shaped problem p most (Leaf group) v =
     (carries_shaped most v [] (digits_of p xs) (rest_of p xs) (record { numbers = tt; many = refl })
     (digits_counting p xs) (rest_rising p xs))
 node_shaped problem p most (Fork left right) v =
-    let l = node problem p most_below left v in
-    let r = node problem p most_below right l.fresh in
-    let ls = node_shaped problem p most_below left v in
-    let rs = node_shaped problem p most_below right l.fresh in
+    let l = node problem p MOST_BELOW left v in
+    let r = node problem p MOST_BELOW right l.fresh in
+    let ls = node_shaped problem p MOST_BELOW left v in
+    let rs = node_shaped problem p MOST_BELOW right l.fresh in
     let own =
     carries_shaped most r.fresh [] (both_digits l.digits r.digits) (Both l.top r.top)
-    (record { numbers = tt; many = refl }) (both_counting most_below l.digits r.digits ls.digits
+    (record { numbers = tt; many = refl }) (both_counting MOST_BELOW l.digits r.digits ls.digits
     rs.digits) (ls.top, rs.top) in
     record {
       digits = own.digits;

@@ -6,9 +6,10 @@ use Rattle.std.proofs.lemmas.List.{length-append}
 use Rattle.cnf.specs.Literal.{Literal}
 use Rattle.cnf.specs.Problem.{Problem}
 use Rattle.sums_tree.specs.Tree.{Tree, Leaf, Fork}
+use Rattle.sums.specs.declared.stepping.TheConstants.{MOST_BELOW}
 use Rattle.sums.specs.Sums.{AtLeast, Own, Members, Both, Split, Node, no, own_list, join}
 use Rattle.sums.specs.Sums.{odd_clauses, halves, halved, split, with_carries}
-use Rattle.sums.specs.Sums.{members, rest_of, without_lowest, digits_of, both_digits, most_below}
+use Rattle.sums.specs.Sums.{members, rest_of, without_lowest, digits_of, both_digits}
 use Rattle.sums.specs.Sums.{node, comparator, digit_clauses, low_clauses, none_above, not_number}
 use Rattle.sums.specs.Sums.{with_digit, ones, led}
 use Rattle.sums.proofs.Variables.{join_grows, own_grows}
@@ -93,11 +94,11 @@ top_short problem p most (Leaf group) v =
     let xs = members problem group in
     carries_short most v 1 [] (digits_of p xs) (rest_of p xs) (omega arith) (rest_short p xs)
 top_short problem p most (Fork left right) v =
-    let l = node problem p most_below left v in
-    let r = node problem p most_below right l.fresh in
+    let l = node problem p MOST_BELOW left v in
+    let r = node problem p MOST_BELOW right l.fresh in
     let own = with_carries most r.fresh [] (both_digits l.digits r.digits) (Both l.top r.top) in
-    let a : length l.top ≤ 1 + length l.clauses = top_short problem p most_below left v in
-    let b : length r.top ≤ 1 + length r.clauses = top_short problem p most_below right l.fresh in
+    let a : length l.top ≤ 1 + length l.clauses = top_short problem p MOST_BELOW left v in
+    let b : length r.top ≤ 1 + length r.clauses = top_short problem p MOST_BELOW right l.fresh in
     omega (
       arith,
       carries_short most r.fresh (1 + length l.clauses + length r.clauses) []

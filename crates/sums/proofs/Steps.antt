@@ -13,11 +13,13 @@ use Rattle.cnf.specs.Problem.{Problem}
 use Rattle.sums_tree.specs.Tree.{Tree, Leaf, Fork, Step, Take, Join, steps_of, groups_of}
 use Rattle.sums_tree.specs.declared.arrangement.TreeStep as made
 use Rattle.sums_tree.specs.Arrangement.{step_of}
+use Rattle.sums.specs.declared.summing.TheConstants.{TRIES}
+use Rattle.sums.specs.declared.stepping.TheConstants.{MOST_BELOW}
 use Rattle.sums.specs.Halts.{IsTooMany}
 use Rattle.sums.specs.declared.halts.Halt.{Halt}
 use Rattle.sums.specs.declared.halts.Halt.TheVariants.{TooMany, Memory}
 use Rattle.sums.proofs.Shape.{digits_length}
-use Rattle.sums.specs.Sums.{AtLeast, Node, Own, Both, members, most_below, node, root}
+use Rattle.sums.specs.Sums.{AtLeast, Node, Own, Both, members, node, root}
 use Rattle.sums.specs.Sums.{with_carries, digits_of, rest_of, both_digits, own_list, join, split}
 use Rattle.sums.specs.Sums.{first_small, tree_weight}
 use Rattle.sums.specs.Parts.{group_node, joined_node}
@@ -32,7 +34,7 @@ in_turn l r more =
     append_assoc (steps_of l ++ steps_of r) (Join ∷ []) more
     ∙ append_assoc (steps_of l) (steps_of r) (Join ∷ more)
 
-some_before : (t : Tree) (more : List Step) → most_before (steps_of t ++ more) ≡ most_below
+some_before : (t : Tree) (more : List Step) → most_before (steps_of t ++ more) ≡ MOST_BELOW
 some_before (Leaf g) more = refl
 some_before (Fork l r) more =
     ap most_before (in_turn l r more) ∙ some_before l (steps_of r ++ (Join ∷ more))
@@ -45,14 +47,14 @@ pub steps_then : (p : Problem) (d m : ℕ) (t : Tree) (more : List Step) (s : Op
 steps_then p d m (Leaf g) more s e =
     ap (λ k. steps_made p d more (step_made p d k (Take g) s)) e
 steps_then p d m (Fork l r) more s e =
-    let left = node p d most_below l s.fresh in
-    let right = node p d most_below r left.fresh in
+    let left = node p d MOST_BELOW l s.fresh in
+    let right = node p d MOST_BELOW r left.fresh in
     let s1 = with_node s s.parts left in
     let s2 = with_node s1 s1.parts right in
     let own = joined_node m left.digits left.top right.digits right.top right.fresh in
     ap (λ z. steps_made p d z s) (in_turn l r more)
-    ∙ steps_then p d most_below l (steps_of r ++ (Join ∷ more)) s (some_before r (Join ∷ more))
-    ∙ steps_then p d most_below r (Join ∷ more) s1 refl
+    ∙ steps_then p d MOST_BELOW l (steps_of r ++ (Join ∷ more)) s (some_before r (Join ∷ more))
+    ∙ steps_then p d MOST_BELOW r (Join ∷ more) s1 refl
     ∙ ap (λ k. steps_made p d more (step_made p d k Join s2)) e
     ∙ ap (λ z. steps_made p d more (record {
       parts = record { digits = own.digits; top = own.top } ∷ s.parts;
@@ -190,11 +192,11 @@ first_same f g (suc steps) d left same =
     else if left == 0 then None else first_same f g steps (d + 1) (left / 2) same i)
 
 pub first_by_steps : (p : Problem) (t : Tree)
-    → first_small (root_made p (steps_of t)) 63 0 (steps_weight p (steps_of t))
-    ≡ first_small (root p t) 63 0 (tree_weight p t)
+    → first_small (root_made p (steps_of t)) TRIES 0 (steps_weight p (steps_of t))
+    ≡ first_small (root p t) TRIES 0 (tree_weight p t)
 first_by_steps p t =
-    ap (first_small (root_made p (steps_of t)) 63 0) (weight_by_steps p t)
-    ∙ first_same (root_made p (steps_of t)) (root p t) 63 0 (tree_weight p t) (root_by_steps p t)
+    ap (first_small (root_made p (steps_of t)) TRIES 0) (weight_by_steps p t)
+    ∙ first_same (root_made p (steps_of t)) (root p t) TRIES 0 (tree_weight p t) (root_by_steps p t)
 
 -- what a halt says
 pub too_many_is : (h : Halt) (P : Type 0) → h ≡ TooMany → IsTooMany h P → P
@@ -282,7 +284,7 @@ module _ (p : Problem) (d : ℕ) (ss : List made.TreeStep) (i most : ℕ) (s : O
         ap length (finished_clauses (steps_made p d (map step_of ss) (begun p))),
       )
 
-pub most_more : (ss : List made.TreeStep) (k m : ℕ) → k < length ss → m ≡ most_below
+pub most_more : (ss : List made.TreeStep) (k m : ℕ) → k < length ss → m ≡ MOST_BELOW
     → m ≡ most_before (map step_of (drop k ss))
 most_more [] k m lt e = absurd (omega arith)
 most_more (x ∷ ss) zero m lt e = e

@@ -11,12 +11,13 @@ use Rattle.cnf.specs.Literal.{Literal}
 use Rattle.cnf.specs.Problem.{Problem}
 use Rattle.cnf.proofs.Laws.{all_append, all_parts, all_weaker}
 use Rattle.sums_tree.specs.Tree.{Tree, Leaf, Fork}
+use Rattle.sums.specs.declared.stepping.TheConstants.{MOST_BELOW}
 use Rattle.sums.specs.Sums.{AtLeast, Split, no, rising, named_from, literal_of, own_clauses}
 use Rattle.sums.specs.Sums.{order_after, order_clauses, numbers, sums_with, sum_clauses, joined}
 use Rattle.sums.specs.Sums.{join}
 use Rattle.sums.specs.Sums.{grouped, group_list, Own, Members, Both, own_list, odd_clauses, halves}
 use Rattle.sums.specs.Sums.{split, Node, with_carries, members, counted, lowest, without_lowest}
-use Rattle.sums.specs.Sums.{digits_of, rest_of, both_digits, most_below, node}
+use Rattle.sums.specs.Sums.{digits_of, rest_of, both_digits, node}
 use Rattle.sums.specs.Making.{Fits}
 use Rattle.sums.specs.declared.root.TheConstants.{MOST_CLAUSES}
 use Rattle.sums.proofs.Numbers.{has, rising_length, length-named, length-numbers}
@@ -167,12 +168,12 @@ pub node_grows : (problem : Problem) (p most : ℕ) (t : Tree) (v : ℕ)
 node_grows problem p most (Leaf group) v =
     carries_grow most v [] (digits_of p (members problem group)) (rest_of p (members problem group))
 node_grows problem p most (Fork left right) v =
-    let l = node problem p most_below left v in
-    let r = node problem p most_below right l.fresh in
+    let l = node problem p MOST_BELOW left v in
+    let r = node problem p MOST_BELOW right l.fresh in
     let own = with_carries most r.fresh [] (both_digits l.digits r.digits) (Both l.top r.top) in
     grows_on v r.fresh own.fresh (l.clauses ++ r.clauses) own.clauses
-    (grows_on v l.fresh r.fresh l.clauses r.clauses (node_grows problem p most_below left v)
-    (node_grows problem p most_below right l.fresh))
+    (grows_on v l.fresh r.fresh l.clauses r.clauses (node_grows problem p MOST_BELOW left v)
+    (node_grows problem p MOST_BELOW right l.fresh))
     (carries_grow most r.fresh [] (both_digits l.digits r.digits) (Both l.top r.top))
 
 -- what holds of the variables of the members and of the new ones holds of all
@@ -422,17 +423,17 @@ module _ (Q : ℕ → Type 0) where
       carries_of most v [] (digits_of p xs) (rest_of p xs) tt (digits_of_of p xs h)
       (rest_of_of p xs h) f
   node_of problem p most (Fork left right) v h f =
-      let l = node problem p most_below left v in
-      let r = node problem p most_below right l.fresh in
+      let l = node problem p MOST_BELOW left v in
+      let r = node problem p MOST_BELOW right l.fresh in
       let own = with_carries most r.fresh [] (both_digits l.digits r.digits) (Both l.top r.top) in
-      let lg = node_grows problem p most_below left v in
-      let rg = node_grows problem p most_below right l.fresh in
+      let lg = node_grows problem p MOST_BELOW left v in
+      let rg = node_grows problem p MOST_BELOW right l.fresh in
       let og = carries_grow most r.fresh [] (both_digits l.digits r.digits) (Both l.top r.top) in
       let first =
-      node_of problem p most_below left v h.0
+      node_of problem p MOST_BELOW left v h.0
       (λ x le lt. f x le (omega (arith, rg.up, og.up))) in
       let second =
-      node_of problem p most_below right l.fresh h.1
+      node_of problem p MOST_BELOW right l.fresh h.1
       (λ x le lt. f x (omega (arith, lg.up)) (omega (arith, og.up))) in
       let third =
       carries_of most r.fresh [] (both_digits l.digits r.digits) (Both l.top r.top) tt

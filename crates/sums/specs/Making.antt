@@ -1,5 +1,5 @@
 -- What is known of a builder before and after it makes a list, and of what it answers.
-use Rattle.std.specs.Prelude.{◌≡◌, ℕ, ◌+◌, ◌^◌, ◌<◌, ◌≤◌, List, ◌++◌, length, Result, IfOk, OnOk}
+use Rattle.std.specs.Prelude.{◌≡◌, ℕ, ◌+◌, ◌<◌, ◌≤◌, List, ◌++◌, length, Result, IfOk, OnOk}
 use Rattle.std.specs.declared.vec.Vec.{Vec}
 use Rattle.std.specs.declared.alloc.Global.{Global}
 use Rattle.cnf.specs.Literal.{Literal}
@@ -24,7 +24,7 @@ abbrev pub Adds
 Adds old new result clauses fresh =
     OnOk result (new.clauses ≡ old.clauses ++ clauses)
     × OnOk result (new.fresh ≡ fresh)
-    × IfTooMany result (2 ^ 17 < length old.clauses + length clauses)
+    × IfTooMany result (MOST_CLAUSES < length old.clauses + length clauses)
     × OnOk result (Fits new.clauses new.fresh)
 
 -- the answer is the list that was to be made

@@ -4,8 +4,9 @@ use Rattle.cnf.specs.Literal.{Literal}
 use Rattle.cnf.specs.Problem.{Problem}
 use Rattle.cnf.specs.declared.limits.TheConstants.{NUMBER_LIMIT}
 use Rattle.sums_tree.specs.Tree.{Step, Take, Join}
-use Rattle.sums.specs.Sums.{AtLeast, Node, members, most_below}
+use Rattle.sums.specs.Sums.{AtLeast, Node, members}
 use Rattle.sums.specs.Parts.{group_node, joined_node}
+use Rattle.sums.specs.declared.stepping.TheConstants.{MOST_BELOW}
 use Rattle.sums.specs.declared.taking.Lists.{Lists}
 
 -- the lists of a part of the tree
@@ -46,7 +47,7 @@ step_made problem p most Join s = last_joined most s s.parts
 -- how long a digit's list may be, at the step before these: the last step makes the root
 abbrev pub most_before : List Step → ℕ
 most_before [] = 0
-most_before (step ∷ more) = most_below
+most_before (step ∷ more) = MOST_BELOW
 
 abbrev pub steps_made : Problem → ℕ → List Step → OpenParts → OpenParts
 steps_made problem p [] s = s

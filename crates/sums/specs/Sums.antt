@@ -1,5 +1,6 @@
--- Sums of the weights of the soft clauses that are given up, in mixed form: the lowest digits of a
--- sum one by one and the rest at once, over a tree of groups of soft clauses.
+-- Sums of the weights of the soft clauses that are given up, by a generalized totalizer (Joshi,
+-- Martins and Manquinho 2015) in mixed radix: the lowest binary digits of a sum one by one and the
+-- rest at once, over a tree of at-most-one groups of soft clauses.
 use Rattle.std.specs.Prelude.{◌≡◌, ℕ, zero, suc, ◌+◌, ◌/◌, ◌%◌, ◌^◌, ◌<◌, ◌≤◌}
 use Rattle.std.specs.Prelude.{List, [], ◌∷◌, ◌++◌, length, map, filter, sum_by, Option, Some, None}
 use Rattle.std.specs.Prelude.{slice_index, ◌==◌, nat_lt, nat_le, if◌then◌else◌, All}
@@ -12,6 +13,8 @@ use Rattle.sums_tree.specs.Tree.{Tree, Leaf, Fork, groups_of}
 use Rattle.sums_tree.specs.Groups.{placed}
 use Rattle.sums_tree.specs.Arranging.{IsArrangement}
 use Rattle.sums.specs.declared.root.TheConstants.{MOST_CLAUSES}
+use Rattle.sums.specs.declared.stepping.TheConstants.{MOST_BELOW}
+use Rattle.sums.specs.declared.summing.TheConstants.{TRIES}
 
 -- the variable is true where a sum is at least the number
 pub record AtLeast : Type 0 where
@@ -78,7 +81,7 @@ abbrev pub sum_clauses : List AtLeast → List AtLeast → List AtLeast → List
 sum_clauses list xs ys =
     flat_map (λ x. map (λ y. no x ∷ no y ∷ literal_of list (x.number + y.number) ∷ []) ys) xs
 
--- two lists that are not empty: a new variable for each sum
+-- a node of a generalized totalizer, of two lists that are not empty: a new variable for each sum
 abbrev pub joined : ℕ → List AtLeast → List AtLeast → Made
 joined v xs ys =
     let list = named_from v (rising (numbers xs ++ numbers ys ++ sums_with xs ys)) in
@@ -220,17 +223,14 @@ both_digits [] ys = []
 both_digits (x ∷ xs) [] = []
 both_digits (x ∷ xs) (y ∷ ys) = Both x y ∷ both_digits xs ys
 
--- so long may a digit's list be at a node below the root
-abbrev pub most_below : ℕ
-most_below = 32
-
--- the sums at a node with p digits, left part first, then right part, then the node itself
+-- the sums at a node with p digits, left part first, then right part, then the node itself; its own
+-- digits' lists may be as long as `most`, those of nodes below the root as MOST_BELOW
 abbrev pub node : Problem → ℕ → ℕ → Tree → ℕ → Node
 node problem p most (Leaf group) v =
     with_carries most v [] (digits_of p (members problem group)) (rest_of p (members problem group))
 node problem p most (Fork left right) v =
-    let l = node problem p most_below left v in
-    let r = node problem p most_below right l.fresh in
+    let l = node problem p MOST_BELOW left v in
+    let r = node problem p MOST_BELOW right l.fresh in
     let own = with_carries most r.fresh [] (both_digits l.digits r.digits) (Both l.top r.top) in
     record {
       digits = own.digits;
@@ -265,7 +265,7 @@ sums_over problem None = Some (record {
 })
 sums_over problem (Some t) =
     if nat_lt GROUP_LIMIT (length (groups_of t)) then None
-    else first_small (root problem t) 63 0 (tree_weight problem t)
+    else first_small (root problem t) TRIES 0 (tree_weight problem t)
 
 -- -r for a digit, before what the digits above it say; None where one of them has no list
 abbrev pub with_digit : List AtLeast → Option (List Literal) → Option (List Literal)

@@ -1,6 +1,7 @@
 // Lists that are made of others. Their clauses come behind those that are there, unless there would
 // be too many: then nothing is begun.
-ghost use Rattle.std.specs.Prelude.{◌+◌, ◌<◌, ◌≤◌, ◌^◌, ◌↔◌, length, IsTrue};
+ghost use Rattle.std.specs.Prelude.{◌+◌, ◌<◌, ◌≤◌, ◌↔◌, length, IsTrue};
+ghost use Rattle.sums.specs.declared.root.TheConstants.{MOST_CLAUSES};
 ghost use Rattle.sums.specs.Making.{Fits, Makes};
 ghost use Rattle.sums.specs.Reach.{CanAdd};
 ghost use Rattle.sums.specs.Sums.{grouped, group_list, joined, join};
@@ -55,7 +56,7 @@ impl Builder {
         Ok(list.into_list())
     }
 
-    /// The list of the sums of two lists.
+    /// The list of the sums of two lists: a node of a generalized totalizer.
     pub fn join(&mut self, left: Vec<AtLeast>, right: Vec<AtLeast>) -> Result<Vec<AtLeast>, Halt>
         requires fits { Fits self.old.clauses self.old.fresh }
         requires sums { CanAdd left.items right.items }
@@ -105,7 +106,7 @@ impl Builder {
 
     /// Whether there is room for so many clauses.
     pub fn has_room(&self, more: usize) -> bool
-        ensures { IsTrue result ↔ length self.now.clauses + more ≤ 2 ^ 17 }
+        ensures { IsTrue result ↔ length self.now.clauses + more ≤ MOST_CLAUSES }
     {
         self.clauses.len() <= MOST_CLAUSES && more <= MOST_CLAUSES - self.clauses.len()
     }

@@ -1,4 +1,5 @@
-// A digit's list that is too long becomes its odd one and its half.
+// A digit's list that is too long becomes its odd one and its half, the remainder and the quotient
+// by 2.
 ghost use Rattle.std.specs.Prelude.{◌≡◌, ◌<◌, ◌++◌, [], ◌∷◌, length, OnOk, IfOk};
 ghost use Rattle.sums.specs.Making.{Fits, MakesSplit};
 ghost use Rattle.sums.specs.Sums.{halved, halves, odd_clauses, split};

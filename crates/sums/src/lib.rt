@@ -1,5 +1,7 @@
-//! Sums of the weights of soft clauses that are given up, over a tree of groups of them: clauses
-//! and lists of variables that say that a sum is at least a number.
+//! Sums of the weights of soft clauses that are given up, by a generalized totalizer (Joshi,
+//! Martins and Manquinho, "Generalized Totalizer Encoding for Pseudo-Boolean Constraints", 2015) in
+//! mixed radix, over a tree of at-most-one groups of them: clauses and lists of variables that say
+//! that a sum is at least a number.
 #![tactic(auto)]
 
 mod builder;

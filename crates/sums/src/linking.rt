@@ -1,4 +1,4 @@
-// Clauses that link a new list to those of which it is made.
+// The clauses of a generalized totalizer, which link a new list to those of which it is made.
 ghost use Rattle.std.specs.Prelude.{◌≡◌, ◌+◌, ◌<◌, ◌^◌, [], ◌∷◌, ◌++◌, map, All, Contains, OnOk};
 ghost use Rattle.sums.specs.Sums.{literal_of, no, numbers, order_clauses, own_clauses, sum_clauses};
 

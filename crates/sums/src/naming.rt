@@ -1,5 +1,5 @@
 // The numbers of a new list: each once, by rising size, with a new variable each.
-ghost use Rattle.std.specs.Prelude.{◌≡◌, ℕ, ◌+◌, ◌<◌, ◌≤◌, ◌^◌, ◌++◌, map, length, All, Contains};
+ghost use Rattle.std.specs.Prelude.{◌≡◌, ◌+◌, ◌<◌, ◌≤◌, ◌^◌, ◌++◌, map, length, All, Contains};
 ghost use Rattle.std.specs.Prelude.{OnOk, IfOk};
 ghost use Rattle.cnf.specs.declared.limits.TheConstants.{FORMULA_VARIABLE_LIMIT};
 ghost use Rattle.sums.specs.Sums.{literal_of, named_from, numbers, rising, sums_with};

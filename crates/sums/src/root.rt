@@ -1,4 +1,4 @@
-// The sums over the whole tree, as callers see them.
+// The sums over the whole tree, as callers see them: the outputs of a generalized totalizer.
 ghost use Rattle.std.specs.Prelude.{◌≡◌, ◌<◌, length};
 
 use crate::lists::AtLeast;

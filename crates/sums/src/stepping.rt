@@ -1,6 +1,7 @@
 // The sums along a tree, step by step: the lists of each node from those of its parts.
 ghost use Rattle.std.specs.Prelude.{◌≡◌, ◌+◌, ◌<◌, ◌≤◌, ◌^◌, [], ◌∷◌, ◌++◌, length, map, All};
 ghost use Rattle.std.specs.Prelude.{OnOk, IfOk};
+ghost use Rattle.sums.specs.declared.root.TheConstants.{MOST_CLAUSES};
 ghost use Rattle.cnf.specs.Instance.{IsInstance};
 ghost use Rattle.sums_tree.specs.Arrangement.{step_of};
 ghost use Rattle.sums.specs.Halts.{IfTooMany};
@@ -80,7 +81,7 @@ impl OpenParts {
         requires within { IsWithin (step_weight instance.now (step_of step.now)) self.old }
         ensures ok { OnOk result (self.new
             ≡ step_made instance.now digits most (step_of step.now) self.old) }
-        ensures many { IfTooMany result (2 ^ 17
+        ensures many { IfTooMany result (MOST_CLAUSES
             < length (step_made instance.now digits most (step_of step.now) self.old).clauses) }
         ensures fits { OnOk result (Fits self.new.clauses self.new.fresh) }
     {
@@ -129,9 +130,9 @@ pub(crate) fn root_of(instance: &Instance, steps: &[TreeStep], digits: u32) -> R
     requires few { digits < 64 }
     requires steps { AreSteps instance.now (map step_of steps.now) }
     ensures root { IfOk result (λ r. r ≡ root_made instance.now (map step_of steps.now) digits) }
-    ensures few { IfOk result (λ r. length r.clauses ≤ 2 ^ 17) }
+    ensures few { IfOk result (λ r. length r.clauses ≤ MOST_CLAUSES) }
     ensures many { IfTooMany result
-        (2 ^ 17 < length (root_made instance.now (map step_of steps.now) digits).clauses) }
+        (MOST_CLAUSES < length (root_made instance.now (map step_of steps.now) digits).clauses) }
     ensures limits { IsInstance instance.now }
 {
     let mut progress = OpenParts::of(instance);

@@ -3,6 +3,7 @@ ghost use Rattle.std.specs.Prelude.{◌≡◌, ℕ, map, IfOk, IfSome, OnSome};
 ghost use Rattle.cnf.specs.Instance.{IsInstance};
 ghost use Rattle.sums_tree.specs.Arranging.{tree};
 ghost use Rattle.sums_tree.specs.Arrangement.{step_of};
+ghost use Rattle.sums.specs.declared.summing.TheConstants.{TRIES};
 ghost use Rattle.sums.specs.Stepping.{root_made, steps_weight, AreSteps};
 ghost use Rattle.sums.specs.Sums.{first_small, sums_over, SumsSayCheaper, CoversLarger, AreSmall};
 
@@ -43,7 +44,7 @@ pub fn sums_of(instance: &Instance) -> Result<Option<Root>, AllocError>
 fn first_root(instance: &Instance, steps: &[TreeStep]) -> Result<Option<Root>, AllocError>
     requires { AreSteps instance.now (map step_of steps.now) }
     ensures root { IfOk result (λ r. r
-        ≡ first_small (root_made instance.now (map step_of steps.now)) 63 0
+        ≡ first_small (root_made instance.now (map step_of steps.now)) TRIES 0
         (steps_weight instance.now (map step_of steps.now))) }
     ensures limits { IfOk result (λ r. OnSome r (IsInstance instance.now)) }
 {

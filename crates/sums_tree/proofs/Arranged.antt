@@ -14,10 +14,11 @@ use Rattle.cnf.specs.Literal.{Assignment}
 use Rattle.cnf.specs.Clause.{clause_value, is_tautology, Satisfies}
 use Rattle.cnf.specs.Problem.{Problem, IsFeasible}
 use Rattle.cnf.proofs.Laws.{all_parts}
+use Rattle.sums_tree.specs.declared.nodes.TheConstants.{ROUNDS}
 use Rattle.sums_tree.specs.Tree.{Tree, groups_of}
 use Rattle.sums_tree.specs.Groups.{Placed, placed, binding, grouped, groups}
 use Rattle.sums_tree.specs.Connections.{connections}
-use Rattle.sums_tree.specs.Arranging.{Node, leaves_from, nodes, round_count, tree, is_false}
+use Rattle.sums_tree.specs.Arranging.{Node, leaves_from, nodes, tree, is_false}
 use Rattle.sums_tree.specs.Arranging.{IsArrangement}
 use Rattle.sums_tree.proofs.Grouping.{IsAt, all_of, false_in, HasOneFalse, grouped_all, grouped_one}
 use Rattle.sums_tree.proofs.Grouping.{placed_at, same_IsPermutation, places}
@@ -34,7 +35,7 @@ groups_once {X} f p t e =
     sym (trees-of f (nodes p))
     ∙ sym (one_tree-of f (length (nodes p)) (map (λ (x : Node). x.tree) (nodes p)) t e) in
     IsPermutation-trans _ _ _ (same_IsPermutation _ _ start)
-    (IsPermutation-trans _ _ _ (rounds-of f round_count 2 (connections p) first)
+    (IsPermutation-trans _ _ _ (rounds-of f ROUNDS 2 (connections p) first)
     (same_IsPermutation _ _ last))
 
 places-all : (gs : List (List Placed)) → flat_map (λ g. g) (map places gs) ≡ places (all_of gs)
@@ -126,7 +127,7 @@ length-tree p t e =
 nothing_of : (p : Problem) → nodes p ≡ [] → placed p ≡ []
 nothing_of p e =
     let first = leaves_from 0 (groups p) in
-    let moved = rounds-of (λ g. g) round_count 2 (connections p) first in
+    let moved = rounds-of (λ g. g) ROUNDS 2 (connections p) first in
     let none : length (flat_map (λ g. g) (groups p)) ≡ 0 =
     ap length (sym (leaves-of (λ g. g) 0 (groups p)))
     ∙ sym (length_permutation _ _ moved) ∙ ap (λ ns. length (of_nodes (λ g. g) ns)) e in

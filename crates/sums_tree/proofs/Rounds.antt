@@ -10,7 +10,7 @@ use Rattle.std.proofs.lemmas.List.{take_more, drop_more, drop_all, get_or-drop, 
 use Rattle.sums_tree.specs.Tree.{Take, Join}
 use Rattle.sums_tree.specs.Connections.{Connection}
 use Rattle.sums_tree.specs.Arranging.{Node, has_group, leaves_from, merged, round, rounds}
-use Rattle.sums_tree.specs.Arranging.{round_count}
+use Rattle.sums_tree.specs.declared.nodes.TheConstants.{ROUNDS}
 use Rattle.sums_tree.specs.Seen.{is_in}
 use Rattle.sums_tree.specs.Looking.{row_at}
 use Rattle.sums_tree.specs.Nodes.{label_of, AreLabels, Merges, step_at, head_of, IsNode, Rising}
@@ -59,27 +59,27 @@ round_goes R S T labels new_labels ks i k most n lt is low high old h goes = λ 
 pub record InRound (G S : List (List ℕ)) (ks : List Connection) (i most : ℕ) : Type 0 where
   pub nodes : List Node
   pub are : AreNodes G S nodes
-  pub rest : rounds (round_count - i) most ks nodes ≡ rounds round_count 2 ks (leaves_from 0 G)
+  pub rest : rounds (ROUNDS - i) most ks nodes ≡ rounds ROUNDS 2 ks (leaves_from 0 G)
 
 pub next_round : (G S T : List (List ℕ)) (ks : List Connection) (i most new n : ℕ)
-    → i < round_count → length G ≡ n → new ≡ most * 2 → InRound G S ks i most
+    → i < ROUNDS → length G ≡ n → new ≡ most * 2 → InRound G S ks i most
     → GoesRound S T ks most n → InRound G T ks (i + 1) new
 next_round G S T ks i most new n lt long twice at goes =
-    let left : round_count - i ≡ suc (round_count - (i + 1)) = omega arith in
+    let left : ROUNDS - i ≡ suc (ROUNDS - (i + 1)) = omega arith in
     let double : new ≡ 2 * most = omega (arith, twice) in
     record {
       nodes = round most ks at.nodes;
       are = goes G at.nodes long at.are;
       rest =
-          ap (λ m. rounds (round_count - (i + 1)) m ks (round most ks at.nodes)) double
+          ap (λ m. rounds (ROUNDS - (i + 1)) m ks (round most ks at.nodes)) double
           ∙ sym (ap (λ c. rounds c most ks at.nodes) left) ∙ at.rest;
     }
 
-pub all_rounds : (G S : List (List ℕ)) (ks : List Connection) (i most : ℕ) → i ≡ round_count
+pub all_rounds : (G S : List (List ℕ)) (ks : List Connection) (i most : ℕ) → i ≡ ROUNDS
     → InRound G S ks i most
-    → AreNodes G S (rounds round_count 2 ks (leaves_from 0 G))
+    → AreNodes G S (rounds ROUNDS 2 ks (leaves_from 0 G))
 all_rounds G S ks i most e at =
-    let none : round_count - i ≡ 0 = omega (arith, e) in
+    let none : ROUNDS - i ≡ 0 = omega (arith, e) in
     subst (AreNodes G S) (sym (ap (λ c. rounds c most ks at.nodes) none) ∙ at.rest) at.are
 
 -- at first each group is a node

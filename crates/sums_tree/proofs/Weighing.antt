@@ -11,6 +11,7 @@ use Rattle.cnf.specs.Literal.{Literal}
 use Rattle.cnf.specs.Clause.{is_tautology}
 use Rattle.cnf.specs.Problem.{Problem}
 use Rattle.cnf.specs.Instance.{IsInstance}
+use Rattle.sums_tree.specs.declared.connecting.TheConstants.{ROW_WEIGHT}
 use Rattle.sums_tree.specs.Groups.{Placed, binding, grouped}
 use Rattle.sums_tree.specs.Connections.{Connection, has_variable, groups_with, home, clause_row}
 use Rattle.sums_tree.specs.Connections.{variable_rows, rows_of, share, between, along}
@@ -20,18 +21,19 @@ abbrev pub total : List Connection → ℕ
 total ks = sum_by (λ k. k.weight) ks
 
 -- two neighbours, and a row of them
-between_weighs : (w g h : ℕ) → w ≤ 840 → total (between w g h) ≤ 840
+between_weighs : (w g h : ℕ) → w ≤ ROW_WEIGHT → total (between w g h) ≤ ROW_WEIGHT
 between_weighs w g h le =
     elim (g == h) as (λ b. total (if b then [] else record {
       low = min g h;
       high = max g h;
       weight = w;
-    } ∷ []) ≤ 840) [
+    } ∷ []) ≤ ROW_WEIGHT) [
       | true ↦ omega arith
       | false ↦ omega arith
     ]
 
-along_weighs : (w : ℕ) (row : List ℕ) → w ≤ 840 → total (along w row) ≤ 840 * length row
+along_weighs : (w : ℕ) (row : List ℕ) → w ≤ ROW_WEIGHT
+    → total (along w row) ≤ ROW_WEIGHT * length row
 along_weighs w [] le = omega arith
 along_weighs w (g ∷ []) le = omega arith
 along_weighs w (g ∷ h ∷ row) le =
@@ -42,15 +44,15 @@ along_weighs w (g ∷ h ∷ row) le =
       sum_by-append (λ (k : Connection). k.weight) (between w g h) (along w (h ∷ row)),
     )
 
-share_small : (m : ℕ) → share m ≤ 840
+share_small : (m : ℕ) → share m ≤ ROW_WEIGHT
 share_small m = by (m - 1)
   where
-    by : (k : ℕ) → max 1 (840 / k) ≤ 840
+    by : (k : ℕ) → max 1 (ROW_WEIGHT / k) ≤ ROW_WEIGHT
     by zero = omega arith
     by (suc k) = omega arith
 
 rows_weigh : (rows : List (List ℕ))
-    → total (flat_map row_connections rows) ≤ 840 * sum_by length rows
+    → total (flat_map row_connections rows) ≤ ROW_WEIGHT * sum_by length rows
 rows_weigh [] = omega arith
 rows_weigh (row ∷ rows) =
     omega (

@@ -6,6 +6,7 @@ use Rattle.std.specs.List.{list_any, flat_map}
 use Rattle.cnf.specs.Literal.{Assignment}
 use Rattle.cnf.specs.Clause.{clause_value}
 use Rattle.cnf.specs.Problem.{Problem, SoftClause, IsFeasible}
+use Rattle.sums_tree.specs.declared.nodes.TheConstants.{ROUNDS}
 use Rattle.sums_tree.specs.Tree.{Tree, Leaf, Fork, groups_of}
 use Rattle.sums_tree.specs.Groups.{placed, groups}
 use Rattle.sums_tree.specs.Connections.{Connection, connections}
@@ -63,13 +64,9 @@ abbrev pub rounds : ℕ → ℕ → List Connection → List Node → List Node
 rounds zero most ks nodes = nodes
 rounds (suc more) most ks nodes = rounds more (2 * most) ks (round most ks nodes)
 
--- after so many rounds no connection is between two nodes, since there are at most 2^18 groups
-abbrev pub round_count : ℕ
-round_count = 18
-
 -- the nodes that the connections leave, in the order of their least groups
 abbrev pub nodes : Problem → List Node
-nodes p = rounds round_count 2 (connections p) (leaves_from 0 (groups p))
+nodes p = rounds ROUNDS 2 (connections p) (leaves_from 0 (groups p))
 
 -- the first and the second become one tree, the third and the fourth, and so on; the last of an odd
 -- count stays as it is

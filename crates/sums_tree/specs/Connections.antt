@@ -5,6 +5,7 @@ use Rattle.std.specs.Prelude.{if◌then◌else◌}
 use Rattle.std.specs.List.{list_any, filter_map, flat_map}
 use Rattle.cnf.specs.Literal.{Literal}
 use Rattle.cnf.specs.Problem.{Problem}
+use Rattle.sums_tree.specs.declared.connecting.TheConstants.{ROW_WEIGHT}
 use Rattle.sums_tree.specs.Groups.{Placed, binding, grouped}
 
 -- two groups by their numbers, the lower one first, and how strongly they are connected
@@ -47,7 +48,7 @@ rows_of p =
 
 -- what a row of so many groups adds for each two neighbours: the less the longer it is
 abbrev pub share : ℕ → ℕ
-share m = max 1 (840 / (m - 1))
+share m = max 1 (ROW_WEIGHT / (m - 1))
 
 -- what two neighbours add
 abbrev pub between : ℕ → ℕ → ℕ → List Connection

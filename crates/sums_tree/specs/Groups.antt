@@ -1,4 +1,4 @@
--- Groups of soft clauses of which at most one is false wherever the hard clauses hold.
+-- At-most-one groups: soft clauses of which at most one is false wherever the hard clauses hold.
 use Rattle.std.specs.Prelude.{ℕ, ◌+◌, Bool, not, List, [], ◌∷◌, ◌++◌, map, filter, sum_by}
 use Rattle.std.specs.Prelude.{reverse}
 use Rattle.std.specs.Prelude.{count_by, nat_le, if◌then◌else◌}

@@ -1,4 +1,4 @@
--- A tree over groups of soft clauses, and the steps that build it.
+-- A tree over at-most-one groups of soft clauses, and the steps that build it.
 use Rattle.std.specs.Prelude.{ℕ, List, [], ◌∷◌, ◌++◌}
 
 -- a tree whose leaves are groups of soft clauses, each named by its place in the instance, from 0

@@ -10,6 +10,7 @@ use std::marker::Model;
 /// A number in a row.
 #[derive(Clone, Copy, Drop)]
 struct ChainEntry {
+    // What stands in the row.
     number: u32,
     // One more than the place of the entry before it in its row, or 0 where it is the first.
     before: u32,

@@ -3,7 +3,6 @@
 ghost use Rattle.std.specs.Prelude.{◌≡◌, ◌+◌, ◌<◌, ◌≤◌, ◌++◌, All, IfOk, OnOk, length, map};
 ghost use Rattle.std.specs.Option.{option_to_list};
 ghost use Rattle.std.specs.List.{flat_map, filter_map};
-ghost use Rattle.cnf.specs.Marks.{HasPlace};
 ghost use Rattle.sums_tree.specs.Groups.{binding, grouped};
 ghost use Rattle.sums_tree.specs.Connections.{clause_row, row_connections, rows_of, share};
 ghost use Rattle.sums_tree.specs.Connections.{variable_rows};
@@ -17,6 +16,10 @@ use cnf::tautologies::is_tautology_by;
 use cnf::types::{Instance, Lit};
 use std::alloc::AllocError;
 use std::marker::Model;
+
+/// What a row adds to connections, in equal shares for its pairs of neighbours: up to 8 pairs share
+/// it with no remainder.
+const ROW_WEIGHT: u64 = 840;
 
 /// Two groups, and how strongly they are connected.
 #[derive(Clone, Copy, Drop)]
@@ -164,5 +167,5 @@ fn share(groups: usize) -> u64
     requires { 2 ≤ groups }
     ensures { result ≡ share groups }
 {
-    (840 / (groups as u64 - 1)).max(1)
+    (ROW_WEIGHT / (groups as u64 - 1)).max(1)
 }

@@ -1,5 +1,6 @@
 // The connections of an instance between its groups: each two groups at most once, greatest first.
-ghost use Rattle.std.specs.Prelude.{◌≡◌, ◌≤◌, ◌^◌, IfOk, length};
+ghost use Rattle.std.specs.Prelude.{◌≡◌, ◌≤◌, IfOk, length};
+ghost use Rattle.sums_tree.specs.declared.arrangement.TheConstants.{GROUP_LIMIT};
 ghost use Rattle.sums_tree.specs.Groups.{group_rows};
 ghost use Rattle.sums_tree.specs.Connections.{connections};
 
@@ -16,7 +17,7 @@ pub(crate) fn connections_of(
     members: &Chains,
 ) -> Result<Vec<Connection>, AllocError>
     requires members { members.now ≡ group_rows instance.now }
-    requires few { length members.now ≤ 2 ^ 15 }
+    requires few { length members.now ≤ GROUP_LIMIT }
     ensures { IfOk result (λ v. v.items ≡ connections instance.now) }
 {
     instance.limits();

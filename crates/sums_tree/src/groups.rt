@@ -1,4 +1,5 @@
-// Groups of soft clauses that exclude each other.
+// At-most-one groups: soft clauses that exclude each other, of which at most one is false wherever
+// the hard clauses hold.
 ghost use Rattle.std.specs.Prelude.{◌≡◌, IfOk};
 ghost use Rattle.sums_tree.specs.Groups.{group_rows};
 

@@ -1,7 +1,8 @@
 // Which groups each variable occurs in. Groups come in from the last to the first, so that each row
 // begins with its first group.
-ghost use Rattle.std.specs.Prelude.{◌≡◌, ◌<◌, ◌≤◌, ◌^◌, ◌==◌, All, IfOk, OnOk, length};
+ghost use Rattle.std.specs.Prelude.{◌≡◌, ◌<◌, ◌≤◌, ◌==◌, All, IfOk, OnOk, length};
 ghost use Rattle.std.specs.List.{list_any};
+ghost use Rattle.sums_tree.specs.declared.arrangement.TheConstants.{GROUP_LIMIT};
 ghost use Rattle.sums_tree.specs.Groups.{grouped, group_rows};
 ghost use Rattle.sums_tree.specs.Looking.{row_at};
 ghost use Rattle.sums_tree.specs.Homes.{clause_at, occurs, Touches, AreHomes};
@@ -14,7 +15,7 @@ use std::alloc::AllocError;
 /// By variable, from 0, which is none: the groups in which it occurs, rising.
 pub(crate) fn homes_of(instance: &Instance, members: &Chains) -> Result<Chains, AllocError>
     requires members { members.now ≡ group_rows instance.now }
-    requires few { length members.now ≤ 2 ^ 15 }
+    requires few { length members.now ≤ GROUP_LIMIT }
     ensures { IfOk result
         (λ rows. AreHomes rows (grouped instance.now) (instance.now).variables) }
 {
@@ -36,7 +37,7 @@ fn touch_all(
     group: usize,
 ) -> Result<(), AllocError>
     requires group { group < length members.now }
-    requires few { length members.now ≤ 2 ^ 15 }
+    requires few { length members.now ≤ GROUP_LIMIT }
     requires places { All (λ m. m < length clauses.now) (row_at members.now group) }
     requires variables { All (λ s. All (λ l. l.variable < length rows.old) s.clause) clauses.now }
     ensures { OnOk result (Touches rows.old rows.new group

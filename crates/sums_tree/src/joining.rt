@@ -1,12 +1,12 @@
-// One soft clause after another gets its group: the first all of whose members it excludes, or else
-// a new one. What all looks cost is bounded: once the bound is passed nothing is looked up any more
-// and each clause gets a group of its own, so that cliques of thousands of clauses and variables
-// with thousands of clauses on each sign cost no more than it.
-ghost use Rattle.std.specs.Prelude.{◌≡◌, ◌*◌, ◌<◌, ◌≤◌, [], IfOk, OnOk, All, false, length};
+// One soft clause after another gets its at-most-one group: the first all of whose members it
+// excludes, or else a new one. What all looks cost is bounded: once the bound is passed nothing is
+// looked up any more and each clause gets a group of its own, so that cliques of thousands of
+// clauses and variables with thousands of clauses on each sign cost no more than it.
+ghost use Rattle.std.specs.Prelude.{◌≡◌, ◌*◌, ◌<◌, ◌≤◌, [], IfOk, OnOk, All, length};
 ghost use Rattle.std.specs.Prelude.{replicate};
 ghost use Rattle.cnf.specs.Marks.{HasPlace};
 ghost use Rattle.sums_tree.specs.Looking.{AreBelow, AreGroups, AreTables};
-ghost use Rattle.sums_tree.specs.Joining.{entered, joined_at, cost_after, first_found};
+ghost use Rattle.sums_tree.specs.Joining.{entered, joined_at, cost_after};
 ghost use Rattle.sums_tree.specs.Joining.{Adds, IsReady};
 
 use crate::chains::Chains;

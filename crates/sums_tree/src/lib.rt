@@ -1,5 +1,6 @@
-//! The arrangement of the soft clauses of an instance, along which their weights are added: groups
-//! of clauses that exclude each other, and a tree over these groups that follows the hard clauses.
+//! The arrangement of the soft clauses of an instance, along which their weights are added:
+//! at-most-one groups, of clauses that exclude each other, and a tree over these groups that
+//! follows the hard clauses.
 #![tactic(auto)]
 
 mod adding;

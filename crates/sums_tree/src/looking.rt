@@ -1,11 +1,11 @@
 // How a soft clause looks for the clauses that it excludes, by the literals that cannot be false
 // together with its own, and for the first group all of whose members it excludes. Only groups
 // whose last member is seen are looked at.
-ghost use Rattle.std.specs.Prelude.{◌≡◌, ◌+◌, ◌-◌, ◌<◌, ◌≤◌, ◌^◌, min, All, length, sum_by, OnOk};
+ghost use Rattle.std.specs.Prelude.{◌≡◌, ◌+◌, ◌-◌, ◌<◌, ◌^◌, min, All, length, sum_by, OnOk};
 ghost use Rattle.std.specs.List.{flat_map, position_or_len};
 ghost use Rattle.cnf.specs.Marks.{HasPlace};
 ghost use Rattle.sums_tree.specs.Seen.{with_seen};
-ghost use Rattle.sums_tree.specs.Looking.{row_at, looked_for, found, found_cost, AreBelow};
+ghost use Rattle.sums_tree.specs.Looking.{row_at, found, found_cost, AreBelow};
 ghost use Rattle.sums_tree.specs.Looking.{all_seen, begins_with, AreTables, AreGroups};
 
 use crate::chains::Chains;

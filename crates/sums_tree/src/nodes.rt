@@ -5,10 +5,12 @@ ghost use Rattle.std.specs.Prelude.{◌≡◌, ◌≢◌, ◌+◌, ◌*◌, ◌<
 ghost use Rattle.std.specs.Prelude.{nat_lt};
 ghost use Rattle.std.specs.Prelude.{ℕ, List, IfOk, map};
 ghost use Rattle.std.specs.Prelude.{slice_set};
+ghost use Rattle.sums_tree.specs.declared.arrangement.TheConstants.{GROUP_LIMIT};
+ghost use Rattle.sums_tree.specs.declared.nodes.TheConstants.{ROUNDS};
 ghost use Rattle.sums_tree.specs.Looking.{row_at};
 ghost use Rattle.sums_tree.specs.Nodes.{label_of, relabelled, stays, AreAmong, AreLabels};
 ghost use Rattle.sums_tree.specs.Nodes.{AreNodes, GoesRound, Joins, Merges};
-ghost use Rattle.sums_tree.specs.Arranging.{Node, leaves_from, one_tree, round_count, rounds};
+ghost use Rattle.sums_tree.specs.Arranging.{Node, leaves_from, one_tree, rounds};
 ghost use Rattle.sums_tree.specs.Arrangement.{steps_to};
 ghost use Rattle.sums_tree.specs.Nodes.{steps_at};
 
@@ -27,7 +29,8 @@ pub(crate) struct Nodes {
     tracks: Vec<Track>,
 }
 
-/// Rounds in which nodes of at most 2, 4, 8, .. groups come about: as many as make all.
+/// Rounds in which nodes of at most 2, 4, 8, .. groups come about. After so many no connection is
+/// between two nodes, since there are at most 2^18 groups.
 const ROUNDS: u32 = 18;
 
 impl Nodes {
@@ -37,12 +40,12 @@ impl Nodes {
         groups: usize,
         connections: &[Connection],
     ) -> Result<Self, AllocError>
-        requires few { groups ≤ 2 ^ 15 }
+        requires few { groups ≤ GROUP_LIMIT }
         requires among { AreAmong groups connections.now }
         ensures labels { IfOk result (λ r. AreLabels r.labels.items r.tracks.items groups) }
         ensures nodes { IfOk result (λ r. (gs : List (List ℕ)) → length gs ≡ groups
             → AreNodes gs r.tracks.items
-            (rounds round_count 2 connections.now (leaves_from 0 gs))) }
+            (rounds ROUNDS 2 connections.now (leaves_from 0 gs))) }
     {
         let mut labels = rising(alloc, groups)?;
         let mut tracks = single_tracks(alloc, groups)?;
@@ -58,7 +61,7 @@ impl Nodes {
     pub(crate) fn into_track(self, alloc: Global) -> Result<Track, AllocError>
         requires labels { AreLabels self.labels.items self.tracks.items
             (length self.labels.items) }
-        requires few { length self.labels.items ≤ 2 ^ 15 }
+        requires few { length self.labels.items ≤ GROUP_LIMIT }
         ensures { IfOk result (λ track. (gs : List (List ℕ)) → (ns : List Node)
             → length gs ≡ length self.labels.items → AreNodes gs self.tracks.items ns
             → steps_at gs track ≡ steps_to (one_tree (length ns) (map (λ x. x.tree) ns))) }
@@ -71,7 +74,7 @@ impl Nodes {
 
 /// The numbers below a count.
 fn rising(alloc: Global, count: usize) -> Result<Vec<u32>, AllocError>
-    requires { count ≤ 2 ^ 15 }
+    requires { count ≤ GROUP_LIMIT }
     ensures len { IfOk result (λ v. length v.items ≡ count) }
     ensures each { IfOk result (λ v. (g : ℕ) → g < count → label_of v.items g ≡ g) }
 {
@@ -84,7 +87,7 @@ fn rising(alloc: Global, count: usize) -> Result<Vec<u32>, AllocError>
 
 /// For each of so many groups the step that takes it.
 fn single_tracks(alloc: Global, count: usize) -> Result<Vec<Track>, AllocError>
-    requires { count ≤ 2 ^ 15 }
+    requires { count ≤ GROUP_LIMIT }
     ensures len { IfOk result (λ v. length v.items ≡ count) }
     ensures each { IfOk result (λ v. (g : ℕ) → g < count → row_at v.items g ≡ g ∷ []) }
 {
@@ -106,7 +109,7 @@ fn go_round(
     most: usize,
 ) -> Result<(), AllocError>
     requires labels { AreLabels labels.old.items tracks.old.items (length labels.old.items) }
-    requires few { length labels.old.items ≤ 2 ^ 15 }
+    requires few { length labels.old.items ≤ GROUP_LIMIT }
     requires among { AreAmong (length labels.old.items) connections.now }
     requires most { most < 2 ^ 32 }
     ensures len { OnOk result (length labels.new.items ≡ length labels.old.items) }
@@ -136,7 +139,7 @@ fn merge(
     requires y { y < length tracks.old.items }
     requires first { 0 < length (row_at tracks.old.items x) }
     requires second { 0 < length (row_at tracks.old.items y) }
-    requires few { length tracks.old.items ≤ 2 ^ 15 }
+    requires few { length tracks.old.items ≤ GROUP_LIMIT }
     requires lengths { length labels.old.items ≡ length tracks.old.items }
     requires most { most < 2 ^ 32 }
     ensures { OnOk result (Merges labels.old.items labels.new.items tracks.old.items
@@ -180,7 +183,7 @@ fn join(
     requires left { left < length tracks.old.items }
     requires right { right < length tracks.old.items }
     requires two { left ≢ right }
-    requires few { length tracks.old.items ≤ 2 ^ 15 }
+    requires few { length tracks.old.items ≤ GROUP_LIMIT }
     requires lengths { length labels.old.items ≡ length tracks.old.items }
     ensures { OnOk result (Joins labels.old.items labels.new.items tracks.old.items
         tracks.new.items left right (length labels.old.items)) }
@@ -203,7 +206,7 @@ fn join_in_front(
     requires left { left < length tracks.old.items }
     requires right { right < length tracks.old.items }
     requires two { left ≢ right }
-    requires few { length tracks.old.items ≤ 2 ^ 15 }
+    requires few { length tracks.old.items ≤ GROUP_LIMIT }
     requires lengths { length labels.old.items ≡ length tracks.old.items }
     ensures labels { OnOk result
         (labels.new.items ≡ relabelled right (row_at tracks.old.items left) labels.old.items) }
@@ -230,7 +233,7 @@ fn join_behind(
     requires left { left < length tracks.old.items }
     requires right { right < length tracks.old.items }
     requires two { left ≢ right }
-    requires few { length tracks.old.items ≤ 2 ^ 15 }
+    requires few { length tracks.old.items ≤ GROUP_LIMIT }
     requires lengths { length labels.old.items ≡ length tracks.old.items }
     ensures labels { OnOk result
         (labels.new.items ≡ relabelled left (row_at tracks.old.items right) labels.old.items) }

@@ -1,10 +1,9 @@
 // Nodes become one tree in pairs, and the tree's steps are handed out.
-ghost use Rattle.std.specs.Prelude.{◌≡◌, ◌+◌, ◌<◌, ◌≤◌, ◌^◌, [], ◌∷◌, ◌++◌, ℕ, List, IfOk, OnOk};
+ghost use Rattle.std.specs.Prelude.{◌≡◌, ◌+◌, ◌<◌, [], ◌∷◌, ◌++◌, ℕ, List, IfOk};
 ghost use Rattle.std.specs.Prelude.{length};
 ghost use Rattle.std.specs.Prelude.{map, reverse};
 ghost use Rattle.sums_tree.specs.Arranging.{Node, one_tree};
 ghost use Rattle.sums_tree.specs.Arrangement.{step_of, steps_to};
-ghost use Rattle.sums_tree.specs.Looking.{row_at};
 ghost use Rattle.sums_tree.specs.Nodes.{AreLabels, AreNodes, BuildNodes, BuildTrees, paired};
 ghost use Rattle.sums_tree.specs.Nodes.{step_at, steps_at};
 ghost use Rattle.sums_tree.specs.Tree.{Tree};

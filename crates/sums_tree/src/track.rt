@@ -8,6 +8,7 @@ use std::marker::Model;
 /// Steps, in their order.
 #[derive(Drop)]
 pub(crate) struct Track {
+    // The number of a group takes it; a number that no group has joins two parts.
     steps: VecDeque<u32>,
 }
 

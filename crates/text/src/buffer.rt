@@ -11,6 +11,7 @@ use std::marker::Model;
 /// What follows the last line feed of the pieces so far.
 #[derive(Drop)]
 pub struct LineBuffer {
+    // Those bytes; after `line_ended_by`, until `clear`, perhaps a whole line.
     kept: Vec<u8>,
 }
 

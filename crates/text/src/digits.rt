@@ -8,6 +8,7 @@ ghost use Rattle.text.specs.Text.{is_blank, is_digit, value_on, number_of, cappe
 
 use cnf::limits::NUMBER_LIMIT;
 
+/// Whether a byte is a space or a tab.
 pub fn is_blank(byte: u8) -> bool
     ensures { result ≡ is_blank byte }
 {

@@ -39,6 +39,7 @@ impl<'a> Model for Lines<'a> {
 }
 
 impl<'a> Lines<'a> {
+    /// All lines of a text.
     pub fn of(rest: &'a [u8]) -> Self
         ensures { result ≡ numbered_text rest.now }
     {
@@ -119,6 +120,7 @@ impl<'a> Model for Tokens<'a> {
 }
 
 impl<'a> Tokens<'a> {
+    /// All tokens of a line.
     pub fn of(rest: &'a [u8]) -> Self
         ensures { result ≡ tokens_of rest.now }
     {

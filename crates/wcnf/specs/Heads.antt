@@ -3,7 +3,7 @@ use Rattle.std.specs.Prelude.{ℕ, ◌+◌, Bool, false, ◌||◌, List, [], ◌
 use Rattle.std.specs.Prelude.{Ok, Err, nat_lt, nat_le, ◌==◌, if◌then◌else◌, bytes_eq}
 use lib.Chars.{codes}
 use Rattle.cnf.specs.declared.limits.TheConstants.{MOST_VARIABLES, MOST_HARD, MOST_SOFT}
-use Rattle.cnf.specs.declared.limits.TheConstants.{NUMBER_LIMIT}
+use Rattle.cnf.specs.declared.limits.TheConstants.{MOST_TEXT_CLAUSES, NUMBER_LIMIT}
 use Rattle.text.specs.Text.{number_of, is_digit}
 use Rattle.wcnf.specs.declared.faults.FaultKind.{FaultKind}
 use Rattle.wcnf.specs.declared.faults.FaultKind.TheVariants.{FirstToken, OldForm, Weight, WeightSum}
@@ -96,7 +96,7 @@ abbrev pub header_of : List (List ℕ) → Result Header FaultKind
 header_of [] = Err HeaderFault
 header_of (t ∷ ts) = if is_wcnf t then (do
   v ← number_within MOST_VARIABLES ts
-  c ← number_within (MOST_HARD + MOST_SOFT) v.1
+  c ← number_within MOST_TEXT_CLAUSES v.1
   w ← number_within NUMBER_LIMIT c.1
   header_ended v.0 c.0 w.0 w.1) else Err HeaderFault
 

@@ -1,5 +1,4 @@
 // What can go wrong while a text is read: plain values, which carry no text of their own.
-ghost use Rattle.std.specs.Prelude.{◌≡◌};
 
 /// The kinds of fault of a WCNF text, and of reading it.
 ///

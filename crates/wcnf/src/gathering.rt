@@ -2,9 +2,9 @@
 // that n literals take n steps. In a short one each literal is compared with those before it: the
 // marks of a million variables lie far apart, and asking for them took more than half of the time
 // of a large text with short clauses.
-ghost use Rattle.std.specs.Prelude.{◌≡◌, false, ℕ, ◌<◌, ◌≤◌, ◌^◌, max, List, [], ◌∷◌, ◌++◌, length};
+ghost use Rattle.std.specs.Prelude.{◌≡◌, false, ◌<◌, ◌≤◌, max, List, [], ◌∷◌, ◌++◌, length};
 ghost use Rattle.std.specs.Prelude.{All, MatchResult, Ok, Err, OnOk, IfOk, ◌⊎◌};
-ghost use Rattle.cnf.specs.declared.limits.TheConstants.{MOST_LITERALS};
+ghost use Rattle.cnf.specs.declared.limits.TheConstants.{MOST_VARIABLES, MOST_LITERALS};
 ghost use Rattle.cnf.specs.Clause.{contains_literal, has_repeat};
 ghost use Rattle.cnf.specs.Literal.{Literal};
 ghost use Rattle.cnf.specs.Marks.{HasPlace, IsMarked};
@@ -46,6 +46,7 @@ impl Model for Gathering {
 }
 
 impl Gathering {
+    /// No clause yet, and no variable.
     pub(crate) fn new(alloc: Global) -> Self
         ensures { result ≡ record { variables = 0; literals = [] } }
     {
@@ -72,7 +73,7 @@ impl Gathering {
 
     /// Makes room for the marks of the variables up to this one, unless it is above `most`.
     fn cover(&mut self, variable: u32, most: u32) -> Result<(), FaultKind>
-        requires most { most ≤ 4194304 }
+        requires most { most ≤ MOST_VARIABLES }
         requires covered { self.now.variables ≤ most }
         ensures covered { self.new.variables ≤ most }
         ensures cover { MatchResult result
@@ -132,7 +133,7 @@ impl Gathering {
         mut words: Tokens<'_>,
     ) -> Result<usize, FaultKind>
         requires before { before ≤ MOST_LITERALS }
-        requires most { most ≤ 4194304 }
+        requires most { most ≤ MOST_VARIABLES }
         requires covered { self.now.variables ≤ most }
         ensures within { IfOk result (λ n. n ≤ MOST_LITERALS) }
         ensures covered { self.new.variables ≤ most }

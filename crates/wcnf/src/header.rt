@@ -1,18 +1,16 @@
 // The header of the older form, which says what the text has.
-ghost use Rattle.std.specs.Prelude.{◌≡◌, ◌≤◌, ◌<◌, ◌^◌, ◌⊎◌, MatchResult};
+ghost use Rattle.std.specs.Prelude.{◌≡◌, ◌≤◌, ◌<◌, MatchResult};
+ghost use Rattle.cnf.specs.declared.limits.TheConstants.{MOST_VARIABLES, NUMBER_LIMIT};
 ghost use Rattle.wcnf.specs.Heads.{header_of, is_wcnf, number_within};
 
 use crate::faults::FaultKind;
-use cnf::limits::{MOST_HARD, MOST_SOFT, MOST_VARIABLES, NUMBER_LIMIT};
+use cnf::limits::{MOST_TEXT_CLAUSES, MOST_VARIABLES, NUMBER_LIMIT};
 use std::marker::Model;
 use text::digits::number;
 use text::pieces::Tokens;
 
 /// The second token of a header.
 const NAME: &[u8] = b"wcnf";
-
-/// How many clauses a header may say: as many hard and soft ones as a text may have.
-const MOST_CLAUSES: u64 = (MOST_HARD + MOST_SOFT) as u64;
 
 /// The header of a text of the older form.
 #[derive(Drop)]
@@ -27,14 +25,16 @@ pub(crate) struct Header {
 
 impl Model for Header {
     ghost use Rattle.std.specs.Prelude.{◌≤◌, ◌<◌};
+    ghost use Rattle.cnf.specs.declared.limits.TheConstants.{MOST_VARIABLES, MOST_TEXT_CLAUSES};
+    ghost use Rattle.cnf.specs.declared.limits.TheConstants.{NUMBER_LIMIT};
     ghost use Rattle.wcnf.specs.Wcnf as texts;
 
     ghost Value = { texts.Header };
 
     ghost view = { λ h. record { variables = h.variables; clauses = h.clauses; top = h.top } };
 
-    ghost invariant = { λ h. (h.variables ≤ 4194304) × (h.clauses ≤ 4456448) × (0 < h.top)
-        × (h.top ≤ 4611686018427387904) };
+    ghost invariant = { λ h. (h.variables ≤ MOST_VARIABLES) × (h.clauses ≤ MOST_TEXT_CLAUSES)
+        × (0 < h.top) × (h.top ≤ NUMBER_LIMIT) };
 }
 
 impl Header {
@@ -49,7 +49,7 @@ impl Header {
             return Err(FaultKind::Header);
         }
         let variables = number_within(&mut words, u64::from(MOST_VARIABLES))?;
-        let clauses = number_within(&mut words, MOST_CLAUSES)?;
+        let clauses = number_within(&mut words, MOST_TEXT_CLAUSES as u64)?;
         let top = number_within(&mut words, NUMBER_LIMIT)?;
         if top == 0 || words.next().is_some() {
             return Err(FaultKind::Header);
@@ -64,7 +64,7 @@ impl Header {
     /// How many variables there are.
     pub(crate) fn variables(&self) -> u32
         ensures is { result ≡ self.now.variables }
-        ensures within { result ≤ 4194304 }
+        ensures within { result ≤ MOST_VARIABLES }
     {
         self.variables
     }
@@ -79,7 +79,7 @@ impl Header {
     /// The weight that makes a clause hard.
     pub(crate) fn top(&self) -> u64
         ensures is { result ≡ self.now.top }
-        ensures within { result ≤ 4611686018427387904 }
+        ensures within { result ≤ NUMBER_LIMIT }
     {
         self.top
     }
@@ -93,7 +93,7 @@ fn is_wcnf(token: &[u8]) -> bool
 
 /// Takes the next token, which has to be a number up to `most`.
 fn number_within(words: &mut Tokens<'_>, most: u64) -> Result<u64, FaultKind>
-    requires { most ≤ 4611686018427387904 }
+    requires { most ≤ NUMBER_LIMIT }
     ensures { MatchResult result
         (λ n. (number_within most words.old ≡ Ok (n, words.new)) × (n ≤ most))
         (λ k. number_within most words.old ≡ Err k) }

@@ -1,8 +1,8 @@
 // The lines of a text, one at a time, and the instance that those so far make.
 ghost use Rattle.std.specs.Prelude.{◌≡◌, ℕ, false, ◌&&◌, [], ◌∷◌, ◌++◌, length, MatchOption, ◌+◌};
-ghost use Rattle.std.specs.Prelude.{◌<◌, ◌≤◌, ◌^◌, Ok, Err, None, OnOk, IfOk, IfSome, MatchResult};
+ghost use Rattle.std.specs.Prelude.{◌<◌, ◌≤◌, Ok, Err, None, OnOk, IfOk, IfSome, MatchResult};
 ghost use Rattle.std.specs.Prelude.{◌⊎◌};
-ghost use Rattle.cnf.specs.declared.limits.TheConstants.{NUMBER_LIMIT};
+ghost use Rattle.cnf.specs.declared.limits.TheConstants.{MOST_VARIABLES, NUMBER_LIMIT};
 ghost use Rattle.text.specs.Text.{tokens_of, capped};
 ghost use Rattle.wcnf.specs.Heads.{most_variable, one_hard, one_soft, weighed, head_of, is_p};
 ghost use Rattle.cnf.specs.Clause.{has_repeat};
@@ -44,7 +44,7 @@ pub(crate) struct Draft {
 }
 
 impl Model for Draft {
-    ghost use Rattle.std.specs.Prelude.{◌≤◌, ◌<◌, ◌^◌};
+    ghost use Rattle.std.specs.Prelude.{◌≤◌, ◌<◌};
     ghost use Rattle.cnf.specs.declared.limits.TheConstants.{MOST_LITERALS, NUMBER_LIMIT};
     ghost use Rattle.wcnf.specs.Heads.{most_variable};
     ghost use Rattle.wcnf.specs.Drafts.{Drafted};
@@ -159,7 +159,7 @@ impl Draft {
     /// The greatest variable that a literal may have.
     fn most(&self) -> u32
         ensures most { result ≡ most_variable self.now.header }
-        ensures within { result ≤ 4194304 }
+        ensures within { result ≤ MOST_VARIABLES }
     {
         match &self.header {
             None => MOST_VARIABLES,

@@ -31,7 +31,7 @@ pub struct Meter<'a, R: Clock> {
     limit: u64,
     /// What was told last of the search.
     report: SearchReport,
-    /// How often the solvers before this one started over.
+    /// How often the solvers before this one restarted.
     restarts: u64,
     /// How many propagations they made.
     propagations: u64,

@@ -1,13 +1,14 @@
-// The literals that became true, each with the clauses that watch its negation.
+// The propagation queue: the literals that became true, each with the clauses that watch its
+// negation.
 //
 // This is the loop in which a search spends most of its time. For each literal that became false it
 // goes along the row of entries of the clauses that watch it. An entry whose blocker is true stays,
 // and its clause is not looked at. Else the clause is asked for its other watch and, if that is not
 // true either, for a literal that is not false: to watch that one the entry goes to another row.
-// Where there is none, the clause leaves no choice on the other watch, or is false. Entries that
-// stay are written over those that left, by two places `read` and `write`, and the gap between
-// these is taken out at the end, also after a conflict or a refused growth: so each return leaves a
-// whole row. Memory is allocated only where another row grows.
+// Where there is none, the clause is unit, with the other watch left, or false. Entries that stay
+// are written over those that left, by two places `read` and `write`, and the gap between these is
+// taken out at the end, also after a conflict or a refused growth: so each return leaves a whole
+// row. Memory is allocated only where another row grows.
 //
 // Most blockers are true: 85 % in a search on sums. So the front of a row, up to the first entry
 // that its blocker does not settle, is skipped by `skip_true`, a loop that writes nothing, and so
@@ -65,7 +66,7 @@ pub(crate) enum EntryFate {
 }
 
 impl Engine {
-    /// Looks at what the literals that became true leave no choice on.
+    /// Propagates the literals that became true, up to a conflict or the fixpoint.
     pub(super) fn look_at_queue(&mut self, store: &Store) -> Result<Option<CRef>, AllocError>
         requires fits { Fits self.old store.now.slots }
         requires waiting { AreTrueWaiting store.now.slots self.old }

@@ -7,7 +7,6 @@
 // which the given clause has not.
 ghost use Rattle.std.specs.Prelude.{◌≡◌, ℕ, ◌*◌, ◌<◌, ◌≤◌, true, false, List, Some, length};
 ghost use Rattle.std.specs.Prelude.{slice_get, Contains};
-ghost use Rattle.std.specs.List.{AllByRecursion};
 ghost use Rattle.cnf.specs.Literal.{Literal, index_of};
 ghost use Rattle.cnf.specs.Clause.{is_subset};
 ghost use Rattle.cnf.specs.Marks.{IsMarked};

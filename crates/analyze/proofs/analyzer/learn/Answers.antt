@@ -1,4 +1,4 @@
-use Rattle.std.proofs.Common.{arith, ◌≤◌, sym, ◌∙◌, ap, subst}
+use Rattle.std.proofs.Common.{arith, ◌≡◌, ◌≤◌, sym, ◌∙◌, ap, subst}
 use Rattle.std.specs.Prelude.{All}
 use Rattle.cnf.specs.Literal.{Literal, negation}
 use Rattle.clauses.specs.Slots.{clause_at}
@@ -7,7 +7,6 @@ use Rattle.analyze.specs.Analyzer.{IsAsserting, IsRefutedBy, greatest_level}
 use Rattle.analyze.specs.Marks.{kept_of, resolved_of, others_in, learned_from}
 use Rattle.analyze.proofs.Counting.{current_clear}
 use Rattle.analyze.proofs.Fitting.{false_within}
-use Rattle.analyze.specs.Met.{GoesAlong}
 use Rattle.analyze.proofs.Listing.{listed_none}
 use Rattle.analyze.proofs.Resolving.{marked_start}
 use Rattle.analyze.proofs.Marked.{marked_refutes}
@@ -27,8 +26,8 @@ pub resolve-asserting-requires : goal.resolve-asserting-requires
 resolve-asserting-requires c =
     let T = c.args.engine.now.trail in
     let ls = c.lits.result.now in
-    let old = c.args.marks.now in
-    let new = c.mark_clause-count.new.marks in
+    let old = c.args.marking.now.marks.items in
+    let new = c.mark_clause-count.new.marking.marks.items in
     let marked = c.mark_clause-count.ensures.marked in
     let conflict = conflict_is T ls _ c.lits.ensures c.requires.can.falsified in
     let some = start_some T ls old new c.requires.clear marked c.requires.can.deep conflict in
@@ -45,10 +44,12 @@ resolve-asserting-requires c =
 pub greatest-back_level-requires : goal.greatest-back_level-requires
 greatest-back_level-requires c =
     let e = c.args.engine.now in
-    let M = c.minimise.new.marks in
+    let M = c.minimise.new.marking.marks.items in
     let u = c.resolve-asserting.result in
+    let is : c.deref.result.now ≡ M = c.deref.ensures.value ∙ c.put_in_order.ensures.same in
+    let lits = rw is at c.in_ok-collect.ensures.lits in
     let tail = tail_is (negation u) (others_in M u (literals_of e.trail)) c.as_slice.result.now
-    (c.as_slice.ensures ∙ c.in_ok-collect.ensures.lits) in
+    (c.as_slice.ensures ∙ lits) in
     subst (All (λ (l : Literal). l.variable ≤ e.variables)) (sym tail)
     (learned_within e c.args.store.now.slots M u c.requires.can.fits
     c.minimise.ensures.reduces.reduced)
@@ -60,17 +61,21 @@ returns-clause-learns c =
     let at = clause_at slots in
     let reasons = c.requires.can.fits.reasons in
     let ls = c.lits.result.now in
-    let M = c.minimise.new.marks in
+    let M = c.minimise.new.marking.marks.items in
     let u = c.resolve-asserting.result in
     let back = c.greatest-back_level.result in
     let reduces = c.minimise.ensures.reduces in
+    let is : c.deref.result.now ≡ M = c.deref.ensures.value ∙ c.put_in_order.ensures.same in
+    let lits = rw is at c.in_ok-collect.ensures.lits in
+    let hints = rw is at c.in_ok-collect.ensures.hints in
     let tail =
     tail_is (negation u) (others_in M u (literals_of T)) c.as_slice.result.now (c.as_slice.ensures
-    ∙ c.in_ok-collect.ensures.lits) in
+    ∙ lits) in
     let greatest = c.greatest-back_level.ensures ∙ ap (greatest_level T) tail in
     let conflict = conflict_is T ls _ c.lits.ensures c.requires.can.falsified in
     let first =
-    marked_start at T ls c.args.marks.now c.mark_clause-count.new.marks c.requires.clear
+    marked_start at T ls c.args.marking.now.marks.items
+    c.mark_clause-count.new.marking.marks.items c.requires.clear
     c.mark_clause-count.ensures.marked in
     let marked = reduces.known ls (c.resolve-asserting.ensures.reduces.known ls first) in
     let collected = learned_collected at T M u reasons reduces.reduced in
@@ -78,15 +83,15 @@ returns-clause-learns c =
     marked_refutes slots T c.args.conflict ls (learned_from T M u) (kept_of M) (resolved_of M)
     reasons c.lits.ensures conflict.falsified marked collected in
     record {
-      asserting = subst (λ x. IsAsserting T x back) (sym c.in_ok-collect.ensures.lits)
+      asserting = subst (λ x. IsAsserting T x back) (sym lits)
           (learned_asserting at T M u back reasons reduces.reduced greatest);
       hints = subst (λ x. IsRefutedBy slots T x c.collect.new.hints.items)
-          (sym c.in_ok-collect.ensures.lits)
-          (subst (IsRefutedBy slots T (learned_from T M u)) (sym c.in_ok-collect.ensures.hints)
+          (sym lits)
+          (subst (IsRefutedBy slots T (learned_from T M u)) (sym hints)
           refuted);
       order = record {
         chosen = λ l. resolved_of M l.variable;
-        ordered = c.in_ok-collect.ensures.hints;
+        ordered = hints;
       };
     }
 
@@ -94,8 +99,8 @@ pub mark_clause-count-requires-clause-marking : goal.mark_clause-count-requires-
 mark_clause-count-requires-clause-marking c = record {
   room = c.requires.room;
   spare = c.requires.spare;
-  listed = listed_none c.args.engine.now.trail c.args.marks.now c.args.met.now.items
-      c.requires.clear c.requires.none;
+  listed = listed_none c.args.engine.now.trail c.args.marking.now.marks.items
+      c.args.marking.now.met.items c.requires.clear c.requires.none;
 }
 
 pub put_in_order-requires-clause-small : goal.put_in_order-requires-clause-small
@@ -108,7 +113,7 @@ put_in_order-requires-clause-small c = λ i d lt.
 
 pub collect-requires-clause-along : goal.collect-requires-clause-along
 collect-requires-clause-along c =
-    subst (GoesAlong c.args.engine.now c.minimise.new.marks) (sym c.deref.ensures.value)
+    rw (c.deref.ensures.value, c.deref-2.ensures.value)
     (c.put_in_order.ensures.along c.args.store.now.slots c.requires.can.fits)
 
 pub returns-in_err-collect-clause-listed : goal.returns-in_err-collect-clause-listed

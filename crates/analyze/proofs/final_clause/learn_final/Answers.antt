@@ -1,5 +1,4 @@
-use Rattle.std.proofs.Common.{arith, sym, subst}
-use Rattle.analyze.specs.Met.{GoesAlong}
+use Rattle.std.proofs.Common.{arith, ◌≡◌, ◌∙◌}
 use Rattle.analyze.proofs.Fitting.{reason_live, reason_named}
 use Rattle.analyze.proofs.Listing.{listed_none}
 use Rattle.analyze.proofs.Resolving.{marked_start}
@@ -21,15 +20,16 @@ pub mark_clause-requires-clause-marking : goal.mark_clause-requires-clause-marki
 mark_clause-requires-clause-marking c = record {
   room = c.requires.room;
   spare = c.requires.spare;
-  listed = listed_none c.args.engine.now.trail c.args.marks.now c.args.met.now.items
-      c.requires.clear c.requires.none;
+  listed = listed_none c.args.engine.now.trail c.args.marking.now.marks.items
+      c.args.marking.now.met.items c.requires.clear c.requires.none;
 }
 
 pub resolve_before-requires-clause-before : goal.resolve_before-requires-clause-before
 resolve_before-requires-clause-before c =
     before_start c.args.store.now.slots c.args.engine.now.trail c.args.falsified c.args.reason
-    c.lits.result.now c.args.marks.now c.mark_clause.new.marks c.requires.fits.reasons
-    c.requires.falsified c.lits.ensures c.requires.clear c.mark_clause.ensures.marked
+    c.lits.result.now c.args.marking.now.marks.items c.mark_clause.new.marking.marks.items
+    c.requires.fits.reasons c.requires.falsified c.lits.ensures c.requires.clear
+    c.mark_clause.ensures.marked
 
 pub put_in_order-requires-clause-small : goal.put_in_order-requires-clause-small
 put_in_order-requires-clause-small c = λ i d lt.
@@ -41,7 +41,7 @@ put_in_order-requires-clause-small c = λ i d lt.
 
 pub collect-requires-clause-along : goal.collect-requires-clause-along
 collect-requires-clause-along c =
-    subst (GoesAlong c.args.engine.now c.resolve_before.new.marks) (sym c.deref.ensures.value)
+    rw (c.deref.ensures.value, c.deref-2.ensures.value)
     (c.put_in_order.ensures.along c.args.store.now.slots c.requires.fits)
 
 pub returns-in_err-collect-clause-listed : goal.returns-in_err-collect-clause-listed
@@ -62,11 +62,14 @@ returns-clause-learns c =
     let slots = c.args.store.now.slots in
     let at = clause_at slots in
     let wrong = c.lits.result.now in
-    let M = c.resolve_before.new.marks in
+    let M = c.resolve_before.new.marking.marks.items in
+    let is : c.deref.result.now ≡ M = c.deref.ensures.value ∙ c.put_in_order.ensures.same in
+    let lits = rw is at c.in_ok-collect.ensures.lits in
+    let hints = rw is at c.in_ok-collect.ensures.hints in
     let reduces = c.resolve_before.ensures.reduces in
     let first =
-    marked_start at T wrong c.args.marks.now c.mark_clause.new.marks c.requires.clear
-    c.mark_clause.ensures.marked in
+    marked_start at T wrong c.args.marking.now.marks.items
+    c.mark_clause.new.marking.marks.items c.requires.clear c.mark_clause.ensures.marked in
     final_from slots T c.args.falsified c.args.reason M c.requires.fits.reasons
     c.requires.falsified reduces.state wrong _ c.lits.ensures (reduces.known wrong first)
-    c.in_ok-collect.ensures.lits c.in_ok-collect.ensures.hints
+    lits hints

@@ -7,7 +7,7 @@ use Rattle.analyze.proofs.final_clause.resolve_before.Goals as goal
 pub loop-position-init : goal.loop-position-init
 loop-position-init c = record {
   reduces = before_none c.args.store.now.slots c.args.engine.now.trail c.args.falsified
-      c.args.marks.now c.requires.before;
+      c.args.marking.now.marks.items c.requires.before;
   marking = c.requires.marking;
 }
 
@@ -16,8 +16,8 @@ loop-position-preserved-in-Some c =
     let T = c.args.engine.now.trail in
     let slots = c.args.store.now.slots in
     let l = c.args.falsified in
-    let M = c.loop-position.marks in
-    let N = c.resolve_one.new.marks in
+    let M = c.loop-position.marking.marks.items in
+    let N = c.resolve_one.new.marking.marks.items in
     let v = c.variable_of-variable.result in
     let i = c.loop-position.invariant in
     let kept : mark_at M v ≡ Kept = search rules in
@@ -26,7 +26,7 @@ loop-position-preserved-in-Some c =
     let room : v < length M = let wide = i.marking.room in omega arith in
     record {
       reduces =
-          before_reduces slots T l c.args.marks.now M N v c.in-Some-reason.reason
+          before_reduces slots T l c.args.marking.now.marks.items M N v c.in-Some-reason.reason
           c.requires.fits.reasons kept ne room (sym c.reason.ensures ∙ c.in-Some-reason.is)
           c.resolve_one.ensures.resolved i.reduces;
       marking = c.resolve_one.ensures.marking;

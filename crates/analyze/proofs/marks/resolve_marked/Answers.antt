@@ -1,7 +1,8 @@
 use Rattle.std.proofs.Common.{rules, arith, ◌≡◌, ◌<◌, Some, sym, ◌∙◌, ap, subst, length}
+use Rattle.std.proofs.lemmas.List.{length-set}
 use Rattle.std.specs.Prelude.{unwrap_or}
 use Rattle.propagate.specs.Trail.{depth_of}
-use Rattle.analyze.specs.declared.marks.Mark.TheVariants.{Kept}
+use Rattle.analyze.specs.declared.marks.Mark.TheVariants.{Kept, Resolved}
 use Rattle.analyze.specs.Marks.{mark_at, level_at_variable, IsReducing}
 use Rattle.analyze.proofs.Counting.{current_le}
 use Rattle.analyze.proofs.Reducing.{level_current, reducing_resolved}
@@ -29,23 +30,24 @@ level c =
     let is : c.level.result ≡ Some c.depth-depth.result = search rules in
     ap (λ o. unwrap_or o 0) (sym c.level.ensures ∙ is) ∙ c.depth-depth.ensures
 
-pub bounds-marks-variable : goal.bounds-marks-variable
-bounds-marks-variable c =
-    let small = (here (goal.at.bounds-marks-variable c).After-variable-variable).small in
+pub mark_of-requires : goal.mark_of-requires
+mark_of-requires c =
+    let small = (here (goal.at.mark_of-requires c).After-variable-variable).small in
     let room = c.loop-position.invariant.marking.room in
     omega arith
 
 pub returns-then-left-eq1-clause-reduces : goal.returns-then-left-eq1-clause-reduces
 returns-then-left-eq1-clause-reduces c =
-    let kept : mark_at c.loop-position.marks c.variable-variable.result ≡ Kept = search rules in
+    let M = c.loop-position.marking.marks.items in
+    let kept : mark_at M c.variable-variable.result ≡ Kept = search rules in
     let e = c.args.engine.now in
     let slots = c.args.store.now.slots in
-    let M = c.loop-position.marks in
-    reduces_last e slots c.args.marks.now M c.in-Some.position c.index-trail-position.result
+    let O = c.args.marking.now.marks.items in
+    reduces_last e slots O M c.in-Some.position c.index-trail-position.result
     c.variable-variable.result
     (here (goal.at.returns-then-left-eq1-clause-reduces c).After-variable-variable) kept
     (level (goal.at.returns-then-left-eq1-clause-reduces c).Then-eq-2)
-    (subst (IsReducing slots e.trail c.args.marks.now M) c.if-left-eq1.true
+    (subst (IsReducing slots e.trail O M) c.if-left-eq1.true
     c.loop-position.invariant.state)
 
 pub overflow_add-left : goal.overflow_add-left
@@ -56,10 +58,12 @@ overflow_add-left c =
     let n = c.resolve_one-fresh.ensures.counted current in
     let m = c.loop-position.invariant.state.counted in
     let some = c.loop-position.invariant.state.some in
-    let most = current_le T c.resolve_one-fresh.new.marks in
-    let long = c.resolve_one-fresh.auto.marks in
-    let first = c.loop-position.auto.marks in
-    let fits : length c.args.marks.now < 18446744073709551616 = search rules in
+    let most = current_le T c.resolve_one-fresh.new.marking.marks.items in
+    let d = c.resolve_one-fresh.ensures.resolved in
+    let long = ap length d.resolved ∙ length-set d.between c.variable-variable.result Resolved in
+    let between = d.marks.long in
+    let first = c.loop-position.invariant.state.long in
+    let fits : length c.args.marking.now.marks.items < 18446744073709551616 = search rules in
     omega arith
 
 pub loop-position-preserved-then-eq-2 : goal.loop-position-preserved-then-eq-2
@@ -67,7 +71,7 @@ loop-position-preserved-then-eq-2 c =
     let i = c.loop-position.invariant in
     let T = c.args.engine.now.trail in
     let slots = c.args.store.now.slots in
-    let M = c.loop-position.marks in
+    let M = c.loop-position.marking.marks.items in
     let v = c.variable-variable.result in
     let at = here (goal.at.loop-position-preserved-then-eq-2 c).After-variable-variable in
     let kept : mark_at M v ≡ Kept = search rules in
@@ -77,8 +81,9 @@ loop-position-preserved-then-eq-2 c =
     let small = at.small in
     record {
       state =
-          reducing_resolved slots T c.args.marks.now M c.resolve_one-fresh.new.marks
-          c.loop-position.left c.resolve_one-fresh.result v c.in-Some-reason.reason at.reasons kept
+          reducing_resolved slots T c.args.marking.now.marks.items M
+          c.resolve_one-fresh.new.marking.marks.items c.loop-position.left
+          c.resolve_one-fresh.result v c.in-Some-reason.reason at.reasons kept
           (let room = i.marking.room in omega arith)
           (sym c.reason.ensures ∙ c.in-Some-reason.is) c.resolve_one-fresh.ensures.resolved
           (c.resolve_one-fresh.ensures.counted current) c.if-left-eq1.false i.state;

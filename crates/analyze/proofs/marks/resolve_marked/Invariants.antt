@@ -6,10 +6,11 @@ use Rattle.analyze.proofs.marks.resolve_marked.Given as goal
 
 abbrev pub invariant-loop-position : goal.invariant-loop-position
 invariant-loop-position l = record {
-  state : IsReducing l.store.slots l.engine.trail l.fn.marks l.marks l.left;
+  state : IsReducing l.store.slots l.engine.trail l.fn.marking.marks.items
+      l.marking.marks.items l.left;
   within : l.place ≤ length l.engine.trail;
   literals : l.trail ≡ literals_of l.engine.trail;
-  marking : IsMarking l.engine l.marks l.met;
+  marking : IsMarking l.engine l.marking;
 }
 
 abbrev pub decreases-loop-position : goal.decreases-loop-position

@@ -1,5 +1,6 @@
-use Rattle.std.proofs.Common.{rules, arith, ◌≡◌, ◌≢◌, ◌<◌, sym, ◌∙◌, subst, length}
-use Rattle.analyze.specs.declared.marks.Mark.TheVariants.{Kept}
+use Rattle.std.proofs.Common.{rules, arith, ◌≡◌, ◌≢◌, ◌<◌, sym, ◌∙◌, ap, subst, length}
+use Rattle.std.proofs.lemmas.List.{length-set}
+use Rattle.analyze.specs.declared.marks.Mark.TheVariants.{Kept, Resolved}
 use Rattle.analyze.specs.Marks.{mark_at}
 use Rattle.analyze.proofs.Counting.{current_le}
 use Rattle.analyze.proofs.Walking.{IsWalked, Meets, meets, met_current, met_last, met_resolved}
@@ -10,19 +11,21 @@ use Rattle.analyze.proofs.marks.walk.Goals.{After-variable-variable}
 
 -- what the walk meets
 met : (c : After-variable-variable)
-    → Meets c.args.engine.now c.args.store.now.slots c.args.marks.now c.loop-place.marks
-    c.loop-place.open c.loop-place.place c.index-trail-place.result c.variable-variable.result
+    → Meets c.args.engine.now c.args.store.now.slots c.args.marking.now.marks.items
+    c.loop-place.marking.marks.items c.loop-place.open c.loop-place.place
+    c.index-trail-place.result c.variable-variable.result
 met c =
     let i = c.loop-place.invariant in
-    meets c.args.engine.now c.args.store.now.slots c.trail-trail.result.now c.args.marks.now
-    c.loop-place.marks c.loop-place.open c.loop-place.place c.index-trail-place.result
+    meets c.args.engine.now c.args.store.now.slots c.trail-trail.result.now
+    c.args.marking.now.marks.items c.loop-place.marking.marks.items c.loop-place.open
+    c.loop-place.place c.index-trail-place.result
     c.variable-variable.result c.requires.fits i.literals c.loop-place-test.true i.within
     c.index-trail-place.is c.variable-variable.ensures.variable i.walked
 
-pub bounds-marks-variable : goal.bounds-marks-variable
-bounds-marks-variable c =
+pub mark_of-requires : goal.mark_of-requires
+mark_of-requires c =
     let i = c.loop-place.invariant in
-    let m = met (goal.at.bounds-marks-variable c).After-variable-variable in
+    let m = met (goal.at.mark_of-requires c).After-variable-variable in
     let small = m.here.small in
     let room = i.marking.room in
     omega arith
@@ -37,32 +40,37 @@ resolve_one-fresh-requires-clause-small c =
 pub returns-then-open-eq1-clause-reduces : goal.returns-then-open-eq1-clause-reduces
 returns-then-open-eq1-clause-reduces c =
     let m = met (goal.at.returns-then-open-eq1-clause-reduces c).After-variable-variable in
-    let kept : mark_at c.loop-place.marks c.variable-variable.result ≡ Kept = search rules in
+    let M = c.loop-place.marking.marks.items in
+    let kept : mark_at M c.variable-variable.result ≡ Kept = search rules in
     met_last m kept c.if-open-eq1.true
 
 pub overflow_add-open : goal.overflow_add-open
 overflow_add-open c =
     let at = met (goal.at.overflow_add-open c).After-variable-variable in
-    let kept : mark_at c.loop-place.marks c.variable-variable.result ≡ Kept = search rules in
+    let M = c.loop-place.marking.marks.items in
+    let kept : mark_at M c.variable-variable.result ≡ Kept = search rules in
     let n = c.resolve_one-fresh.ensures.counted (met_current at kept) in
     let m = c.loop-place.invariant.walked.state.counted in
     let some = c.loop-place.invariant.walked.state.some in
-    let most = current_le c.args.engine.now.trail c.resolve_one-fresh.new.marks in
-    let long = c.resolve_one-fresh.auto.marks in
-    let first = c.loop-place.auto.marks in
-    let fits : length c.args.marks.now < 18446744073709551616 = search rules in
+    let most = current_le c.args.engine.now.trail c.resolve_one-fresh.new.marking.marks.items in
+    let d = c.resolve_one-fresh.ensures.resolved in
+    let long = ap length d.resolved ∙ length-set d.between c.variable-variable.result Resolved in
+    let between = d.marks.long in
+    let first = c.loop-place.invariant.walked.state.long in
+    let fits : length c.args.marking.now.marks.items < 18446744073709551616 = search rules in
     omega arith
 
 pub loop-place-preserved-in-Some : goal.loop-place-preserved-in-Some
 loop-place-preserved-in-Some c =
     let i = c.loop-place.invariant in
     let m = met (goal.at.loop-place-preserved-in-Some c).After-variable-variable in
-    let kept : mark_at c.loop-place.marks c.variable-variable.result ≡ Kept = search rules in
+    let M = c.loop-place.marking.marks.items in
+    let kept : mark_at M c.variable-variable.result ≡ Kept = search rules in
     let lt = m.here.within in
     let small = m.here.small in
     record {
       walked =
-          met_resolved m c.resolve_one-fresh.new.marks c.resolve_one-fresh.result
+          met_resolved m c.resolve_one-fresh.new.marking.marks.items c.resolve_one-fresh.result
           c.in-Some.reason kept
           (let room = i.marking.room in omega arith) (sym c.reason.ensures ∙ c.in-Some.is)
           c.resolve_one-fresh.ensures.resolved
@@ -75,14 +83,16 @@ loop-place-preserved-in-Some c =
 pub unreachable-requires : goal.unreachable-requires
 unreachable-requires c =
     let m = met (goal.at.unreachable-requires c).After-variable-variable in
-    let kept : mark_at c.loop-place.marks c.variable-variable.result ≡ Kept = search rules in
+    let M = c.loop-place.marking.marks.items in
+    let kept : mark_at M c.variable-variable.result ≡ Kept = search rules in
     met_decision m kept c.if-open-eq1.false (sym c.reason.ensures ∙ c.in-None.is)
 
 pub loop-place-preserved : goal.loop-place-preserved
 loop-place-preserved c =
     let i = c.loop-place.invariant in
     let m = met (goal.at.loop-place-preserved c).After-variable-variable in
-    let other : mark_at c.loop-place.marks c.variable-variable.result ≢ Kept = search rules in
+    let M = c.loop-place.marking.marks.items in
+    let other : mark_at M c.variable-variable.result ≢ Kept = search rules in
     let lt = m.here.within in
     record {
       walked = met_other m other;
@@ -94,6 +104,9 @@ loop-place-preserved c =
 pub unreachable-requires-2 : goal.unreachable-requires-2
 unreachable-requires-2 c =
     let zero : c.loop-place.place ≡ 0 = omega arith in
-    walk_end c.args.store.now.slots c.args.engine.now.trail c.args.marks.now c.loop-place.marks
-    c.loop-place.open (subst (IsWalked c.args.store.now.slots c.args.engine.now.trail
-    c.args.marks.now c.loop-place.marks c.loop-place.open) zero c.loop-place.invariant.walked)
+    let T = c.args.engine.now.trail in
+    let slots = c.args.store.now.slots in
+    let O = c.args.marking.now.marks.items in
+    let M = c.loop-place.marking.marks.items in
+    walk_end slots T O M c.loop-place.open
+    (subst (IsWalked slots T O M c.loop-place.open) zero c.loop-place.invariant.walked)

@@ -3,7 +3,7 @@ use Rattle.propagate.specs.Trail.{Assigned}
 use Rattle.cdcl_order.specs.Policies.{PolicyState}
 use Rattle.cdcl.specs.declared.assuming.SearchEnd.TheVariants.{Spent}
 use Rattle.cdcl_search.proofs.Laws.{writes_none}
-use Rattle.cdcl.proofs.Rounds.{goes_over, pays_none, pays_nothing}
+use Rattle.cdcl.proofs.Rounds.{goes_restarted, pays_none, pays_nothing}
 use Rattle.cdcl.proofs.Halts.{turn_halts, turn_goes_on, turn_breaks, turn_after}
 use Rattle.cdcl.proofs.assuming.decide_assuming.Goals as goal
 
@@ -21,9 +21,9 @@ returns-then-is_restart_due g c =
     let s = c.args.search.now in
     let p = c.args.input.now in
     let ls = g.S.Sink.lines c.args.sink.now in
-    let o = c.start_over.ensures in
-    turn_goes_on s c.start_over.new.self p c.args.assumptions.now ls ls c.args.budget.now
-    (goes_over s c.start_over.new.self p ls c.args.budget.now (o.runs p ls c.requires.runs)
+    let o = c.restart.ensures in
+    turn_goes_on s c.restart.new.self p c.args.assumptions.now ls ls c.args.budget.now
+    (goes_restarted s c.restart.new.self p ls c.args.budget.now (o.runs p ls c.requires.runs)
     o.variables (c.is_restart_due.ensures c.if-is_restart_due.true)
     (ap (λ (x : PolicyState). x.has_learned) o.policy))
     (writes_none p.given ls)

@@ -8,7 +8,7 @@ use Rattle.cdcl_order.specs.Policies.{PolicyState}
 use Rattle.cdcl_search.specs.declared.search.Search.{Search}
 use Rattle.cdcl.specs.declared.searching.End.TheVariants.{Satisfied, Spent}
 use Rattle.cdcl_search.proofs.Laws.{writes_none, writes_join}
-use Rattle.cdcl.proofs.Rounds.{goes_over, goes_decided, turn_ends, turn_goes, turn_fails}
+use Rattle.cdcl.proofs.Rounds.{goes_restarted, goes_decided, turn_ends, turn_goes, turn_fails}
 use Rattle.cdcl.proofs.searching.on_quiet.Goals as goal
 
 pub returns-then-left-eq0 : goal.returns-then-left-eq0
@@ -29,9 +29,9 @@ returns-then-is_restart_due g c =
     let s = c.args.search.now in
     let p = c.args.input.now in
     let ls = g.S.Sink.lines c.args.sink.now in
-    let o = c.start_over.ensures in
-    turn_goes s c.start_over.new.self p ls ls c.args.budget.now
-    (goes_over s c.start_over.new.self p ls c.args.budget.now (o.runs p ls c.requires.runs)
+    let o = c.restart.ensures in
+    turn_goes s c.restart.new.self p ls ls c.args.budget.now
+    (goes_restarted s c.restart.new.self p ls c.args.budget.now (o.runs p ls c.requires.runs)
     o.variables (c.is_restart_due.ensures c.if-is_restart_due.true)
     (ap (λ (x : PolicyState). x.has_learned) o.policy))
     (writes_none p.given ls)

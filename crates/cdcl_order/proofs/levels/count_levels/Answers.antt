@@ -78,8 +78,8 @@ loop-lit-preserved c =
                 subst (λ ss. AreStamped ss c.args.count now) (sym w.stamps-is)
                 (subst (AreStamped (set l.stamps level c.args.count) c.args.count) (sym first)
                 stamped);
-            counted = rw long (w.distance-is ∙ one_more_counted l.distance (length met)
-                w.saturating_add-distance.result w.saturating_add-distance.ensures
+            counted = rw long (w.lbd-is ∙ one_more_counted l.lbd (length met)
+                w.saturating_add-lbd.result w.saturating_add-lbd.ensures
                 l.invariant.counted);
           }
       | else-level-gt0 w ↦
@@ -96,7 +96,7 @@ loop-lit-preserved c =
             stamped =
                 subst (λ ss. AreStamped ss c.args.count now) (sym w.stamps-is)
                 (subst (AreStamped l.stamps c.args.count) (sym none) l.invariant.stamped);
-            counted = w.distance-is ∙ l.invariant.counted
+            counted = w.lbd-is ∙ l.invariant.counted
                 ∙ ap (λ m. min (length m) (2 ^ 32 - 1)) (sym none);
           }
     ]

@@ -11,5 +11,5 @@ invariant-loop-lit l =
       long : length l.stamps ≡ length l.fn.stamps;
       past : All (λ n. n ≤ l.count) l.stamps;
       stamped : AreStamped l.stamps l.count met;
-      counted : l.distance ≡ min (length met) (2 ^ 32 - 1);
+      counted : l.lbd ≡ min (length met) (2 ^ 32 - 1);
     }

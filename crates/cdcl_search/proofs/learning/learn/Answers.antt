@@ -37,8 +37,8 @@ hints_of-requires-clause-noted g c =
     all_noted s.store.slots s.engine.trail s.units.items s.noted c.as_slice.result.now
     c.requires.runs.running.units c.requires.deep
 
-pub learn_from-distance-requires-clause-hints : goal.learn_from-distance-requires-clause-hints
-learn_from-distance-requires-clause-hints g c =
+pub learn_from-lbd-requires-clause-hints : goal.learn_from-lbd-requires-clause-hints
+learn_from-lbd-requires-clause-hints g c =
     let s = c.args.search.now in
     let learned = c.in_ok-learned.learned in
     subst (λ (x : Search). All (λ r. is_attached x.engine r ≡ true) learned.hints.items)
@@ -46,8 +46,8 @@ learn_from-distance-requires-clause-hints g c =
     (live_attached s.engine s.store.slots learned.hints.items c.requires.runs.running.searches
     (refutes_live s.store.slots _ learned.hints.items c.in_ok-learned.ensures.hints))
 
-pub learn_from-distance-requires-clause-within : goal.learn_from-distance-requires-clause-within
-learn_from-distance-requires-clause-within g c =
+pub learn_from-lbd-requires-clause-within : goal.learn_from-lbd-requires-clause-within
+learn_from-lbd-requires-clause-within g c =
     let s = c.args.search.now in
     let learned = c.in_ok-learned.learned in
     subst (λ (x : Search). IsWithin (x.engine).variables learned.lits.items)
@@ -59,8 +59,8 @@ pub backtrack-requires-clause-level : goal.backtrack-requires-clause-level
 backtrack-requires-clause-level g c =
     let s = c.args.search.now in
     let learned = c.in_ok-learned.learned in
-    let same : depth_of c.learn_from-distance.new.self.engine.trail ≡ depth_of s.engine.trail =
-    ap (λ (x : Search). depth_of (x.engine).trail) c.learn_from-distance.ensures.only_policy
+    let same : depth_of c.learn_from-lbd.new.self.engine.trail ≡ depth_of s.engine.trail =
+    ap (λ (x : Search). depth_of (x.engine).trail) c.learn_from-lbd.ensures.only_policy
     ∙ ap (λ (x : Search). depth_of (x.engine).trail) c.hints_of.ensures.only_stamps in
     let low =
     back_low s.engine.trail learned.lits.items learned.back_level
@@ -76,7 +76,7 @@ add_line-requires-clause-within g c =
     c.requires.runs.running.searches.fits c.in_ok-learned.ensures.asserting in
     let same : c.backtrack.new.self.engine.variables ≡ s.engine.variables =
     c.backtrack.ensures.engine.variables
-    ∙ ap (λ (x : Search). (x.engine).variables) c.learn_from-distance.ensures.only_policy
+    ∙ ap (λ (x : Search). (x.engine).variables) c.learn_from-lbd.ensures.only_policy
     ∙ ap (λ (x : Search). (x.engine).variables) c.hints_of.ensures.only_stamps in
     subst (λ n. IsWithin n c.as_slice-2.result.now) (sym same)
     (subst (IsWithin s.engine.variables) (sym c.as_slice-2.ensures) within)
@@ -119,21 +119,21 @@ returns-clause-learns g c =
     } in
     let goes : Search → Type 0 = λ (x : Search). IsRunning x.engine (x.store).slots p.stack
     (tables_of x) p.frozen.items p.first p.given ls in
-    let bumped : goes c.learn_from-distance.new.self =
-    subst goes (sym c.learn_from-distance.ensures.only_policy)
+    let bumped : goes c.learn_from-lbd.new.self =
+    subst goes (sym c.learn_from-lbd.ensures.only_policy)
     (subst goes (sym c.hints_of.ensures.only_stamps) c.requires.runs.running) in
     let moved = c.backtrack.ensures.state p ls bumped in
     let trail : m.engine.trail ≡ kept_to learned.back_level T = c.backtrack.ensures.trail
     ∙ ap (λ (x : Search). kept_to learned.back_level (x.engine).trail)
-    c.learn_from-distance.ensures.only_policy
+    c.learn_from-lbd.ensures.only_policy
     ∙ ap (λ (x : Search). kept_to learned.back_level (x.engine).trail)
     c.hints_of.ensures.only_stamps in
     let stamps : m.stamps.items ≡ c.hints_of.new.self.stamps.items =
     ap (λ (x : Search). (x.stamps).items) c.backtrack.ensures.engine.rest
-    ∙ ap (λ (x : Search). (x.stamps).items) c.learn_from-distance.ensures.only_policy in
+    ∙ ap (λ (x : Search). (x.stamps).items) c.learn_from-lbd.ensures.only_policy in
     let additions : m.additions ≡ s.additions =
     ap (λ (x : Search). x.additions) c.backtrack.ensures.engine.rest
-    ∙ ap (λ (x : Search). x.additions) c.learn_from-distance.ensures.only_policy
+    ∙ ap (λ (x : Search). x.additions) c.learn_from-lbd.ensures.only_policy
     ∙ ap (λ (x : Search). x.additions) c.hints_of.ensures.only_stamps in
     let past : All (λ x. x ≤ m.additions + 1) m.stamps.items =
     subst (λ k. All (λ x. x ≤ k + 1) m.stamps.items) (sym additions)
@@ -146,7 +146,7 @@ returns-clause-learns g c =
     subst (Runs n p) (sym c.in_ok-reference.ensures.lines) on in
     let run = c.requires.runs.running in
     let same : m.engine.variables ≡ s.engine.variables = c.backtrack.ensures.engine.variables
-    ∙ ap (λ (x : Search). (x.engine).variables) c.learn_from-distance.ensures.only_policy
+    ∙ ap (λ (x : Search). (x.engine).variables) c.learn_from-lbd.ensures.only_policy
     ∙ ap (λ (x : Search). (x.engine).variables) c.hints_of.ensures.only_stamps in
     record {
       runs = runs_chosen n c.note_learned.new.self p _

@@ -155,64 +155,45 @@ same_clauses : (g : Over) (c : After-move_together g)
 same_clauses g c = ap live_clauses c.move_together.ensures.slots
     ∙ live_map (live_clauses c.define_where_open.new.store.slots)
 
-pub returns-clause-together : goal.returns-clause-together
-returns-clause-together g c = c.move_together.ensures.slots
-    ∙ ap (map Some) (sym (same_clauses g (goal.at.returns-clause-together g c).After-move_together))
-
-pub returns-clause-live : goal.returns-clause-live
-returns-clause-live g c base above =
-    let k = ended g (goal.at.returns-clause-live g c).In_ok-vars in
-    together_holds c.define_where_open.new.store.slots c.move_together.new.store.slots
-    c.define_where_open.new.simplifier.names.names c.in_ok-names.names.items base _
-    (log_live (given_of (live_clauses c.args.store.now.slots)) base
-    (g.S.Sink.lines c.define_where_open.new.sink)) k.work.named.numbers k.work.named.long
-    c.move_together.ensures.slots
-    (c.in_ok-names.ensures ∙ ap (λ (n : NamesState). n.names) c.move_together.ensures.names)
-    (k.work.named.live base above)
-
-pub returns-clause-left : goal.returns-clause-left
-returns-clause-left g c =
-    subst (All (IsFormulaClause c.in_ok-vars.vars))
-    (sym (same_clauses g (goal.at.returns-clause-left g c).After-move_together))
-    (all_live (IsFormulaClause c.in_ok-vars.vars) c.define_where_open.new.store.slots
-    (ended g (goal.at.returns-clause-left g c).In_ok-vars).work.clauses)
-
-pub returns-clause-variables : goal.returns-clause-variables
-returns-clause-variables g c = let k = ended g (goal.at.returns-clause-variables g c).In_ok-vars in
-    (k.more, k.fresh)
-
-pub returns-clause-free : goal.returns-clause-free
-returns-clause-free g c =
+pub returns-clause-leaves : goal.returns-clause-leaves
+returns-clause-leaves g c =
+    let k = ended g (goal.at.returns-clause-leaves g c).In_ok-vars in
     let removed = c.define_where_open.new.simplifier.removals in
-    subst (AreFreeOf removed)
-    (sym (same_clauses g (goal.at.returns-clause-free g c).After-move_together))
-    (all_live (λ (d : List Literal). All
-    (λ (l : Literal). is_eliminated removed l.variable ≡ false) d)
-    c.define_where_open.new.store.slots
-    (ended g (goal.at.returns-clause-free g c).In_ok-vars).free)
-
-pub returns-clause-not_frozen : goal.returns-clause-not_frozen
-returns-clause-not_frozen g c =
-    (ended g (goal.at.returns-clause-not_frozen g c).In_ok-vars).not_frozen
-
-pub returns-clause-back : goal.returns-clause-back
-returns-clause-back g c bits few all =
-    (ended g (goal.at.returns-clause-back g c).In_ok-vars).back bits few
-    (subst (SatisfiesAll (assignment_of bits))
-    (same_clauses g (goal.at.returns-clause-back g c).After-move_together) all)
-
-pub returns-clause-refuted : goal.returns-clause-refuted
-returns-clause-refuted g c w =
-    elim (cases_Bool c.propagate_units.new.simplifier.is_refuted) [
-      | inl e ↦
-          let h = simplified g (goal.at.returns-clause-refuted g c).In_ok-simplify in
-          subst (λ (cs : List (List Literal)). Contains cs [])
-          (sym (same_clauses g (goal.at.returns-clause-refuted g c).After-move_together
-          ∙ ap live_clauses
-          (c.in_ok-vars.ensures.refuted (c.in_ok-simplify.ensures.refuted e))))
-          (h.refuted (c.in_ok-simplify.ensures.refuted e))
-      | inr e ↦ absurd (c.in_ok-propagate_units.ensures.refuted e w)
-    ]
+    let slots = c.define_where_open.new.store.slots in
+    let same = same_clauses g (goal.at.returns-clause-leaves g c).After-move_together in
+    record {
+      together = c.move_together.ensures.slots ∙ ap (map Some) (sym same);
+      live =
+          λ base above. together_holds slots c.move_together.new.store.slots
+          c.define_where_open.new.simplifier.names.names c.in_ok-names.names.items base _
+          (log_live (given_of (live_clauses c.args.store.now.slots)) base
+          (g.S.Sink.lines c.define_where_open.new.sink)) k.work.named.numbers k.work.named.long
+          c.move_together.ensures.slots
+          (c.in_ok-names.ensures ∙ ap (λ (n : NamesState). n.names) c.move_together.ensures.names)
+          (k.work.named.live base above);
+      left =
+          subst (All (IsFormulaClause c.in_ok-vars.vars)) (sym same)
+          (all_live (IsFormulaClause c.in_ok-vars.vars) slots k.work.clauses);
+      variables = (k.more, k.fresh);
+      free =
+          subst (AreFreeOf removed) (sym same)
+          (all_live (λ (d : List Literal). All
+          (λ (l : Literal). is_eliminated removed l.variable ≡ false) d) slots k.free);
+      not_frozen = k.not_frozen;
+      back =
+          λ bits few all. k.back bits few
+          (subst (SatisfiesAll (assignment_of bits)) same all);
+      refuted =
+          λ w. elim (cases_Bool c.propagate_units.new.simplifier.is_refuted) [
+            | inl e ↦
+                let h = simplified g (goal.at.returns-clause-leaves g c).In_ok-simplify in
+                subst (λ (cs : List (List Literal)). Contains cs []) (sym (same
+                ∙ ap live_clauses
+                (c.in_ok-vars.ensures.refuted (c.in_ok-simplify.ensures.refuted e))))
+                (h.refuted (c.in_ok-simplify.ensures.refuted e))
+            | inr e ↦ absurd (c.in_ok-propagate_units.ensures.refuted e w)
+          ];
+    }
 
 pub invariant_of-result : goal.invariant_of-result
 invariant_of-result g c = (ended g (goal.at.invariant_of-result g c).In_ok-vars).within

@@ -99,7 +99,7 @@ returns-clause-grows g c =
     c.lits.ensures) (literals_plain s slots ls c.requires.is_open.simplified c.args.second e
     c.lits-2.ensures) has has_not in
     subst (GrowsWithout p slots)
-    (sym (c.in_ok-reference.ensures.slots
+    (sym (c.in_ok-reference.ensures.adds.slots
     ∙ ap (λ (xs : List Literal). slots ++ Some xs ∷ [])
     (c.in_ok-is_plain.ensures.built c.if-not-is_plain.false)))
     (grows_one p slots (resolvent p d e) lacks)
@@ -110,17 +110,18 @@ returns-clause-resolved g c x y ex ey =
       length c.args.store.now.slots,
       pair_added c.args.pivot c.args.store.now.slots c.add.new.store.slots c.args.first
           c.args.second c.lits.result.now c.lits-2.result.now c.resolve.new.out.items
-          c.in_ok-reference.ensures.slots (c.in_ok-is_plain.ensures.built c.if-not-is_plain.false)
+          c.in_ok-reference.ensures.adds.slots
+          (c.in_ok-is_plain.ensures.built c.if-not-is_plain.false)
           c.lits.ensures c.lits-2.ensures x y ex ey,
     )
 
 pub returns-clause-added : goal.returns-clause-added
 returns-clause-added g c = (
-  c.in_ok-reference.ensures.reference,
+  c.in_ok-reference.ensures.adds.reference,
   λ x y ex ey.
-      ap (clause_at c.add.new.store.slots) c.in_ok-reference.ensures.reference
+      ap (clause_at c.add.new.store.slots) c.in_ok-reference.ensures.adds.reference
       ∙ pair_added c.args.pivot c.args.store.now.slots c.add.new.store.slots c.args.first
       c.args.second c.lits.result.now c.lits-2.result.now c.resolve.new.out.items
-      c.in_ok-reference.ensures.slots (c.in_ok-is_plain.ensures.built c.if-not-is_plain.false)
+      c.in_ok-reference.ensures.adds.slots (c.in_ok-is_plain.ensures.built c.if-not-is_plain.false)
       c.lits.ensures c.lits-2.ensures x y ex ey,
 )

@@ -44,8 +44,8 @@ left_fits : (g : Over) (c : In_ok-left_side g)
 left_fits g c =
     fit_added c.add.new.names c.add_side.new.names c.add.new.store.slots c.add_side.new.store.slots
     (g.S.Sink.lines c.add.new.sink) (g.S.Sink.lines c.add_side.new.sink) _ _
-    (whole_fits g (goal.at.In_ok-left_side g c).In_ok-whole) c.in_ok-left_side.ensures.slots
-    c.in_ok-left_side.ensures.names c.in_ok-left_side.ensures.lines refl
+    (whole_fits g (goal.at.In_ok-left_side g c).In_ok-whole) c.in_ok-left_side.ensures.adds.slots
+    c.in_ok-left_side.ensures.adds.names c.in_ok-left_side.ensures.adds.lines refl
 
 left_stage : (g : Over) (c : In_ok-left_side g)
     → stage_of (c.args.vars + 1) c.add_side.new.store.slots c.add_side.new.names
@@ -61,8 +61,9 @@ left_stage g c =
     side_is (c.args.vars + 1) c.add.new.store.slots c.add_side.new.store.slots c.add.new.names
     c.add_side.new.names (g.S.Sink.lines c.add.new.sink) (g.S.Sink.lines c.add_side.new.sink)
     (with_whole s c.args.left c.args.right) c.in_ok-whole.whole (length s.slots) c.args.left
-    (whole_fits g w).counted c.in_ok-left_side.ensures.slots c.in_ok-left_side.ensures.names
-    c.in_ok-left_side.ensures.lines (whole_stage g w) c.in_ok-whole.ensures.reference
+    (whole_fits g w).counted c.in_ok-left_side.ensures.adds.slots
+    c.in_ok-left_side.ensures.adds.names c.in_ok-left_side.ensures.adds.lines (whole_stage g w)
+    c.in_ok-whole.ensures.reference
 
 pub add_side-requires-clause-counted : goal.add_side-requires-clause-counted
 add_side-requires-clause-counted g c =
@@ -78,8 +79,8 @@ returns-clause-fit g c =
     c.add_side-2.new.store.slots (g.S.Sink.lines c.add_side.new.sink)
     (g.S.Sink.lines c.add_side-2.new.sink) _ _
     (left_fits g (goal.at.returns-clause-fit g c).In_ok-left_side)
-    c.in_ok-right_side.ensures.slots c.in_ok-right_side.ensures.names
-    c.in_ok-right_side.ensures.lines refl
+    c.in_ok-right_side.ensures.adds.slots c.in_ok-right_side.ensures.adds.names
+    c.in_ok-right_side.ensures.adds.lines refl
 
 pub returns-in_err-left_side-clause-moves : goal.returns-in_err-left_side-clause-moves
 returns-in_err-left_side-clause-moves g c =
@@ -133,9 +134,9 @@ returns-clause-defined g c =
     defined_is slots c.add.new.store.slots c.add_side.new.store.slots c.add_side-2.new.store.slots
     (v + 1) a b c.in_ok-whole.whole c.in_ok-left_side.left_side c.in_ok-right_side.right_side
     (c.in_ok-whole.ensures.slots ∙ ap (λ x. slots ++ Some x ∷ []) is)
-    c.in_ok-left_side.ensures.slots c.in_ok-right_side.ensures.slots
-    c.in_ok-whole.ensures.reference c.in_ok-left_side.ensures.reference
-    c.in_ok-right_side.ensures.reference in
+    c.in_ok-left_side.ensures.adds.slots c.in_ok-right_side.ensures.adds.slots
+    c.in_ok-whole.ensures.reference c.in_ok-left_side.ensures.adds.reference
+    c.in_ok-right_side.ensures.adds.reference in
     record { whole = d.0; left_side = d.1; right_side = d.2; two = c.requires.often.two }
 
 -- the stage with all three
@@ -155,8 +156,8 @@ right_stage g c =
     (g.S.Sink.lines c.add_side-2.new.sink)
     (with_side (with_whole s c.args.left c.args.right) (length s.slots) c.args.left)
     c.in_ok-whole.whole (length s.slots) c.args.right (left_fits g left).counted
-    c.in_ok-right_side.ensures.slots
-    c.in_ok-right_side.ensures.names c.in_ok-right_side.ensures.lines (left_stage g left)
+    c.in_ok-right_side.ensures.adds.slots
+    c.in_ok-right_side.ensures.adds.names c.in_ok-right_side.ensures.adds.lines (left_stage g left)
     c.in_ok-whole.ensures.reference
 
 pub returns-clause-moves : goal.returns-clause-moves

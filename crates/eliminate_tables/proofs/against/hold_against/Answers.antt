@@ -8,7 +8,9 @@ use Rattle.eliminate_tables.specs.declared.against.Against.TheVariants.{Within}
 use Rattle.eliminate_tables.proofs.Lying.{IsOpen, apart_second, apart_neither, open_lies}
 use Rattle.eliminate_tables.proofs.against.hold_against.Goals as goal
 use Rattle.eliminate_tables.proofs.against.hold_against.Goals.{then-ne-via-then-ne}
-use Rattle.eliminate_tables.proofs.against.hold_against.Goals.{then-ne-via-else-ne+then-not-is_marked-2}
+use Rattle.eliminate_tables.proofs.against.hold_against.Goals.{
+  then-ne-via-else-ne+then-not-is_marked-2,
+}
 
 pub returns-then-ne-clause-exact : goal.returns-then-ne-clause-exact
 returns-then-ne-clause-exact c =

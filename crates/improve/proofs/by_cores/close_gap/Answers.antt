@@ -73,7 +73,7 @@ returns-in_err-note_model-in-Model-clause-fault g c =
 
 pub returns-in-Closed-clause-search : goal.returns-in-Closed-clause-search
 returns-in-Closed-clause-search g c =
-    subst (IsSearchFor c.args.instance.now) (sym c.retire.ensures)
+    subst (IsSearchFor c.args.instance.now) (sym c.retire.ensures.unchanged)
     (search_kept c.args.instance.now c.events.search c.next.new.self c.events.invariant.search
     c.next.ensures.formula)
 
@@ -86,7 +86,8 @@ returns-in-Closed-clause-goes_on g c =
     c.next.new.budget c.events.standing c.events.search.lines c.next.new.self.lines
     i.goes_on.standing c.next.ensures.learned) in
     goes_same c.args.instance.now _ _ _ _ _ _ _ _ _ _ a
-    (omega (arith, a.learned, ap (λ (w : CoreWork). learned_count w.lines) c.retire.ensures))
+    (omega (arith, a.learned,
+    ap (λ (w : CoreWork). learned_count w.lines) c.retire.ensures.unchanged))
 
 pub returns-in-Over-clause-search : goal.returns-in-Over-clause-search
 returns-in-Over-clause-search g c =

@@ -1,6 +1,6 @@
 -- The clauses are those of the formula.
 use Rattle.std.proofs.Common.{◌∙◌}
-use Rattle.improve.proofs.GivenNumbers.{given_whole}
+use Rattle.improve.proofs.Numbering.{given_whole}
 use Rattle.improve.proofs.search.make_hard_solver.Goals as goal
 
 pub returns : goal.returns

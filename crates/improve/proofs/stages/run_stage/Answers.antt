@@ -10,7 +10,7 @@ use Rattle.improve.proofs.stages.run_stage.Goals as goal
 
 pub close_gap-requires-clause-search : goal.close_gap-requires-clause-search
 close_gap-requires-clause-search g c =
-    subst (IsSearchFor c.args.instance.now) (sym c.allow.ensures) c.requires.search
+    subst (IsSearchFor c.args.instance.now) (sym c.allow.ensures.unchanged) c.requires.search
 
 pub returns-in_err-is_closed-clause-fault : goal.returns-in_err-is_closed-clause-fault
 returns-in_err-is_closed-clause-fault g c =
@@ -21,13 +21,15 @@ pub returns-in_default-clause-goes_on : goal.returns-in_default-clause-goes_on
 returns-in_default-clause-goes_on g c =
     let a = c.in_ok-is_closed.ensures.goes_on in
     goes_same c.args.instance.now _ _ _ _ _ _ _ _ _ _ a
-    (omega (arith, a.learned, ap (λ (w : CoreWork). learned_count w.lines) c.allow.ensures))
+    (omega (arith, a.learned,
+    ap (λ (w : CoreWork). learned_count w.lines) c.allow.ensures.unchanged))
 
 pub returns-then-worth-stage-clause-goes_on : goal.returns-then-worth-stage-clause-goes_on
 returns-then-worth-stage-clause-goes_on g c =
     let a = c.in_ok-is_closed.ensures.goes_on in
     goes_same c.args.instance.now _ _ _ _ _ _ _ _ _ _ a
-    (omega (arith, a.learned, ap (λ (w : CoreWork). learned_count w.lines) c.allow.ensures))
+    (omega (arith, a.learned,
+    ap (λ (w : CoreWork). learned_count w.lines) c.allow.ensures.unchanged))
 
 pub refute-requires-clause-failures : goal.refute-requires-clause-failures
 refute-requires-clause-failures g c =
@@ -39,7 +41,7 @@ returns-clause-follows g c =
 
 pub returns-clause-goes_on : goal.returns-clause-goes_on
 returns-clause-goes_on g c =
-    let given = ap (λ (w : CoreWork). learned_count w.lines) c.allow.ensures in
+    let given = ap (λ (w : CoreWork). learned_count w.lines) c.allow.ensures.unchanged in
     IfOk-weaker c.refute.result _ _
     (λ f h. goes_beside c.args.instance.now _ _ _ _ _ _ _ _ _ _ _ _ _ _ _
     c.in_ok-is_closed.ensures.goes_on h (omega (arith, given))) c.refute.ensures.goes_on

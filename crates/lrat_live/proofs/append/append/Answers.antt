@@ -1,9 +1,10 @@
-use Rattle.std.proofs.Common.{◌≡◌, ◌+◌, ◌<◌, ◌^◌, ap, arith, drop, length, refl, true, ◌∙◌}
+use Rattle.std.proofs.Common.{◌≡◌, ◌+◌, ◌<◌, ◌≤◌, ap, arith, drop, length, refl, true, ◌∙◌}
 use Rattle.std.proofs.lemmas.List.{get_or_default, take_at}
 use Rattle.std.specs.Prelude.{slice_index}
 use Rattle.lrat_live.specs.Chains.{IsChained, bucket_of}
 use Rattle.lrat_live.specs.Table.{cells_of, keys_of, nexts_of}
 use Rattle.lrat_live.specs.declared.entries.AddedEntry.{AddedEntry}
+use Rattle.lrat_live.specs.declared.spans.TheConstants.{MOST_KEPT}
 use Rattle.lrat_live.proofs.Tables.{table_push, table_clauses}
 use Rattle.lrat_live.proofs.append.append.Goals as goal
 use Rattle.lrat_live.proofs.append.append.Goals.{In_ok-reserve}
@@ -45,8 +46,8 @@ returns-clause-table c =
     let next : c.index.result.now ≡ slice_index hs c.bucket-bucket.result =
     c.index.ensures ∙ get_or_default hs c.bucket-bucket.result c.index.result.now 0 within in
     let room : length grown < length hs = omega (arith, c.in_ok-grow.ensures.room, count) in
-    let few : length ls + length c.args.clause.now + 1 < 2 ^ 32 = omega arith in
-    let fewer : length grown + 2 < 2 ^ 32 = omega arith in
+    let few : length ls + length c.args.clause.now ≤ MOST_KEPT = omega arith in
+    let fewer : length grown + 1 ≤ MOST_KEPT = omega arith in
     let place : c.len-3.result ≡ length grown + 1 =
     omega (arith, c.in_ok-push.ensures.len, c.reserve.new.self.ok.0) in
     rw (c.in_ok-push.ensures.items, c.in_ok-extend_from_slice.ensures.items)

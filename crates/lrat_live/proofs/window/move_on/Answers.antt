@@ -3,6 +3,7 @@ use Rattle.std.proofs.Common.{refl, sym, ap, subst, arith, length-set}
 use Rattle.lrat_live.specs.Listed.{IsRising}
 use Rattle.lrat_live.specs.Near.{is_live, literals_at, spanned}
 use Rattle.lrat_live.specs.declared.spans.LiveSpan.{LiveSpan}
+use Rattle.lrat_live.specs.declared.spans.TheConstants.{DEAD}
 use Rattle.lrat_live.proofs.SpanLaws.{zeros, spread_set}
 use Rattle.lrat_live.proofs.WindowLaws.{below_later, first_live, moved_one, none_out, none_dead}
 use Rattle.lrat_live.proofs.WindowLaws.{within_set}
@@ -47,7 +48,7 @@ loop-place-preserved c =
     let ss = c.loop-place.spans in
     let i = c.loop-place.place in
     let far = c.loop-place.far in
-    let x : LiveSpan = record { start = 4294967295; length = (get_or ss i zeros).length } in
+    let x : LiveSpan = record { start = DEAD; length = (get_or ss i zeros).length } in
     let h : i < length ss = omega arith in
     let live : is_live (get_or ss i zeros) ≡ true =
     sym c.is_live.ensures ∙ c.if-not-is_live.false in

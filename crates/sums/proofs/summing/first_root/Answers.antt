@@ -1,5 +1,6 @@
 use Rattle.std.proofs.Common.{◌≡◌, ◌-◌, ◌+◌, ◌/◌, ◌∙◌, Some, length, ap, sym, map, arith}
 use Rattle.sums_tree.specs.Arrangement.{step_of}
+use Rattle.sums.specs.declared.summing.TheConstants.{TRIES}
 use Rattle.sums.specs.Stepping.{root_made}
 use Rattle.sums.specs.Sums.{Node, first_small}
 use Rattle.sums.proofs.Steps.{first_found, first_ended, first_later, first_over}
@@ -8,14 +9,14 @@ use Rattle.sums.proofs.summing.first_root.Goals as goal
 
 pub loop-digits-init : goal.loop-digits-init
 loop-digits-init c =
-    ap (first_small (root_made c.args.instance.now (map step_of c.args.steps.now)) 63 0)
+    ap (first_small (root_made c.args.instance.now (map step_of c.args.steps.now)) TRIES 0)
     c.weight_of-left.ensures
 
 pub returns-in-Ok-clause-root : goal.returns-in-Ok-clause-root
 returns-in-Ok-clause-root c =
     let make = root_made c.args.instance.now (map step_of c.args.steps.now) in
     ap Some c.in-Ok.ensures.root
-    ∙ sym (first_found make (63 - c.loop-digits.digits) c.loop-digits.digits c.loop-digits.left
+    ∙ sym (first_found make (TRIES - c.loop-digits.digits) c.loop-digits.digits c.loop-digits.left
     (omega arith) (omega (
       arith,
       ap (λ (n : Node). length n.clauses) c.in-Ok.ensures.root,
@@ -26,7 +27,7 @@ returns-in-Ok-clause-root c =
 pub returns-then-left-eq0-clause-root : goal.returns-then-left-eq0-clause-root
 returns-then-left-eq0-clause-root c =
     let make = root_made c.args.instance.now (map step_of c.args.steps.now) in
-    sym (first_ended make (63 - c.loop-digits.digits) c.loop-digits.digits c.loop-digits.left
+    sym (first_ended make (TRIES - c.loop-digits.digits) c.loop-digits.digits c.loop-digits.left
     (omega arith)
     (too_many_is _ _ c.in-Err-TooMany.field-0-is c.in-Err-TooMany.ensures.many)
     c.if-left-eq0.true)
@@ -36,9 +37,9 @@ pub loop-digits-preserved : goal.loop-digits-preserved
 loop-digits-preserved c =
     let make = root_made c.args.instance.now (map step_of c.args.steps.now) in
     let d = c.loop-digits.digits in
-    let next : 63 - (d + 1) ≡ (63 - d) - 1 = omega arith in
+    let next : TRIES - (d + 1) ≡ (TRIES - d) - 1 = omega arith in
     ap (λ n. first_small make n (d + 1) (c.loop-digits.left / 2)) next
-    ∙ sym (first_later make (63 - d) d c.loop-digits.left (omega arith)
+    ∙ sym (first_later make (TRIES - d) d c.loop-digits.left (omega arith)
     (too_many_is _ _ c.in-Err-TooMany.field-0-is c.in-Err-TooMany.ensures.many)
     c.if-left-eq0.false)
     ∙ c.loop-digits.invariant
@@ -46,6 +47,6 @@ loop-digits-preserved c =
 pub returns-clause-root : goal.returns-clause-root
 returns-clause-root c =
     let make = root_made c.args.instance.now (map step_of c.args.steps.now) in
-    sym (first_over make (63 - c.loop-digits.digits) c.loop-digits.digits c.loop-digits.left
+    sym (first_over make (TRIES - c.loop-digits.digits) c.loop-digits.digits c.loop-digits.left
     (omega arith))
     ∙ c.loop-digits.invariant

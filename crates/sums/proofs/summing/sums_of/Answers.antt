@@ -2,6 +2,7 @@ use Rattle.std.proofs.Common.{◌≡◌, ap, sym, subst, map, ◌∙◌, Some, I
 use Rattle.cnf.specs.Instance.{IsInstance}
 use Rattle.sums_tree.specs.Arranging.{tree}
 use Rattle.sums_tree.specs.Arrangement.{step_of, arranged}
+use Rattle.sums.specs.declared.summing.TheConstants.{TRIES}
 use Rattle.sums.specs.Stepping.{root_made, steps_weight, AreSteps}
 use Rattle.sums.specs.Sums.{first_small, sums_over, AreSmall}
 use Rattle.sums.proofs.Arranged.{arranged_sums, arranged_none, instance_cheaper, instance_small}
@@ -18,7 +19,7 @@ sums c =
     let is : arranged p ≡ Some (map step_of c.in-Some.steps.items) =
     rw c.in-Some.is at c.in_ok-steps.ensures in
     subst (λ o. IfOk c.first_root.result (λ r. r ≡ o))
-    (ap (λ ss. first_small (root_made p (map step_of ss)) 63 0 (steps_weight p (map step_of ss)))
+    (ap (λ ss. first_small (root_made p (map step_of ss)) TRIES 0 (steps_weight p (map step_of ss)))
     c.deref.ensures.value
     ∙ arranged_sums p (map step_of c.in-Some.steps.items) is)
     c.first_root.ensures.root

@@ -3,10 +3,11 @@ use Rattle.std.proofs.Common.{◌≡◌, ◌∙◌, true, sym, ap, subst, length
 use Rattle.std.proofs.Common.{Some, None}
 use Rattle.std.proofs.lemmas.Bool.{cond-true, le-leb}
 use Rattle.sums_tree.specs.Groups.{groups}
-use Rattle.sums_tree.specs.Arranging.{leaves_from, nodes, round_count, rounds, tree}
+use Rattle.sums_tree.specs.Arranging.{leaves_from, nodes, rounds, tree}
 use Rattle.sums_tree.specs.Arrangement.{steps_to}
 use Rattle.sums_tree.specs.Nodes.{AreAmong, AreNodes, steps_at}
 use Rattle.sums_tree.specs.declared.arrangement.TheConstants.{GROUP_LIMIT}
+use Rattle.sums_tree.specs.declared.nodes.TheConstants.{ROUNDS}
 use Rattle.sums_tree.proofs.Among.{connections_among}
 use Rattle.sums_tree.proofs.Laid.{length-groups, length-rows, rows_back}
 use Rattle.sums_tree.proofs.arrangement.arrange.Goals as goal
@@ -35,7 +36,7 @@ returns c =
     let ks = c.deref.ensures.value ∙ c.in_ok-connections.ensures in
     let are : AreNodes (groups p) c.in_ok-nodes.nodes.tracks.items (nodes p) =
     subst (λ cs. AreNodes (groups p) c.in_ok-nodes.nodes.tracks.items
-    (rounds round_count 2 cs (leaves_from 0 (groups p)))) ks
+    (rounds ROUNDS 2 cs (leaves_from 0 (groups p)))) ks
     (c.in_ok-nodes.ensures.nodes (groups p) long) in
     let track = c.in_ok-track.ensures (groups p) (nodes p)
     (long ∙ sym c.in_ok-nodes.ensures.labels.labels_long) are in

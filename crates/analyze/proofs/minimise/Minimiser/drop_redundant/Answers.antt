@@ -8,8 +8,8 @@ pub loop-settled-preserved-in-Some : goal.loop-settled-preserved-in-Some
 loop-settled-preserved-in-Some c =
     let T = c.args.engine.now.trail in
     let slots = c.args.store.now.slots in
-    let M = c.loop-settled.marks in
-    let N = c.resolve_one.new.marks in
+    let M = c.loop-settled.marking.marks.items in
+    let N = c.resolve_one.new.marking.marks.items in
     let v = c.min-variable.result in
     let r = c.in-Some-reason.reason in
     let u = c.args.asserting in
@@ -22,7 +22,7 @@ loop-settled-preserved-in-Some c =
     let d = c.resolve_one.ensures.resolved in
     record {
       reduces =
-          lower_reduces slots T c.args.marks.now M N v r u c.requires.fits.reasons kept ne room
-          here d i.reduces;
+          lower_reduces slots T c.args.marking.now.marks.items M N v r u c.requires.fits.reasons
+          kept ne room here d i.reduces;
       marking = c.resolve_one.ensures.marking;
     }

@@ -5,8 +5,9 @@ use Rattle.analyze.proofs.minimise.Minimiser.drop_redundant.Given as goal
 
 abbrev pub invariant-loop-settled : goal.invariant-loop-settled
 invariant-loop-settled l = record {
-  reduces : Reduces l.store.slots l.engine.trail l.fn.marks l.marks l.asserting;
-  marking : IsMarking l.engine l.marks l.met;
+  reduces : Reduces l.store.slots l.engine.trail l.fn.marking.marks.items
+      l.marking.marks.items l.asserting;
+  marking : IsMarking l.engine l.marking;
 }
 
 abbrev pub decreases-loop-settled : goal.decreases-loop-settled

@@ -5,10 +5,10 @@ use Rattle.analyze.proofs.minimise.Minimiser.meet_reasons.Goals as goal
 pub lits-lits-requires : goal.lits-lits-requires
 lits-lits-requires c =
     reason_live c.args.engine.now c.args.store.now.slots c.min-variable.result c.in-Some.reason
-    c.requires.fits (sym c.reason.ensures ∙ c.in-Some.is)
+    c.requires.fits.fits (sym c.reason.ensures ∙ c.in-Some.is)
 
-pub take_in-requires : goal.take_in-requires
-take_in-requires c =
+pub take_in-requires-clause-has : goal.take_in-requires-clause-has
+take_in-requires-clause-has c =
     reason_marked c.args.engine.now c.args.store.now.slots c.args.marks.now c.min-variable.result
-    c.in-Some.reason c.lits-lits.result.now c.requires (sym c.reason.ensures ∙ c.in-Some.is)
+    c.in-Some.reason c.lits-lits.result.now c.requires.fits (sym c.reason.ensures ∙ c.in-Some.is)
     c.lits-lits.ensures

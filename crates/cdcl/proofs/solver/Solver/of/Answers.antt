@@ -27,7 +27,7 @@ left g c =
     left_from c.into_clauses-clauses.result (live_clauses c.in_ok-store.store.slots)
     c.eliminate.new.store.slots c.in_ok-stack.stack (g.S.Sink.lines c.eliminate.new.sink.sink)
     (ap live_clauses c.in_ok-store.ensures ∙ live_map c.into_clauses-clauses.result)
-    c.in_ok-stack.ensures.live c.in_ok-stack.ensures.left
+    c.in_ok-stack.ensures.leaves.live c.in_ok-stack.ensures.leaves.left
 
 pub eliminate-requires-clause-formula : goal.eliminate-requires-clause-formula
 eliminate-requires-clause-formula g c =
@@ -40,7 +40,7 @@ eliminate-requires-clause-formula g c =
 pub start-requires-clause-few : goal.start-requires-clause-few
 start-requires-clause-few g c =
     let few = subst (λ n. n < 2 ^ 26) (sym c.requires.frozen) c.limits.ensures.few in
-    let v = c.in_ok-stack.ensures.variables in
+    let v = c.in_ok-stack.ensures.leaves.variables in
     let wide = ap length c.deref.ensures.value in
     omega (arith, v.1, few, wide)
 
@@ -48,7 +48,8 @@ pub start-requires-clause-long : goal.start-requires-clause-long
 start-requires-clause-long g c =
     left_long c.into_clauses-clauses.result c.eliminate.new.store.slots c.in_ok-stack.stack
     (g.S.Sink.lines c.eliminate.new.sink.sink)
-    (left g (goal.at.start-requires-clause-long g c).After-is_short) c.in_ok-stack.ensures.together
+    (left g (goal.at.start-requires-clause-long g c).After-is_short)
+    c.in_ok-stack.ensures.leaves.together
 
 pub start-requires-clause-live : goal.start-requires-clause-live
 start-requires-clause-live g c =
@@ -78,6 +79,7 @@ invariant_of-result g c =
     let ls = g.S.Sink.lines c.eliminate.new.sink.sink in
     let e = ap live_clauses c.in_ok-store.ensures ∙ live_map cs in
     let stack = c.in_ok-stack.ensures in
+    let leaves = stack.leaves in
     let rest = left g (goal.at.invariant_of-result g c).After-is_short in
     let frozen : c.args.frozen.items ≡ c.deref.result.now = sym c.deref.ensures.value in
     let p : Input =
@@ -99,9 +101,9 @@ invariant_of-result g c =
       input = new_input c.args.formula p cs c.limits.ensures c.into_clauses-clauses.ensures
           c.requires.frozen c.in_ok-given.ensures.ok firsts
           (subst (λ f. length f ≤ p.stack.variables) (sym frozen)
-          (subst (λ n. length c.deref.result.now ≤ n) (sym wide) stack.variables.0))
+          (subst (λ n. length c.deref.result.now ≤ n) (sym wide) leaves.variables.0))
           (subst (λ f. p.stack.variables ≤ length f + 2 ^ 20) (sym frozen)
-          (subst (λ n. n ≤ length c.deref.result.now + 2 ^ 20) (sym wide) stack.variables.1));
+          (subst (λ n. n ≤ length c.deref.result.now + 2 ^ 20) (sym wide) leaves.variables.1));
       lines =
           subst (λ x. StaysLogOver (length c.args.frozen.items) x ls)
           (sym c.in_ok-given.ensures.ok) stays;
@@ -113,9 +115,9 @@ invariant_of-result g c =
           firsts stays (sym c.eliminate.new.sink.told ∙ not_refuted) c.eliminate.new.sink.counted
           few
           (subst (λ f. All (λ r. IsFree f r.variable) (c.in_ok-stack.stack).removed) (sym frozen)
-          stack.not_frozen)
-          (subst (λ x. ExtendsBack c.in_ok-stack.stack x (live_clauses slots)) e stack.back)
-          (λ h. stack.refuted (subst IsRefutedByHints (sym e) h));
+          leaves.not_frozen)
+          (subst (λ x. ExtendsBack c.in_ok-stack.stack x (live_clauses slots)) e leaves.back)
+          (λ h. leaves.refuted (subst IsRefutedByHints (sym e) h));
     }
 
 pub returns-clause-given : goal.returns-clause-given
@@ -144,6 +146,7 @@ returns-clause-lines g c =
     let ls = g.S.Sink.lines c.eliminate.new.sink.sink in
     let e = ap live_clauses c.in_ok-store.ensures ∙ live_map cs in
     let stack = c.in_ok-stack.ensures in
+    let leaves = stack.leaves in
     let frozen : c.args.frozen.items ≡ c.deref.result.now = sym c.deref.ensures.value in
     let p : Input =
     record {
@@ -162,8 +165,8 @@ returns-clause-lines g c =
     new_input c.args.formula p cs c.limits.ensures c.into_clauses-clauses.ensures
     c.requires.frozen c.in_ok-given.ensures.ok firsts
     (subst (λ f. length f ≤ p.stack.variables) (sym frozen)
-    (subst (λ n. length c.deref.result.now ≤ n) (sym wide) stack.variables.0))
+    (subst (λ n. length c.deref.result.now ≤ n) (sym wide) leaves.variables.0))
     (subst (λ f. p.stack.variables ≤ length f + 2 ^ 20) (sym frozen)
-    (subst (λ n. n ≤ length c.deref.result.now + 2 ^ 20) (sym wide) stack.variables.1)) in
+    (subst (λ n. n ≤ length c.deref.result.now + 2 ^ 20) (sym wide) leaves.variables.1)) in
     log_now p ls input (subst (λ x. StaysLogOver (length c.args.frozen.items) x ls)
     (sym c.in_ok-given.ensures.ok) stays)

@@ -6,8 +6,8 @@ use Rattle.cnf.specs.Literal.{Literal}
 use Rattle.propagate.proofs.Laws.{within_all}
 use Rattle.cdcl_order.proofs.policy.Policy.note_use.Goals as goal
 
-pub distance-requires-clause-within : goal.distance-requires-clause-within
-distance-requires-clause-within c =
+pub count_lbd-requires-clause-within : goal.count_lbd-requires-clause-within
+count_lbd-requires-clause-within c =
     let e = c.args.engine.now in
     let w = c.requires.fits.attached c.args.reference c.requires.attached in
     let same : w.0 ≡ c.lits.result.now =

@@ -15,10 +15,11 @@ returns-clause-passes g c start h =
     let ls : List LogLine = g.S.Sink.lines c.args.sink.now in
     let r = c.args.reference in
     let live = c.requires.live in
-    let by = c.requires.live_too in
+    let subsumed = c.requires.subsumed in
+    let by = subsumed.live in
     let kept =
     simplified_subsumed start s t slots ls r c.args.by by.0 live.0 h c.requires.is_open.going
-    c.requires.other live.1 by.1 (c.requires.subset by.0 live.0 by.1 live.1)
+    subsumed.other live.1 by.1 (subsumed.beside by.0 live.0 by.1 live.1)
     (record {
       vars = refl;
       names = refl;

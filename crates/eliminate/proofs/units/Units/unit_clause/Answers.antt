@@ -54,12 +54,12 @@ returns-in_err-unit-clause-passes g c =
 pub returns-clause-alone : goal.returns-clause-alone
 returns-clause-alone g c =
     let slots : Slots = c.args.store.now.slots in
-    ap (λ xs. clause_at xs c.in_ok-unit.unit) c.in_ok-unit.ensures.slots
-    ∙ ap (clause_at (slots ++ Some c.push.new.self.items ∷ [])) c.in_ok-unit.ensures.reference
+    ap (λ xs. clause_at xs c.in_ok-unit.unit) c.in_ok-unit.ensures.adds.slots
+    ∙ ap (clause_at (slots ++ Some c.push.new.self.items ∷ [])) c.in_ok-unit.ensures.adds.reference
     ∙ clause_new slots c.push.new.self.items
     ∙ ap Some (alone g (goal.at.returns-clause-alone g c).In_ok-push)
 
 pub returns-clause-grows : goal.returns-clause-grows
 returns-clause-grows g c =
-    subst (Grows c.args.store.now.slots) (sym c.in_ok-unit.ensures.slots)
+    subst (Grows c.args.store.now.slots) (sym c.in_ok-unit.ensures.adds.slots)
     (λ r d e. clause_kept c.args.store.now.slots c.push.new.self.items d r e)

@@ -33,7 +33,7 @@ rebase-requires-clause-numbers c =
     let w = c.in_ok-weaker in
     rw c.deref.ensures.value
     (entries_fit c.args.instance.now c.args.self.now b.1.0 b.0 c.requires.over b.1.1 _
-    given w.weaker.items w.ensures.weaker w.ensures.few)
+    given w.weaker.items w.ensures.weaker (omega (arith, w.ensures.few)))
 
 pub rebase-requires-clause-literals : goal.rebase-requires-clause-literals
 rebase-requires-clause-literals c =

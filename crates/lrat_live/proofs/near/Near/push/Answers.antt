@@ -1,8 +1,9 @@
-use Rattle.std.proofs.Common.{◌≡◌, ℕ, ◌+◌, ◌<◌, ◌^◌, ◌∷◌, [], ◌++◌, ◌∙◌, List, length, ap, arith}
+use Rattle.std.proofs.Common.{◌≡◌, ℕ, ◌+◌, ◌<◌, ◌≤◌, ◌∷◌, [], ◌++◌, ◌∙◌, List, length, ap, arith}
 use Rattle.std.proofs.Common.{inl, inr, subst, sym}
 use Rattle.std.specs.Prelude.{All, Result, Ok, Err, OnErr}
 use Rattle.cnf.specs.Literal.{Literal}
 use Rattle.lrat_live.specs.Near.{Parts, IsNear, padded, recent_in}
+use Rattle.lrat_live.specs.declared.spans.TheConstants.{MOST_KEPT}
 use Rattle.lrat_live.proofs.PushLaws.{near_padded, given_padded, recent_padded, near_last}
 use Rattle.lrat_live.proofs.PushLaws.{given_last, recent_last, length-padded}
 use Rattle.lrat_live.proofs.near.Near.push.Goals as goal
@@ -37,7 +38,7 @@ at_end : (c : In-Some)
 at_end c =
     omega (arith, at_place c, length-padded c.in-Some.place c.self.inside.spans.items)
 
-few : (c : In-Some) → length c.self.inside.lits.items + length c.args.lits.now + 1 < 2 ^ 32
+few : (c : In-Some) → length c.self.inside.lits.items + length c.args.lits.now ≤ MOST_KEPT
 few c =
     omega (
       arith,

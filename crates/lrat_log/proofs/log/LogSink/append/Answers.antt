@@ -31,7 +31,8 @@ invariant_of-self-in-Ok c =
     (IsFlat-push c.self.inside.heads c.self.inside.lits.items c.self.inside.hints _ (line at)
     c.self.invariant refl e.0 e.1 short c.requires.line)
 
-pub returns-in_ok-extend_from_slice-in-Ok-clause-ok : goal.returns-in_ok-extend_from_slice-in-Ok-clause-ok
+pub returns-in_ok-extend_from_slice-in-Ok-clause-ok
+    : goal.returns-in_ok-extend_from_slice-in-Ok-clause-ok
 returns-in_ok-extend_from_slice-in-Ok-clause-ok c =
     let at = (goal.at.returns-in_ok-extend_from_slice-in-Ok-clause-ok c).In-Ok in
     let e = ends at in

@@ -2,6 +2,7 @@
 use Rattle.std.proofs.Common.{◌∙◌, refl, sym, subst, arith}
 use Rattle.std.proofs.lemmas.Grind.{pow_more}
 use Rattle.std.proofs.lemmas.Nat.{pow_below}
+use Rattle.sums_tree.specs.declared.nodes.TheConstants.{ROUNDS}
 use Rattle.sums_tree.specs.Nodes.{AreLabels, AreAmong, GoesRound}
 use Rattle.sums_tree.proofs.Rounds.{first_labels, first_round, next_round, all_rounds}
 use Rattle.sums_tree.proofs.nodes.Nodes.merged.Goals as goal
@@ -29,11 +30,11 @@ go_round-requires-clause-among c =
 
 pub go_round-requires-clause-most : goal.go_round-requires-clause-most
 go_round-requires-clause-most c =
-    omega (arith, c.loop-done.invariant.most, pow_below c.loop-done.done 18 (omega arith))
+    omega (arith, c.loop-done.invariant.most, pow_below c.loop-done.done ROUNDS (omega arith))
 
 pub overflow_mul-most : goal.overflow_mul-most
 overflow_mul-most c =
-    omega (arith, c.loop-done.invariant.most, pow_below c.loop-done.done 18 (omega arith))
+    omega (arith, c.loop-done.invariant.most, pow_below c.loop-done.done ROUNDS (omega arith))
 
 pub loop-done-preserved : goal.loop-done-preserved
 loop-done-preserved c =

@@ -1,19 +1,19 @@
 use Rattle.std.proofs.Common.{false, ap, ◌∙◌}
 use Rattle.cdcl_search.specs.declared.search.Search.{Search}
 use Rattle.cdcl_search.proofs.EngineMoves.{runs_chosen}
-use Rattle.cdcl_search.proofs.search.Search.start_over.Goals as goal
+use Rattle.cdcl_search.proofs.search.Search.restart.Goals as goal
 
 pub returns-clause-runs : goal.returns-clause-runs
 returns-clause-runs c p ls r =
-    runs_chosen c.backtrack.new.self c.start_over.new.self p ls
-    (ap (λ x. x.variables) c.start_over.ensures)
+    runs_chosen c.backtrack.new.self c.restart.new.self p ls
+    (ap (λ x. x.variables) c.restart.ensures)
     (c.backtrack.ensures.runs p ls r)
 
 pub returns-clause-policy : goal.returns-clause-policy
 returns-clause-policy c =
-    c.start_over.ensures
+    c.restart.ensures
     ∙ ap (λ (s : Search). record s.policy { has_learned = false }) c.backtrack.ensures.engine.rest
 
 pub returns-clause-rest : goal.returns-clause-rest
 returns-clause-rest c =
-    ap (λ (s : Search). record s { policy = c.start_over.new.self }) c.backtrack.ensures.engine.rest
+    ap (λ (s : Search). record s { policy = c.restart.new.self }) c.backtrack.ensures.engine.rest

@@ -1,0 +1,5 @@
+use Rattle.analyze.specs.Met.{AreVariables}
+use Rattle.analyze.proofs.minimise.Minimiser.take_in.Given as goal
+
+abbrev pub invariant-loop-lit : goal.invariant-loop-lit
+invariant-loop-lit l = AreVariables l.marks l.beside.items
