@@ -86,8 +86,11 @@ returns-in-Closed-clause-goes_on g c =
     c.next.new.budget c.events.standing c.events.search.lines c.next.new.self.lines
     i.goes_on.standing c.next.ensures.learned) in
     goes_same c.args.instance.now _ _ _ _ _ _ _ _ _ _ a
-    (omega (arith, a.learned,
-    ap (λ (w : CoreWork). learned_count w.lines) c.retire.ensures.unchanged))
+    (omega (
+      arith,
+      a.learned,
+      ap (λ (w : CoreWork). learned_count w.lines) c.retire.ensures.unchanged,
+    ))
 
 pub returns-in-Over-clause-search : goal.returns-in-Over-clause-search
 returns-in-Over-clause-search g c =
