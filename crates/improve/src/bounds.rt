@@ -76,9 +76,11 @@ impl Bounds {
         ensures none { IfOk result (HasNoBound profile) }
     {
         instance.limits();
+        let relaxations = Relaxations::of(instance, profile)?;
         let addition = Addition::of(instance, profile)?;
+        // The solver comes last of what may fail, so no exit has to drop it.
         let mut solver = make_solver(instance, profile, &addition)?;
-        weigh(&mut solver, &Relaxations::of(instance, profile)?.each);
+        weigh(&mut solver, &relaxations.each);
         let fixed = solver.given().len();
         Ok(Bounds {
             solver,

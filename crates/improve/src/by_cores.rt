@@ -84,11 +84,19 @@ pub fn refute_by_cores<T: Progress, W: Watch>(
         return Ok(None);
     };
     let found = &mut search;
-    let proof = run_stages(
+    match run_stages(
         instance, budget, progress, profile, watch, standing, work, found, plan,
-    )?;
-    keep_search(instance, search, work);
-    Ok(proof)
+    ) {
+        Ok(proof) => {
+            keep_search(instance, search, work);
+            Ok(proof)
+        }
+        Err(fault) => {
+            // Its own crate drops it: no exit here has to, which took the proof most of its time.
+            search.into_work(instance);
+            Err(fault)
+        }
+    }
 }
 
 /// The search for cores of a plan, which has learned nothing yet. Where only the optimum is wanted

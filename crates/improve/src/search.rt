@@ -115,7 +115,11 @@ pub fn improve_watched<T: Progress, W: Watch>(
             Ok(Found::Unsat { log, clauses })
         }
         Ok(Outcome::Limit) => Ok(conclude_nothing(instance, solver.into_sink())),
-        Err(_) => Err(ImproveFault::Memory),
+        Err(_) => {
+            // Its own crate drops it: no exit here has to, which took the proof most of its time.
+            solver.into_sink();
+            Err(ImproveFault::Memory)
+        }
     }
 }
 
@@ -313,8 +317,14 @@ fn make_bounds(instance: &Instance, profile: Profile, costs: &[u64]) -> Result<B
     ensures learned { IfOk result (λ b. learned_count b.solver.sink ≡ 0) }
 {
     let mut bounds = Bounds::new(instance, profile)?;
-    bounds.add_all(instance, costs)?;
-    Ok(bounds)
+    match bounds.add_all(instance, costs) {
+        Ok(()) => Ok(bounds),
+        Err(AllocError) => {
+            // As in `improve_watched`: no exit here drops the solver.
+            bounds.solver.into_sink();
+            Err(AllocError)
+        }
+    }
 }
 
 /// Goes from a solution that was told to cheaper ones: the cost of each is the next bound, and what

@@ -6,6 +6,7 @@ ghost use Rattle.std.specs.Prelude.{◌≡◌, ◌+◌, ◌<◌};
 ghost use Rattle.std.specs.Prelude.{IfOk, IfErr, IfSome, OnOk};
 ghost use Rattle.lrat_log.specs.Steps.{learned_count};
 ghost use Rattle.improve_cores.specs.CoreWork.{IsSearchFor};
+ghost use Rattle.improve_cores.specs.Events.{AreRightCores};
 ghost use Rattle.improve.specs.Improving.{work_count};
 ghost use Rattle.improve.specs.Progress.{CanFail};
 ghost use Rattle.improve.specs.Standing.{IsStanding, IsEarlyWork, GoesOn, Fails};
@@ -20,6 +21,7 @@ use crate::watch::Watch;
 use adder::profiles::Profile;
 use cdcl::budget::Budget;
 use cnf::types::Instance;
+use improve_cores::counted::Counted;
 use improve_cores::searching::CoreSearch;
 use improve_trials::found::ByCores;
 
@@ -159,16 +161,29 @@ fn run_stage<T: Progress, W: Watch>(
     search.allow(stage.more.min(budget.left() / 2), plan.patience);
     let is_closed = close_gap(instance, budget, progress, watch, standing, search)?;
     let are_wanted = is_closed | plan.is_any_wanted;
-    let Some(counted) = take_cores(instance, search, are_wanted) else {
+    let Some(counted) = take_worthy(instance, search, stage, are_wanted) else {
         return Ok(None);
     };
-    let worth = counted.counter.weight();
-    if worth <= stage.tried {
-        return Ok(None);
-    }
-    stage.tried = worth;
     let shown = &mut stage.shown;
     refute(
         instance, budget, progress, profile, watch, standing, work, counted, shown,
     )
+}
+
+/// The cores of a search, if they are wanted and worth more than those of the last trial.
+fn take_worthy(
+    instance: &Instance,
+    search: &CoreSearch,
+    stage: &mut StageState,
+    are_wanted: bool,
+) -> Option<Counted>
+    ensures { IfSome result (AreRightCores instance.now) }
+{
+    let counted = take_cores(instance, search, are_wanted)?;
+    let worth = counted.counter.weight();
+    if worth <= stage.tried {
+        return None;
+    }
+    stage.tried = worth;
+    Some(counted)
 }

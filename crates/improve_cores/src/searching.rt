@@ -28,7 +28,7 @@ ghost use Rattle.cnf.specs.Problem.{IsFeasible};
 ghost use Rattle.lrat_log.specs.Steps.{learned_count};
 ghost use Rattle.improve_cores.specs.CoreWork.{IsSearchFor, KeepsFormula, KeepsClauses};
 ghost use Rattle.improve_cores.specs.CoreWork.{CountsLearned};
-ghost use Rattle.improve_cores.specs.Counting.{GivesOnly};
+ghost use Rattle.improve_cores.specs.Counting.{GivesOnly, IsAnswerOf};
 ghost use Rattle.improve_cores.specs.Events.{AreRightCores, IsEventOf, IsStepOf};
 ghost use Rattle.improve_cores.specs.Work.{IsSearchWork};
 
@@ -47,7 +47,7 @@ use cdcl::budget::Budget;
 use cdcl::outcome::{Assumed, Passed, Share};
 use cnf::clause_list::ClauseList;
 use cnf::types::{Instance, Lit};
-use std::alloc::AllocError;
+use std::alloc::{AllocError, Global};
 use std::marker::Model;
 
 /// What explains the assumptions that are skipped in one search has about so many literals for each
@@ -126,26 +126,14 @@ impl CoreSearch {
     {
         let alloc = instance.allocator();
         let relaxed = instance.vars() + instance.soft().len() as u32;
+        let items = Items::new(instance, reserve as usize)?;
+        // The solver comes last of what may fail, so no exit has to drop it.
         let formula = relaxed_formula(instance, reserve)?;
         let solver = CountingSolver::of(formula, instance.vars(), relaxed)?;
-        let items = Items::new(instance, reserve as usize)?;
         let trees = Trees::new(alloc, relaxed + 1, solver.last());
-        let greatest = items.greatest_below(u64::MAX);
         Ok(CoreSearch {
             solver,
-            policy: KnownCores {
-                items,
-                trees,
-                cores: Vec::new(alloc),
-                pending: Vec::new(alloc),
-                threshold: (greatest / 2).max(1),
-                lower: 0,
-                is_stale: true,
-                share: 0,
-                outlook: Outlook::endless(),
-                patience: u64::MAX,
-                is_over: false,
-            },
+            policy: KnownCores::of(alloc, items, trees),
             assumptions: Vec::new(alloc),
         })
     }
@@ -249,6 +237,24 @@ impl CoreSearch {
             .solver
             .assume_passing(&self.assumptions, share, &mut passed, budget, watch)?;
         self.policy.spend(budget.learned().saturating_sub(before));
+        self.follow(found, &passed.clauses, budget, watch)
+    }
+
+    /// Goes on as a search of a stratum has ended: with its model, its core, or the cores of the
+    /// assumptions that it skipped. These are its caller's, so that no exit has to drop them.
+    fn follow<W: CoreWatch>(
+        &mut self,
+        found: Assumed,
+        skipped: &ClauseList,
+        budget: &mut Budget,
+        watch: &mut W,
+    ) -> Result<SearchStep, AllocError>
+        requires { IsAnswerOf self.old found }
+        ensures formula { KeepsFormula self.old self.new }
+        ensures step { IfOk result (IsStepOf self.new) }
+        ensures learned { CountsLearned self.old.lines self.new.lines budget.old budget.new }
+        ensures quiet { W.seen watch.new ≡ W.seen watch.old }
+    {
         match found {
             Assumed::Sat(bits) => {
                 self.policy.after_model()?;
@@ -260,8 +266,8 @@ impl CoreSearch {
                 self.give()?;
                 Ok(SearchStep::On)
             }
-            Assumed::Open if passed.clauses.len() > 0 => {
-                self.take_all(&passed.clauses, budget, watch)?;
+            Assumed::Open if skipped.len() > 0 => {
+                self.take_all(skipped, budget, watch)?;
                 self.give()?;
                 Ok(SearchStep::On)
             }
@@ -343,6 +349,24 @@ enum SearchStep {
 }
 
 impl KnownCores {
+    /// No core yet: what is dearest is assumed first.
+    fn of(alloc: Global, items: Items, trees: Trees) -> Self {
+        let greatest = items.greatest_below(u64::MAX);
+        KnownCores {
+            items,
+            trees,
+            cores: Vec::new(alloc),
+            pending: Vec::new(alloc),
+            threshold: (greatest / 2).max(1),
+            lower: 0,
+            is_stale: true,
+            share: 0,
+            outlook: Outlook::endless(),
+            patience: u64::MAX,
+            is_over: false,
+        }
+    }
+
     /// What the stratum assumes, in place of what was assumed before.
     fn assume_stratum(&mut self, assumptions: &mut Vec<Lit>) -> Result<(), AllocError> {
         if self.is_stale {

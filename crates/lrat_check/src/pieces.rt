@@ -263,16 +263,24 @@ impl Checker {
     {
         match self.refused {
             Some(refused) => Ok(refused),
-            None => {
-                if self.rest.is_empty() {
-                    return Ok(self.machine.verdict());
-                }
-                let fault = judge_line(&mut self.machine, self.rest.bytes())?;
-                match fault {
-                    Some(refused) => Ok(refused),
-                    None => Ok(self.machine.verdict()),
-                }
-            }
+            None => judge_rest(&mut self.machine, &self.rest),
         }
+    }
+}
+
+/// The verdict where nothing follows the rest, and no line before it is faulty. It borrows the
+/// machine, so that none of its exits has to drop it.
+fn judge_rest(machine: &mut Machine, rest: &LineBuffer) -> Result<Verdict, AllocError>
+    requires { machine.old.lines + length rest.now < 2 ^ 64 }
+    ensures { IfOk result (λ v. (formula : List (List Literal)) (bytes : List ℕ)
+        → Holds (record { machine = machine.old; rest = rest.now; refused = None }) formula bytes
+        → v ≡ proof_verdict formula bytes) }
+{
+    if rest.is_empty() {
+        return Ok(machine.verdict());
+    }
+    match judge_line(machine, rest.bytes())? {
+        Some(refused) => Ok(refused),
+        None => Ok(machine.verdict()),
     }
 }

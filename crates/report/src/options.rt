@@ -319,8 +319,8 @@ pub const PROGRESS_OPTION: &str = "progress";
 /// The profile, which says which clauses stand for 'cheaper'.
 pub const PROFILE_OPTION: &str = "profile";
 
-/// A file that has to be named.
-fn make_path<'a>(alloc: Global, id: &'a str, help: &'a str) -> Arg<'a> {
+/// A word that has to be there.
+fn make_positional<'a>(alloc: Global, id: &'a str, help: &'a str) -> Arg<'a> {
     Arg::new(alloc, id)
         .required(true)
         .action(ArgAction::Set)
@@ -370,46 +370,51 @@ pub fn pick_profile(name: &str) -> Option<Profile>
     }
 }
 
-/// `wmax solve`. The error, here and below, is want of memory.
-fn make_solve<'a>(alloc: Global) -> Result<Command<'a>, Error> {
-    let conflicts = Arg::new(alloc, CONFLICTS_OPTION)
-        .long(CONFLICTS_OPTION)
-        .value_name("N")
+/// An option with a value.
+fn make_option<'a>(alloc: Global, id: &'a str, value: &'a str, help: &'a str) -> Arg<'a> {
+    Arg::new(alloc, id).long(id).value_name(value).help(help)
+}
+
+/// The effort.
+fn make_conflicts<'a>(alloc: Global) -> Arg<'a> {
+    make_option(alloc, CONFLICTS_OPTION, "N", CONFLICTS_HELP)
         .value_parser(ValueParser::unsigned(0, MOST_CONFLICTS))
         .default_value("1000000000")
-        .help(CONFLICTS_HELP);
-    let proof = Arg::new(alloc, PROOF_OPTION)
-        .long(PROOF_OPTION)
-        .value_name("PATH")
-        .help(PROOF_HELP);
-    let best = Arg::new(alloc, BEST_OPTION)
-        .long(BEST_OPTION)
-        .value_name("PATH")
-        .help(BEST_HELP);
-    let lower = Arg::new(alloc, LOWER_OPTION)
-        .long(LOWER_OPTION)
-        .value_name("PATH")
-        .help(LOWER_HELP);
-    let from = Arg::new(alloc, FROM_OPTION)
-        .long(FROM_OPTION)
-        .value_name("RESULT")
-        .help(FROM_HELP);
-    let progress = Arg::new(alloc, PROGRESS_OPTION)
+}
+
+/// Whether the search tells how far it is.
+fn make_progress<'a>(alloc: Global) -> Arg<'a> {
+    Arg::new(alloc, PROGRESS_OPTION)
         .long(PROGRESS_OPTION)
         .action(ArgAction::SetTrue)
-        .help(PROGRESS_HELP);
+        .help(PROGRESS_HELP)
+}
+
+/// The bound of `wmax encode`.
+fn make_cost<'a>(alloc: Global) -> Arg<'a> {
+    make_positional(
+        alloc,
+        COST,
+        "The bound: the formula says 'cheaper than COST'",
+    )
+    .value_parser(ValueParser::unsigned(0, MOST_COST))
+}
+
+/// `wmax solve`. The error, here and below, is want of memory. Each argument is made where it is
+/// handed over, so that no exit has to drop those that come later.
+fn make_solve<'a>(alloc: Global) -> Result<Command<'a>, Error> {
     let command = Command::new(alloc, SOLVE)
         .about("Finds a solution of least cost, and proves that nothing is cheaper")
         .after_help(SOLVE_NOTES)
         .next_line_help(true)
-        .arg(conflicts)?
-        .arg(proof)?
-        .arg(best)?
-        .arg(lower)?
-        .arg(from)?
-        .arg(progress)?
+        .arg(make_conflicts(alloc))?
+        .arg(make_option(alloc, PROOF_OPTION, "PATH", PROOF_HELP))?
+        .arg(make_option(alloc, BEST_OPTION, "PATH", BEST_HELP))?
+        .arg(make_option(alloc, LOWER_OPTION, "PATH", LOWER_HELP))?
+        .arg(make_option(alloc, FROM_OPTION, "RESULT", FROM_HELP))?
+        .arg(make_progress(alloc))?
         .arg(make_profile(alloc))?
-        .arg(make_path(alloc, FILE, "The instance, a WCNF text"))?;
+        .arg(make_positional(alloc, FILE, "The instance, a WCNF text"))?;
     Ok(command)
 }
 
@@ -419,13 +424,13 @@ fn make_check<'a>(alloc: Global) -> Result<Command<'a>, Error> {
         .about("Checks a result and the certificate that proves it")
         .after_help(CHECK_NOTES)
         .next_line_help(true)
-        .arg(make_path(alloc, FILE, "The instance, a WCNF text"))?
-        .arg(make_path(
+        .arg(make_positional(alloc, FILE, "The instance, a WCNF text"))?
+        .arg(make_positional(
             alloc,
             RESULT,
             "The result, as a solver printed it: o, s and v lines",
         ))?
-        .arg(make_path(alloc, PROOF, "The certificate, LRAT as text"))?
+        .arg(make_positional(alloc, PROOF, "The certificate, LRAT as text"))?
         .arg(make_profile_or_any(alloc))?;
     Ok(command)
 }
@@ -435,8 +440,8 @@ fn make_lower<'a>(alloc: Global) -> Result<Command<'a>, Error> {
     let command = Command::new(alloc, LOWER)
         .about("Prints the lower bound that an LRAT certificate proves by itself")
         .after_help(LOWER_NOTES)
-        .arg(make_path(alloc, FILE, "The instance, a WCNF text"))?
-        .arg(make_path(alloc, PROOF, "The certificate, LRAT as text"))?;
+        .arg(make_positional(alloc, FILE, "The instance, a WCNF text"))?
+        .arg(make_positional(alloc, PROOF, "The certificate, LRAT as text"))?;
     Ok(command)
 }
 
@@ -445,7 +450,7 @@ fn make_explain<'a>(alloc: Global) -> Result<Command<'a>, Error> {
     let command = Command::new(alloc, EXPLAIN)
         .about("Says what a result gives up and breaks, or how large an instance is")
         .after_help(EXPLAIN_NOTES)
-        .arg(make_path(alloc, FILE, "The instance, a WCNF text"))?
+        .arg(make_positional(alloc, FILE, "The instance, a WCNF text"))?
         .arg(
             Arg::new(alloc, RESULT)
                 .action(ArgAction::Set)
@@ -461,38 +466,36 @@ fn make_explain<'a>(alloc: Global) -> Result<Command<'a>, Error> {
 
 /// `wmax encode`.
 fn make_encode<'a>(alloc: Global) -> Result<Command<'a>, Error> {
-    let cost = Arg::new(alloc, COST)
-        .required(true)
-        .action(ArgAction::Set)
-        .value_parser(ValueParser::unsigned(0, MOST_COST))
-        .help("The bound: the formula says 'cheaper than COST'");
-    let proof = Arg::new(alloc, PROOF_OPTION)
-        .long(PROOF_OPTION)
-        .value_name("CERTIFICATE")
-        .help(CERTIFICATE_HELP);
     let command = Command::new(alloc, ENCODE)
         .about("Prints the formula that a certificate refutes, as DIMACS CNF")
         .after_help(ENCODE_NOTES)
         .next_line_help(true)
-        .arg(make_path(alloc, FILE, "The instance, a WCNF text"))?
-        .arg(cost)?
-        .arg(proof)?
+        .arg(make_positional(alloc, FILE, "The instance, a WCNF text"))?
+        .arg(make_cost(alloc))?
+        .arg(make_option(alloc, PROOF_OPTION, "CERTIFICATE", CERTIFICATE_HELP))?
         .arg(make_profile(alloc))?;
     Ok(command)
 }
 
+/// The command line with one command more, if there was memory for that one.
+fn add_command<'a>(
+    all: Command<'a>,
+    command: Result<Command<'a>, Error>,
+) -> Result<Command<'a>, Error> {
+    Ok(all.subcommand(command?)?)
+}
+
 /// The whole command line.
 pub fn make_command<'a>(alloc: Global) -> Result<Command<'a>, Error> {
-    let command = Command::new(alloc, "wmax")
+    let all = Command::new(alloc, "wmax")
         .about("Certified weighted partial MaxSAT")
         .version(VERSION)
         .after_help(NOTES)
         .subcommand_required(true)
-        .disable_help_subcommand(true)
-        .subcommand(make_solve(alloc)?)?
-        .subcommand(make_check(alloc)?)?
-        .subcommand(make_lower(alloc)?)?
-        .subcommand(make_explain(alloc)?)?
-        .subcommand(make_encode(alloc)?)?;
-    Ok(command)
+        .disable_help_subcommand(true);
+    let all = add_command(all, make_solve(alloc))?;
+    let all = add_command(all, make_check(alloc))?;
+    let all = add_command(all, make_lower(alloc))?;
+    let all = add_command(all, make_explain(alloc))?;
+    add_command(all, make_encode(alloc))
 }

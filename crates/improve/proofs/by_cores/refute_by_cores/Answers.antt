@@ -1,17 +1,11 @@
 -- What the search for cores has learned is part of the work.
 use Rattle.std.proofs.Common.{◌∙◌, arith}
-use Rattle.std.proofs.lemmas.Result.{err_from_is_err_and}
 use Rattle.cnf.specs.Bits.{assignment_of}
 use Rattle.cnf.proofs.Laws.{extends_own}
 use Rattle.improve.specs.Improving.{work_count}
 use Rattle.improve.proofs.Standings.{goes_nowhere, goes_same}
 use Rattle.improve.proofs.Shown.{shown_none}
 use Rattle.improve.proofs.by_cores.refute_by_cores.Goals as goal
-
-pub returns-in_err-proof-clause-fault : goal.returns-in_err-proof-clause-fault
-returns-in_err-proof-clause-fault g c =
-    let q = err_from_is_err_and c.from_residual.result c.from_residual.ensures.1 in
-    rw (q.1, q.2) c.in_err-proof.ensures.fault
 
 pub returns-in_default-clause-goes_on : goal.returns-in_default-clause-goes_on
 returns-in_default-clause-goes_on g c =
@@ -26,12 +20,19 @@ keep_search-requires-clause-feasible g c =
       (c.requires.standing.solution.1 (assignment_of bits) (extends_own bits)).0,
     )
 
-pub keep_search-requires-clause-none : goal.keep_search-requires-clause-none
-keep_search-requires-clause-none g c = c.in_ok-proof.ensures.same ∙ c.requires.none.0
+pub into_work-requires-clause-feasible : goal.into_work-requires-clause-feasible
+into_work-requires-clause-feasible g c =
+    let bits = c.args.standing.now.best.bits.items in (
+      assignment_of bits,
+      (c.requires.standing.solution.1 (assignment_of bits) (extends_own bits)).0,
+    )
 
-pub returns-clause-goes_on : goal.returns-clause-goes_on
-returns-clause-goes_on g c =
-    let a = c.in_ok-proof.ensures.goes_on in
+pub keep_search-requires-clause-none : goal.keep_search-requires-clause-none
+keep_search-requires-clause-none g c = c.in-Ok-run_stages.ensures.same ∙ c.requires.none.0
+
+pub returns-in-Ok-run_stages-clause-goes_on : goal.returns-in-Ok-run_stages-clause-goes_on
+returns-in-Ok-run_stages-clause-goes_on g c =
+    let a = c.in-Ok-run_stages.ensures.goes_on in
     goes_same c.args.instance.now _ _ _ _ _ _ _ _ _ _ a
     (omega (arith, a.learned, c.keep_search.ensures.count, c.in-Ok.ensures.none_learned))
 

@@ -27,16 +27,6 @@ returns-in_default-clause-goes_on g c =
       ap (λ (w : CoreWork). learned_count w.lines) c.allow.ensures.unchanged,
     ))
 
-pub returns-then-worth-stage-clause-goes_on : goal.returns-then-worth-stage-clause-goes_on
-returns-then-worth-stage-clause-goes_on g c =
-    let a = c.in_ok-is_closed.ensures.goes_on in
-    goes_same c.args.instance.now _ _ _ _ _ _ _ _ _ _ a
-    (omega (
-      arith,
-      a.learned,
-      ap (λ (w : CoreWork). learned_count w.lines) c.allow.ensures.unchanged,
-    ))
-
 pub refute-requires-clause-failures : goal.refute-requires-clause-failures
 refute-requires-clause-failures g c =
     omega (arith, c.requires.failures, c.in_ok-is_closed.ensures.goes_on.failures)
