@@ -37,20 +37,9 @@ pub fn check<R: Files + AllocGlobal + Print + Env, E: Write>(
     let mut text = File::open(rt, request.text).map_err(|_| UNREADABLE)?;
     let mut answer = File::open(rt, request.result).map_err(|_| UNREADABLE)?;
     let mut proof = File::open(rt, request.proof).map_err(|_| UNREADABLE)?;
-    check_files(rt, &mut text, &mut answer, &mut proof, profile)
-}
-
-/// Reads the text and the result, and judges the certificate in this profile.
-fn check_files<R: AllocGlobal + Print, T: Read>(
-    rt: &R,
-    text: &mut T,
-    answer: &mut T,
-    proof: &mut T,
-    profile: Profile,
-) -> Result<u8, RunFault> {
-    let text = read_file(rt, text)?;
-    let answer = read_file(rt, answer)?;
-    let verdict = check_as(rt, &text, &answer, proof, profile)?;
+    let text = read_file(rt, &mut text)?;
+    let answer = read_file(rt, &mut answer)?;
+    let verdict = check_as(rt, &text, &answer, &mut proof, profile)?;
     show(rt, &verdict)
 }
 
@@ -67,19 +56,9 @@ fn check_any<R: Files + AllocGlobal + Print, E: Write>(
         let _ = writeln!(messages.below(), "{NO_FILE}");
         return Ok(2);
     }
-    check_file_in_each(rt, &mut text, &mut answer, request.proof)
-}
-
-/// Reads the text and the result, and judges the certificate in each profile.
-fn check_file_in_each<R: Files + AllocGlobal + Print, T: Read>(
-    rt: &R,
-    text: &mut T,
-    answer: &mut T,
-    path: &str,
-) -> Result<u8, RunFault> {
-    let text = read_file(rt, text)?;
-    let answer = read_file(rt, answer)?;
-    let verdict = check_each(rt, &text, &answer, path)?;
+    let text = read_file(rt, &mut text)?;
+    let answer = read_file(rt, &mut answer)?;
+    let verdict = check_each(rt, &text, &answer, request.proof)?;
     show(rt, &verdict)
 }
 

@@ -26,47 +26,22 @@ pub fn explain<R: Files + AllocGlobal + Print, E: Write>(
     request: &ExplainRequest<'_>,
 ) -> Result<u8, RunFault> {
     let mut text = File::open(rt, request.text).map_err(|_| UNREADABLE)?;
-    match request.result {
-        Some(answer) => explain_answer(rt, messages, &mut text, answer, request.proof),
-        None => {
-            let text = read_file(rt, &mut text)?;
-            explain_instance(rt, messages, &text)
-        }
-    }
-}
-
-/// Opens RESULT, and PROOF if it is named.
-fn explain_answer<R: Files + AllocGlobal + Print, E: Write, T: Read>(
-    rt: &R,
-    messages: &mut Messages<'_, E>,
-    text: &mut T,
-    answer: &str,
-    proof: Option<&str>,
-) -> Result<u8, RunFault> {
+    let Some(answer) = request.result else {
+        let text = read_file(rt, &mut text)?;
+        return explain_instance(rt, messages, &text);
+    };
     let mut answer = File::open(rt, answer).map_err(|_| UNREADABLE)?;
-    match proof {
-        Some(proof) => {
-            let mut proof = File::open(rt, proof).map_err(|_| UNREADABLE)?;
-            explain_files(rt, messages, text, &mut answer, Some(&mut proof))
-        }
-        None => explain_files(rt, messages, text, &mut answer, None),
-    }
-}
-
-/// Reads the text and the result, and explains them; with a certificate also what that proves.
-fn explain_files<R: AllocGlobal + Print, E: Write, T: Read, F: Read>(
-    rt: &R,
-    messages: &mut Messages<'_, E>,
-    text: &mut T,
-    answer: &mut F,
-    proof: Option<&mut F>,
-) -> Result<u8, RunFault> {
-    let text = read_file(rt, text)?;
-    let answer = read_file(rt, answer)?;
-    let status = explain_result(rt, messages, &text, &answer)?;
-    match proof {
-        Some(proof) if status == 0 => explain_bound(rt, &text, &answer, proof),
-        _ => Ok(status),
+    let Some(proof) = request.proof else {
+        let text = read_file(rt, &mut text)?;
+        let answer = read_file(rt, &mut answer)?;
+        return explain_result(rt, messages, &text, &answer);
+    };
+    let mut proof = File::open(rt, proof).map_err(|_| UNREADABLE)?;
+    let text = read_file(rt, &mut text)?;
+    let answer = read_file(rt, &mut answer)?;
+    match explain_result(rt, messages, &text, &answer)? {
+        0 => explain_bound(rt, &text, &answer, &mut proof),
+        status => Ok(status),
     }
 }
 

@@ -24,7 +24,7 @@ use wmax_onlooker::progress::Meter;
 use wmax_onlooker::standard_error::Messages;
 use wmax_onlooker::whole_file::WholePaths;
 
-/// How a run searches. `solve` owns it, and the others borrow it: so none of their exits drops it.
+/// How a run searches.
 #[derive(Drop)]
 struct Settings<'a> {
     /// How 'cheaper' is said.
@@ -33,10 +33,8 @@ struct Settings<'a> {
     budget: Budget,
     /// Where it begins, if it has such a solution.
     start: Option<Start>,
-    /// Where the best solution is kept, if it is to be kept,
+    /// Where the best solution is kept, if it is to be kept.
     best: Option<&'a str>,
-    /// and what is known of that.
-    kept: Option<Kept<'a>>,
     /// Where the best lower bound is kept, if it is to be kept,
     lower: Option<&'a str>,
     /// and what is known of that.
@@ -70,28 +68,17 @@ pub fn solve<R: Files + AllocGlobal + Print + Env + Clock, E: Write>(
         Ok(profile) => profile,
         Err(why) => return refuse_profile(messages, why),
     };
-    let mut search = Settings {
+    let search = Settings {
         profile,
         // `clap` lets no greater one pass; said again, since nothing is known of that here.
         budget: Budget::new(request.limit.min(MOST_CONFLICTS)),
         start: None,
         best: request.best,
-        kept: None,
         lower: request.lower,
         bounds: None,
         is_told: request.is_told,
         has_proof: request.proof.is_some(),
     };
-    solve_file(rt, messages, &mut search, request)
-}
-
-/// Opens FILE, and solves its text.
-fn solve_file<'a, R: Files + AllocGlobal + Print + Clock, E: Write>(
-    rt: &'a R,
-    messages: &'a mut Messages<'_, E>,
-    search: &mut Settings<'a>,
-    request: &SolveRequest<'_>,
-) -> Result<u8, RunFault> {
     let mut text = File::open(rt, request.text).map_err(|_| UNREADABLE)?;
     match request.from {
         Some(from) => solve_from(rt, messages, search, &mut text, from, request.proof),
@@ -106,10 +93,10 @@ fn solve_file<'a, R: Files + AllocGlobal + Print + Clock, E: Write>(
 
 /// Solves the text of a file, where the search begins with a result. What `check` would say of one
 /// that is not right is printed.
-fn solve_from<'a, R: Files + AllocGlobal + Print + Clock, E: Write>(
-    rt: &'a R,
-    messages: &'a mut Messages<'_, E>,
-    search: &mut Settings<'a>,
+fn solve_from<R: Files + AllocGlobal + Print + Clock, E: Write>(
+    rt: &R,
+    messages: &mut Messages<'_, E>,
+    mut search: Settings<'_>,
     text: &mut R::File,
     from: &str,
     proof: Option<&str>,
@@ -126,29 +113,16 @@ fn solve_from<'a, R: Files + AllocGlobal + Print + Clock, E: Write>(
         Err(RunFault::Read(_)) => return Ok(refuse_file(messages, "--from", from)),
         Err(fault) => return Err(fault),
     };
-    solve_judged(rt, messages, search, &text, &said, proof, [here, there])
-}
-
-/// Solves this text of FILE, where the search begins with what RESULT says.
-fn solve_judged<'a, R: Files + AllocGlobal + Print + Clock, E: Write>(
-    rt: &'a R,
-    messages: &'a mut Messages<'_, E>,
-    search: &mut Settings<'a>,
-    text: &[u8],
-    said: &[u8],
-    proof: Option<&str>,
-    read: [FileId; 2],
-) -> Result<u8, RunFault> {
-    match judge_left(rt.alloc(), text, said)? {
+    match judge_left(rt.alloc(), &text, &said)? {
         Judgement::Unknown | Judgement::Unsatisfiable => {}
-        Judgement::Right(cost) => search.start = read_start(rt.alloc(), said, cost)?,
+        Judgement::Right(cost) => search.start = read_start(rt.alloc(), &said, cost)?,
         Judgement::Wrong => {
-            let verdict = check_as(rt.alloc(), text, said, &[], Profile::One);
+            let verdict = check_as(rt.alloc(), &text, &said, &[], Profile::One);
             return show(rt, &verdict.map_err(|_| RunFault::Memory)?);
         }
     }
-    let mut text = text;
-    solve_bounded(rt, messages, search, &mut text, proof, read)
+    let mut text = text.as_slice();
+    solve_bounded(rt, messages, search, &mut text, proof, [here, there])
 }
 
 /// The solution of a result, with which a search begins; it costs this.
@@ -176,11 +150,12 @@ fn is_cheaper(cost: u64, start: &Option<Start>) -> bool {
     }
 }
 
-/// Solves, where `--lower` may name none of the other files.
+/// Solves, where `--lower` may name none of the other files. Where it has something already, that
+/// is judged by FILE first, all of which is in memory then.
 fn solve_bounded<'a, R: Files + AllocGlobal + Print + Clock, E: Write, T: Read>(
     rt: &'a R,
     messages: &'a mut Messages<'_, E>,
-    search: &mut Settings<'a>,
+    mut search: Settings<'a>,
     text: &mut T,
     proof: Option<&str>,
     read: [FileId; 2],
@@ -199,35 +174,23 @@ fn solve_bounded<'a, R: Files + AllocGlobal + Print + Clock, E: Write, T: Read>(
         Err(RunFault::Read(_)) => return Ok(refuse_file(messages, "--lower", path)),
         Err(fault) => return Err(fault),
     };
-    search.bounds = Some(LowerPaths {
-        paths,
-        lower: 0,
-        is_free: left.is_empty(),
-    });
     if left.is_empty() {
+        search.bounds = Some(LowerPaths {
+            paths,
+            lower: 0,
+            is_free: true,
+        });
         return solve_proved(rt, messages, search, text, proof, read);
     }
-    solve_above(rt, messages, search, text, &left, proof, read)
-}
-
-/// Solves, where an earlier run left this certificate of a lower bound. It is judged by FILE first,
-/// all of which is in memory then.
-fn solve_above<'a, R: Files + AllocGlobal + Print + Clock, E: Write, T: Read>(
-    rt: &'a R,
-    messages: &'a mut Messages<'_, E>,
-    search: &mut Settings<'a>,
-    text: &mut T,
-    left: &[u8],
-    proof: Option<&str>,
-    read: [FileId; 2],
-) -> Result<u8, RunFault> {
     let text = read_file(rt, text)?;
-    let Some(lower) = judge_bound(rt.alloc(), &text, left)? else {
+    let Some(lower) = judge_bound(rt.alloc(), &text, &left)? else {
         return Ok(refuse(messages, Refused::Lower(KeptFileFault::Other)));
     };
-    if let Some(bounds) = &mut search.bounds {
-        bounds.lower = lower;
-    }
+    search.bounds = Some(LowerPaths {
+        paths,
+        lower,
+        is_free: false,
+    });
     let mut text = text.as_slice();
     solve_proved(rt, messages, search, &mut text, proof, read)
 }
@@ -262,21 +225,22 @@ fn judge_bound(alloc: Global, text: &[u8], left: &[u8]) -> Result<Option<u64>, R
     }
 }
 
-/// Solves, where `--best` may name none of the files that are read and not the certificate. Nothing
+/// Solves, where `--best` may name none of the files that are read and not the certificate. Where
+/// that has something already, it is judged by FILE first, all of which is in memory then. Nothing
 /// is emptied before.
 fn solve_proved<'a, R: Files + AllocGlobal + Print + Clock, E: Write, T: Read>(
     rt: &'a R,
     messages: &'a mut Messages<'_, E>,
-    search: &mut Settings<'a>,
+    mut search: Settings<'a>,
     text: &mut T,
     proof: Option<&str>,
     read: [FileId; 2],
 ) -> Result<u8, RunFault> {
     let Some(path) = search.best else {
-        return solve_into(rt, messages, search, text, proof, read);
+        return solve_into(rt, messages, search, text, proof, read, None);
     };
     let [here, result] = read;
-    let kept = Kept::new(rt.alloc(), path)?;
+    let mut kept = Kept::new(rt.alloc(), path)?;
     let is_named = are_named(rt, &kept.paths, &[proof], [here, here]);
     if is_named || kept.paths.is_part_taken(rt, &[result]) {
         return Ok(refuse(messages, Refused::Best(KeptFileFault::Taken)));
@@ -286,30 +250,15 @@ fn solve_proved<'a, R: Files + AllocGlobal + Print + Clock, E: Write, T: Read>(
         Err(RunFault::Read(_)) => return Ok(refuse_file(messages, "--best", path)),
         Err(fault) => return Err(fault),
     };
-    search.kept = Some(kept);
     if left.is_empty() {
-        return solve_into(rt, messages, search, text, proof, read);
+        return solve_into(rt, messages, search, text, proof, read, Some(kept));
     }
-    solve_below(rt, messages, search, text, &left, proof, read)
-}
-
-/// Solves, where an earlier run left this as its best solution. It is judged by FILE first, all of
-/// which is in memory then.
-fn solve_below<'a, R: Files + AllocGlobal + Print + Clock, E: Write, T: Read>(
-    rt: &'a R,
-    messages: &'a mut Messages<'_, E>,
-    search: &mut Settings<'a>,
-    text: &mut T,
-    left: &[u8],
-    proof: Option<&str>,
-    read: [FileId; 2],
-) -> Result<u8, RunFault> {
     let text = read_file(rt, text)?;
-    if !take_earlier(rt.alloc(), search, &text, left)? {
+    if !take_earlier(rt.alloc(), &mut search, &mut kept, &text, &left)? {
         return Ok(refuse(messages, Refused::Best(KeptFileFault::Other)));
     }
     let mut text = text.as_slice();
-    solve_into(rt, messages, search, &mut text, proof, read)
+    solve_into(rt, messages, search, &mut text, proof, read, Some(kept))
 }
 
 /// Takes note of the solution that an earlier run left, which this text of FILE judges: the search
@@ -317,15 +266,14 @@ fn solve_below<'a, R: Files + AllocGlobal + Print + Clock, E: Write, T: Read>(
 fn take_earlier(
     alloc: Global,
     search: &mut Settings<'_>,
+    kept: &mut Kept<'_>,
     text: &[u8],
     left: &[u8],
 ) -> Result<bool, RunFault> {
     match judge_left(alloc, text, left)? {
         Judgement::Unknown | Judgement::Unsatisfiable => Ok(true),
         Judgement::Right(cost) => {
-            if let Some(kept) = &mut search.kept {
-                kept.earlier = Some(cost);
-            }
+            kept.earlier = Some(cost);
             if is_cheaper(cost, &search.start) {
                 search.start = read_start(alloc, left, cost)?;
             }
@@ -363,14 +311,16 @@ impl<'a> Kept<'a> {
 fn solve_into<'a, R: Files + AllocGlobal + Print + Clock, E: Write, T: Read>(
     rt: &'a R,
     messages: &'a mut Messages<'_, E>,
-    search: &mut Settings<'a>,
+    mut search: Settings<'a>,
     text: &mut T,
     proof: Option<&str>,
     read: [FileId; 2],
+    kept: Option<Kept<'a>>,
 ) -> Result<u8, RunFault> {
     let [here, _] = read;
+    let bounds = search.bounds.take();
     let Some(proof) = proof else {
-        let keepers = match start_keepers(rt, search, [here, here]) {
+        let keepers = match start_keepers(rt, kept, search.best, bounds, [here, here]) {
             Ok(keepers) => keepers,
             Err(refused) => return Ok(refuse(messages, refused)),
         };
@@ -380,7 +330,7 @@ fn solve_into<'a, R: Files + AllocGlobal + Print + Clock, E: Write, T: Read>(
     let Some(there) = find_file_id(&proof) else {
         return Err(RunFault::ProofOutput);
     };
-    let keepers = match start_keepers(rt, search, [here, there]) {
+    let keepers = match start_keepers(rt, kept, search.best, bounds, [here, there]) {
         Ok(keepers) => keepers,
         Err(refused) => return Ok(refuse(messages, refused)),
     };
@@ -436,16 +386,18 @@ fn refuse<E: Write>(messages: &mut Messages<'_, E>, refused: Refused) -> u8 {
 /// of the best solution is there, whatever its name is, the other one cannot be the same file.
 fn start_keepers<'a, R: Files>(
     rt: &'a R,
-    search: &mut Settings<'a>,
+    kept: Option<Kept<'a>>,
+    best: Option<&str>,
+    bounds: Option<LowerPaths<'a>>,
     others: [FileId; 2],
 ) -> Result<Keepers<'a, R>, Refused> {
-    let keeper = start_keeper(rt, search.kept.take(), others).map_err(Refused::Best)?;
-    if let Some(bounds) = &search.bounds {
-        if are_named(rt, &bounds.paths, &[search.best], others) {
+    let keeper = start_keeper(rt, kept, others).map_err(Refused::Best)?;
+    if let Some(bounds) = &bounds {
+        if are_named(rt, &bounds.paths, &[best], others) {
             return Err(Refused::Lower(KeptFileFault::Taken));
         }
     }
-    let Some(bounder) = Bounder::start(rt, search.bounds.take(), others) else {
+    let Some(bounder) = Bounder::start(rt, bounds, others) else {
         return Err(Refused::Lower(KeptFileFault::Unwritable));
     };
     Ok(Keepers { keeper, bounder })
@@ -485,13 +437,21 @@ enum KeptFileFault {
 fn solve_over<'a, R: Files + AllocGlobal + Print + Clock, E: Write, T: Read, P: Write>(
     rt: &'a R,
     messages: &'a mut Messages<'_, E>,
-    search: &mut Settings<'_>,
+    search: Settings<'_>,
     text: &mut T,
     proof: &mut P,
     keepers: Keepers<'a, R>,
 ) -> Result<u8, RunFault> {
-    let meter = if search.is_told {
-        Meter::start(rt, search.budget.left(), search.has_proof)
+    let Settings {
+        profile,
+        mut budget,
+        start,
+        is_told,
+        has_proof,
+        ..
+    } = search;
+    let meter = if is_told {
+        Meter::start(rt, budget.left(), has_proof)
     } else {
         None
     };
@@ -506,11 +466,11 @@ fn solve_over<'a, R: Files + AllocGlobal + Print + Clock, E: Write, T: Read, P: 
     let status = run_from(
         rt.alloc(),
         text,
-        bits_of(search.start.take()),
-        &mut search.budget,
+        bits_of(start),
+        &mut budget,
         &mut out,
         proof,
-        search.profile,
+        profile,
         &mut onlooker,
     )?;
     Ok(status.code())
