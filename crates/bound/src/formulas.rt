@@ -23,7 +23,7 @@ use std::alloc::AllocError;
 /// with its relaxation variable, the cells of the adder network of what is relaxed, and the
 /// comparator of its outputs with `k` (Eén and Sörensson, "Translating Pseudo-Boolean Constraints
 /// into SAT", 2006). An assignment that satisfies it is a solution that costs less than `k`, and
-/// each such solution extends to one that does. No clause has a repeated literal, and those with an
+/// each such solution extends to one that does. No clause has a repeated literal, and those with
 /// complementary literals are left out.
 ///
 /// # Errors

@@ -239,24 +239,25 @@ is a PATH that cannot be written, or is FILE or the certificate. PATH
 says OPTIMUM FOUND once this run has proved it";
 
 const LOWER_HELP: &str = "\
-Keeps the best lower bound that cores prove in PATH, as a certificate
+Keeps in PATH the best lower bound that cores prove, as a certificate
 for wmax lower that is complete at every moment. PATH is created with
 the first bound. There is no bound if the optimum is 0, or if there is
 no solution. With --lower every profile looks for cores, and looks for
 longer. Only profile 5 ends as soon as a bound meets the cost. If PATH
-already has a bound for FILE, only a better one replaces it. Anything
-else in PATH is refused, and so is a PATH that cannot be written, or
-that the run uses otherwise. Files are first written to PATH.part,
-here and for --best";
+already has a bound for FILE, only a better one replaces it. An empty
+file is removed. Anything else in PATH is refused, and so is a PATH
+that cannot be written, or that the run uses otherwise. Files are
+first written to PATH.part, here and for --best";
 
 const FROM_HELP: &str = "\
 Begins with the solution in RESULT, which may be from another solver.
 Its cost or a lower one is the first o line, which takes one unit of
-the effort. The search for cheaper solutions tries its values first.
-If RESULT is not correct for FILE, the fault that check would report
-is printed, and there is no search. A RESULT without a solution
-(UNKNOWN, UNSATISFIABLE) is accepted, and the search begins without
-one. If --best has a cheaper solution, the search begins with that";
+the effort. The search for cheaper solutions tries the values of that
+solution first. If RESULT is not correct for FILE, the fault that
+check would report is printed, and there is no search. A RESULT
+without a solution (UNKNOWN, UNSATISFIABLE) is accepted, and the
+search begins without one. If --best has a cheaper solution, the
+search begins with that";
 
 const PROGRESS_HELP: &str = "\
 Shows on standard error how far the search is: a line at each better
