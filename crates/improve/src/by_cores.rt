@@ -92,7 +92,7 @@ pub fn refute_by_cores<T: Progress, W: Watch>(
             Ok(proof)
         }
         Err(fault) => {
-            // Its own crate drops it: no exit here has to, which took the proof most of its time.
+            // Its own crate drops the search, so that no exit here has to.
             search.into_work(instance);
             Err(fault)
         }

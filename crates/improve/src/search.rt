@@ -116,7 +116,7 @@ pub fn improve_watched<T: Progress, W: Watch>(
         }
         Ok(Outcome::Limit) => Ok(conclude_nothing(instance, solver.into_sink())),
         Err(_) => {
-            // Its own crate drops it: no exit here has to, which took the proof most of its time.
+            // Its own crate drops the solver, so that no exit here has to.
             solver.into_sink();
             Err(ImproveFault::Memory)
         }
@@ -320,7 +320,7 @@ fn make_bounds(instance: &Instance, profile: Profile, costs: &[u64]) -> Result<B
     match bounds.add_all(instance, costs) {
         Ok(()) => Ok(bounds),
         Err(AllocError) => {
-            // As in `improve_watched`: no exit here drops the solver.
+            // Its own crate drops the solver, so that no exit here has to.
             bounds.solver.into_sink();
             Err(AllocError)
         }
