@@ -9,7 +9,8 @@ use Rattle.std.proofs.lemmas.Bool.{false≢true}
 use Rattle.std.proofs.lemmas.List.Elements.{All-push}
 use Rattle.std.specs.declared.vec.Vec.{Vec}
 use Rattle.std.specs.declared.alloc.Global.{Global}
-use Rattle.cnf.specs.Problem.{Problem}
+use Rattle.cnf.specs.Literal.{Assignment}
+use Rattle.cnf.specs.Problem.{Problem, IsFeasible}
 use Rattle.lrat_log.specs.Log.{LogLine}
 use Rattle.lrat_log.specs.Steps.{learned_count}
 use Rattle.adder.specs.declared.profiles.Profile.{Profile}
@@ -32,6 +33,12 @@ pub honest_costs : (p : Problem) (s : Standing) → IsStanding p s → All (IsCo
 honest_costs p s h =
     All-push (IsCostOfSome p) (s.earlier).items (s.best).cost h.honest
     (cost_of_solution p ((s.best).bits).items (s.best).cost h.solution)
+
+-- the best solution satisfies the hard clauses
+pub best_feasible : (p : Problem) (s : Standing) → IsStanding p s
+    → (t : Assignment) × IsFeasible p t
+best_feasible p s h =
+    let c = cost_of_solution p ((s.best).bits).items (s.best).cost h.solution in (c.0, c.1)
 
 -- nothing was told or spent
 pub goes_nowhere : (p : Problem) (now : Telling) (had : BudgetState) (s : Standing) (n : ℕ)

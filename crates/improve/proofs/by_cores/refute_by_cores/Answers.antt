@@ -1,9 +1,7 @@
 -- What the search for cores has learned is part of the work.
 use Rattle.std.proofs.Common.{◌∙◌, arith}
-use Rattle.cnf.specs.Bits.{assignment_of}
-use Rattle.cnf.proofs.Laws.{extends_own}
 use Rattle.improve.specs.Improving.{work_count}
-use Rattle.improve.proofs.Standings.{goes_nowhere, goes_same}
+use Rattle.improve.proofs.Standings.{best_feasible, goes_nowhere, goes_same}
 use Rattle.improve.proofs.Shown.{shown_none}
 use Rattle.improve.proofs.by_cores.refute_by_cores.Goals as goal
 
@@ -15,17 +13,11 @@ returns-in_default-clause-goes_on g c =
 
 pub keep_search-requires-clause-feasible : goal.keep_search-requires-clause-feasible
 keep_search-requires-clause-feasible g c =
-    let bits = c.args.standing.now.best.bits.items in (
-      assignment_of bits,
-      (c.requires.standing.solution.1 (assignment_of bits) (extends_own bits)).0,
-    )
+    best_feasible c.args.instance.now c.args.standing.now c.requires.standing
 
 pub into_work-requires-clause-feasible : goal.into_work-requires-clause-feasible
 into_work-requires-clause-feasible g c =
-    let bits = c.args.standing.now.best.bits.items in (
-      assignment_of bits,
-      (c.requires.standing.solution.1 (assignment_of bits) (extends_own bits)).0,
-    )
+    best_feasible c.args.instance.now c.args.standing.now c.requires.standing
 
 pub keep_search-requires-clause-none : goal.keep_search-requires-clause-none
 keep_search-requires-clause-none g c = c.in-Ok-run_stages.ensures.same ∙ c.requires.none.0
