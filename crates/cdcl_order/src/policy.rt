@@ -91,7 +91,7 @@ impl Policy {
     /// A hint: the variable starts at the share that its weight has of the greatest weight so far.
     /// One that is not of the policy is ignored.
     pub fn weigh(&mut self, variable: u32, weight: u64)
-        ensures unchanged { self.new ≡ self.old }
+        ensures same_view { self.new ≡ self.old }
     {
         self.order.weigh(variable, weight);
     }
@@ -99,7 +99,7 @@ impl Policy {
     /// A hint: decisions try these values first, by variable from 1, until a variable has another.
     /// Variables without one keep theirs, and values of no variable are ignored.
     pub fn suggest(&mut self, values: &[bool])
-        ensures unchanged { self.new ≡ self.old }
+        ensures same_view { self.new ≡ self.old }
     {
         self.phases.suggest(values);
     }
@@ -115,7 +115,7 @@ impl Policy {
     #[inline]
     pub fn put_back(&mut self, lit: Lit)
         requires { lit.variable ≤ self.old.variables }
-        ensures unchanged { self.new ≡ self.old }
+        ensures same_view { self.new ≡ self.old }
     {
         let variable = lit.variable();
         self.undone = self.undone.saturating_add(1);
@@ -129,7 +129,7 @@ impl Policy {
         ensures some { IfSome result
             (λ l. IsOpenVariable engine.now.trail self.old.variables l.variable) }
         ensures none { IfNone result (AreClosed engine.now.trail self.old.variables) }
-        ensures unchanged { self.new ≡ self.old }
+        ensures same_view { self.new ≡ self.old }
     {
         match self.order.next(engine) {
             Some(variable) => Some(Lit::new(variable, !self.phases.value(variable))),
@@ -175,7 +175,7 @@ impl Policy {
         requires variables { engine.now.variables ≡ self.old.variables }
         requires fits { Fits engine.now store.now.slots }
         requires attached { is_attached engine.now reference ≡ true }
-        ensures unchanged { self.new ≡ self.old }
+        ensures same_view { self.new ≡ self.old }
     {
         let standing = self.standings.get(reference);
         if !standing.is_known() {
@@ -190,7 +190,7 @@ impl Policy {
 
     /// The learned clause came to the store, with so many literals, and this LBD.
     pub fn note_learned(&mut self, reference: CRef, length: usize, lbd: u32)
-        ensures unchanged { self.new ≡ self.old }
+        ensures same_view { self.new ≡ self.old }
     {
         if length > 2 {
             self.long = self.long.saturating_add(1);
@@ -241,7 +241,7 @@ impl Policy {
         alloc: Global,
         candidates: &[Candidate],
     ) -> Result<Vec<CRef>, AllocError>
-        ensures unchanged { self.new ≡ self.old }
+        ensures same_view { self.new ≡ self.old }
     {
         self.deletions = self.deletions.saturating_add(1);
         choose(alloc, &mut self.standings, candidates)
@@ -249,14 +249,14 @@ impl Policy {
 
     /// A learned clause of more than two literals was deleted.
     pub fn count_deleted(&mut self)
-        ensures unchanged { self.new ≡ self.old }
+        ensures same_view { self.new ≡ self.old }
     {
         self.long = self.long.saturating_sub(1);
     }
 
     /// The clauses have new references.
     pub fn rename(&mut self, moves: &Moves)
-        ensures unchanged { self.new ≡ self.old }
+        ensures same_view { self.new ≡ self.old }
     {
         self.standings.rename(moves.pairs());
     }

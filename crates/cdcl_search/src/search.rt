@@ -233,7 +233,7 @@ impl Search {
 fn put_back(policy: &mut Policy, engine: &Engine, level: u32)
     requires room { policy.old.variables ≡ engine.now.variables }
     requires within { All (λ l. l.variable ≤ policy.old.variables) (literals_of engine.now.trail) }
-    ensures unchanged { policy.new ≡ policy.old }
+    ensures same_view { policy.new ≡ policy.old }
 {
     let trail = engine.trail();
     let first = engine.first_above(level);

@@ -103,7 +103,7 @@ returns-clause-learns g c =
     subst (Runs n p) (sym c.in_ok-reference.ensures.lines) on in
     record {
       runs = runs_chosen n c.note_learned.new.self p _
-          (ap (λ x. x.variables) c.note_learned.ensures.unchanged) written;
+          (ap (λ x. x.variables) c.note_learned.ensures.same_view) written;
       writes =
           subst (λ x. Writes p.given ls x 1) (sym c.in_ok-reference.ensures.lines)
           (writes_learned p.given ls l refl adds

@@ -150,7 +150,7 @@ returns-clause-learns g c =
     ∙ ap (λ (x : Search). (x.engine).variables) c.hints_of.ensures.only_stamps in
     record {
       runs = runs_chosen n c.note_learned.new.self p _
-          (ap (λ x. x.variables) c.note_learned.ensures.unchanged) written;
+          (ap (λ x. x.variables) c.note_learned.ensures.same_view) written;
       variables = c.in_ok-reference.ensures.stored.variables ∙ same;
       writes =
           subst (λ x. Writes p.given ls x 1) (sym c.in_ok-reference.ensures.lines)

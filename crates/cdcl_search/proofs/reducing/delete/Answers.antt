@@ -80,7 +80,7 @@ returns-clause-deletes g c =
     let k = c.count_deleted.new.self in
     let more =
     deleting_more s k p ls l doomed r live.0 d live.1 on refl hints
-    c.count_deleted.ensures.unchanged in
+    c.count_deleted.ensures.same_view in
     let written : g.S.Sink.lines c.append.new.self ≡ ls ++ l ∷ [] = c.in_ok-append.ensures.ok in
     let store = c.delete.ensures in
     record {
@@ -100,7 +100,7 @@ returns-clause-deletes g c =
                 still.1)).1,
           );
       engine = refl;
-      policy = c.count_deleted.ensures.unchanged;
+      policy = c.count_deleted.ensures.same_view;
       writes =
           subst (λ x. Writes p.given ls x 0) (sym written)
           (writes_short p.given ls l refl (omega arith));

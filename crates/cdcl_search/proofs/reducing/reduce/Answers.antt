@@ -27,7 +27,7 @@ returns-in_err-chosen g c =
 pub delete_all-requires : goal.delete_all-requires
 delete_all-requires g c = record {
   runs = runs_chosen c.args.search.now c.choose.new.self c.args.input.now
-      (g.S.Sink.lines c.args.sink.now) (ap (λ x. x.variables) c.choose.ensures.unchanged)
+      (g.S.Sink.lines c.args.sink.now) (ap (λ x. x.variables) c.choose.ensures.same_view)
       c.requires.runs;
 }
 
@@ -38,7 +38,7 @@ returns g c =
     let d = c.in_ok-delete_all.ensures in
     let r = d.leaves in
     let Leaves : Search → Type 0 = λ s. Reduces c.args.search.now s p ls in
-    let policy = r.policy ∙ c.choose.ensures.unchanged in
+    let policy = r.policy ∙ c.choose.ensures.same_view in
     record {
       leaves = elim c.if-is_sparse.branch [
         | then-is_sparse+in_ok-compact w ↦

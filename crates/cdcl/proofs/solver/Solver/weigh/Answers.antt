@@ -10,6 +10,6 @@ invariant_of-self g c = record {
   refuted_is = c.self.invariant.refuted_is;
   running = λ works goes.
       runs_chosen c.self.inside.search c.weigh.new.self c.self.inside.input
-      (g.S.Sink.lines c.self.inside.sink) (ap (λ x. x.variables) c.weigh.ensures.unchanged)
+      (g.S.Sink.lines c.self.inside.sink) (ap (λ x. x.variables) c.weigh.ensures.same_view)
       (c.self.invariant.running works goes);
 }

@@ -28,7 +28,7 @@ returns-clause-runs c p ls r =
     let s = c.args.self.now in
     let b = c.backtrack.ensures in
     runs_moved s c.backtrack.new.self c.put_back.new.policy p ls r b.frame.0
-    (ap (λ o. o.variables) c.put_back.ensures.unchanged)
+    (ap (λ o. o.variables) c.put_back.ensures.same_view)
     (run_backtrack s.engine c.backtrack.new.self s.store.slots p.stack (tables_of s) p.frozen.items
     p.first p.given ls c.args.level r.running c.requires.level b.trail b.attached b.frame
     (b.fits s.store.slots c.requires.ready.searches.fits))
@@ -38,7 +38,7 @@ returns-clause-ready c =
     let s = c.args.self.now in
     let b = c.backtrack.ensures in
     ready_moved s c.backtrack.new.self c.put_back.new.policy c.requires.ready b.frame.0
-    (ap (λ o. o.variables) c.put_back.ensures.unchanged)
+    (ap (λ o. o.variables) c.put_back.ensures.same_view)
     (searches_backtrack s.store.slots s.engine c.backtrack.new.self c.args.level
     c.requires.ready.searches c.requires.level b.trail b.attached b.frame.1
     (b.fits s.store.slots c.requires.ready.searches.fits))

@@ -6,4 +6,4 @@ pub returns-in-Some-clause-runs : goal.returns-in-Some-clause-runs
 returns-in-Some-clause-runs c p ls r =
     let s = c.args.self.now in
     c.decide.ensures.runs p ls (runs_moved s s.engine c.next.new.self p ls r refl
-    (ap (λ o. o.variables) c.next.ensures.unchanged) r.running)
+    (ap (λ o. o.variables) c.next.ensures.same_view) r.running)

@@ -74,6 +74,6 @@ returns-clause-runs c p ls r =
       refl,
       refl,
       refl,
-      c.rename.ensures.unchanged,
+      c.rename.ensures.same_view,
       refl,
     ) r
