@@ -1,9 +1,16 @@
 // Elimination and reconstruction.
-ghost use Rattle.std.specs.Prelude.{◌≡◌, ℕ, ◌+◌, false, [], length, slice_get, IfOk};
+ghost use Rattle.std.specs.Prelude.{◌≡◌, ℕ, ◌+◌, false, [], length, slice_get, Contains};
+ghost use Rattle.std.specs.Prelude.{IfOk, OnOk, OnErr};
 ghost use Rattle.std.specs.List.{enumerate_from};
 ghost use Rattle.cnf.specs.Formula.{IsFormula};
+ghost use Rattle.cnf.specs.Refute.{IsRefutedByHints};
 ghost use Rattle.clauses.specs.Slots.{live_clauses};
 ghost use Rattle.lrat_log.specs.Steps.{StaysLogOver, learned_count, given_of};
+ghost use Rattle.eliminate_pairs.specs.Pairs.{stage_of};
+ghost use Rattle.eliminate.specs.State.{Start};
+ghost use Rattle.eliminate.specs.Simplifier.{IsSimplified};
+ghost use Rattle.eliminate.specs.Variables.{IsOpenOver, LeavesLogOver};
+ghost use Rattle.eliminate.specs.Ending.{IsResult};
 ghost use Rattle.eliminate.specs.Elimination.{extended, is_eliminated, EliminationLeaves};
 
 use crate::ending::define_where_open;
@@ -110,9 +117,7 @@ pub fn eliminate<S: Sink>(
         (live_clauses store.old.slots) (S.lines sink.new) stack store.new.slots) }
 {
     let mut simplifier = Simplifier::new(store.allocator(), store, frozen.len() as u32)?;
-    propagate_units(&mut simplifier, store, sink)?;
-    simplify(&mut simplifier, store, frozen, sink)?;
-    let vars = define_where_open(&mut simplifier, store, frozen, sink)?;
+    let vars = run_passes(&mut simplifier, store, frozen, sink)?;
     move_together(store, &mut simplifier.names);
     let names = simplifier.names.into_packed()?;
     Ok(Stack {
@@ -120,4 +125,27 @@ pub fn eliminate<S: Sink>(
         removed: simplifier.removals,
         names,
     })
+}
+
+/// The passes, one after another. The answer is the number of variables. The store and the names
+/// are then those of what is left; the other tables are not.
+fn run_passes<S: Sink>(
+    simplifier: &mut Simplifier,
+    store: &mut Store,
+    frozen: &[bool],
+    sink: &mut S,
+) -> Result<u32, AllocError>
+    requires { IsOpenOver frozen.now simplifier.old store.old.slots (S.lines sink.old) }
+    ensures result { IfOk result (λ v. (start : Start) → start.frozen ≡ frozen.now
+        → IsSimplified start simplifier.old store.old.slots (S.lines sink.old)
+        → IsResult start simplifier.new.removals
+        (stage_of v store.new.slots simplifier.new.names (S.lines sink.new))) }
+    ensures refuted { OnOk result (IsRefutedByHints (live_clauses store.old.slots)
+        → Contains (live_clauses store.new.slots) []) }
+    ensures err { OnErr result (LeavesLogOver frozen.now simplifier.old store.old.slots
+        (S.lines sink.old) (S.lines sink.new)) }
+{
+    propagate_units(simplifier, store, sink)?;
+    simplify(simplifier, store, frozen, sink)?;
+    define_where_open(simplifier, store, frozen, sink)
 }

@@ -1,8 +1,9 @@
 // What preprocessing keeps besides the store and the log. Its proof rests on names, occurrences and
 // removals; the schedule only says where work may be worthwhile.
-ghost use Rattle.std.specs.Prelude.{◌≡◌, ◌<◌, List, [], Bool, false, length};
+ghost use Rattle.std.specs.Prelude.{◌≡◌, ◌*◌, ◌<◌, List, [], Bool, false, length, All};
 ghost use Rattle.std.specs.Prelude.{IfOk, OnOk, IfSome, OnErr};
 ghost use Rattle.cnf.specs.Formula.{IsFormula};
+ghost use Rattle.cnf.specs.Marks.{HasPlace};
 ghost use Rattle.clauses.specs.Slots.{IsLive, live_clauses};
 ghost use Rattle.lrat_log.specs.Steps.{is_empty_clause};
 ghost use Rattle.eliminate_tables.specs.Rows.{AreRows};
@@ -57,28 +58,21 @@ impl Simplifier {
             }) s store.now.slots []) }
         ensures going { IfOk result (λ s. s.is_refuted ≡ false) }
     {
-        let count = 2 * vars as usize;
+        // What has many fields comes last of what may fail: few exits have to drop it.
+        let marks = Marks::new(alloc, vars)?;
+        let names = Names::of(alloc, store)?;
         let schedule = schedule_of(alloc, store, vars)?;
-        let mut occurrences = Rows::new(alloc, count)?;
-        make_rooms(&mut occurrences, store, &schedule)?;
-        for place in 0..store.places() {
-            match store.live_at(place) {
-                Some(reference) => {
-                    let lits = store.lits(reference);
-                    occurrences.add(lits, reference)?;
-                }
-                None => {}
-            }
-        }
+        let occurrences = rows_of(alloc, store, vars, &schedule)?;
+        let bins = Bins::new(alloc, vars)?;
         Ok(Simplifier {
             vars,
-            names: Names::of(alloc, store)?,
+            names,
             occurrences,
             removals: Removals::new(alloc),
-            marks: Marks::new(alloc, vars)?,
+            marks,
             clause: Vec::new(alloc),
             schedule,
-            bins: Bins::new(alloc, vars)?,
+            bins,
             is_refuted: false,
         })
     }
@@ -175,6 +169,34 @@ fn schedule_of(alloc: Global, store: &Store, vars: u32) -> Result<Schedule, Allo
         }
     }
     Ok(schedule)
+}
+
+/// By literal, the clauses of the store in which it occurs.
+fn rows_of(alloc: Global, store: &Store, vars: u32, schedule: &Schedule) -> Result<Rows, AllocError>
+    requires { IsFormula (record { variables = vars; clauses = live_clauses store.now.slots }) }
+    ensures rows { IfOk result (λ r. AreRows r.rows store.now.slots) }
+    ensures places { IfOk result (λ r. length r.rows ≡ 2 * vars) }
+{
+    let mut rows = Rows::new(alloc, 2 * vars as usize)?;
+    enter_all(&mut rows, store, schedule)?;
+    Ok(rows)
+}
+
+/// Enters each clause of the store into the rows of its literals.
+fn enter_all(rows: &mut Rows, store: &Store, schedule: &Schedule) -> Result<(), AllocError>
+    requires empty { AreRows rows.old.rows [] }
+    requires places { All (All (HasPlace (length rows.old.rows))) (live_clauses store.now.slots) }
+    ensures rows { OnOk result (AreRows rows.new.rows store.now.slots) }
+    ensures places { OnOk result (length rows.new.rows ≡ length rows.old.rows) }
+{
+    make_rooms(rows, store, schedule)?;
+    for place in 0..store.places() {
+        match store.live_at(place) {
+            Some(reference) => rows.add(store.lits(reference), reference)?,
+            None => {}
+        }
+    }
+    Ok(())
 }
 
 /// Gives each row the room that the clauses of the store need, and an eighth more for resolvents: a

@@ -360,6 +360,36 @@ impl Units {
         }
         Ok(())
     }
+
+    /// Sweeps, and follows what became true, until a sweep finds nothing or the empty clause is
+    /// added.
+    fn propagate<S: Sink>(
+        &mut self,
+        visits: &mut Visits,
+        simplifier: &mut Simplifier,
+        store: &mut Store,
+        sink: &mut S,
+    ) -> Result<(), AllocError>
+        requires { IsPropagating self.old simplifier.old store.old.slots (S.lines sink.old) }
+        ensures passes { Passes result simplifier.old store.old.slots (S.lines sink.old)
+            simplifier.new store.new.slots (S.lines sink.new) }
+        ensures refuted { IfOk result (λ _. simplifier.new.is_refuted ≡ false
+            → IsRefutedByHints (live_clauses store.old.slots) → ⊥) }
+    {
+        'sweeps: loop {
+            let found = self.sweep(simplifier, store, sink)?;
+            if simplifier.is_refuted {
+                return Ok(());
+            }
+            if !found {
+                return Ok(());
+            }
+            self.follow(visits, simplifier, store, sink)?;
+            if simplifier.is_refuted {
+                return Ok(());
+            }
+        }
+    }
 }
 
 /// Counts a literal of a clause as false. The answer is whether all but one may be so now.
@@ -387,21 +417,9 @@ pub(crate) fn propagate_units<S: Sink>(
         → IsRefutedByHints (live_clauses store.old.slots) → ⊥) }
 {
     let alloc = store.allocator();
-    let mut units = Units::new(alloc, simplifier.vars)?;
     let mut visits = Visits::new(alloc, store)?;
-    'sweeps: loop {
-        let found = units.sweep(simplifier, store, sink)?;
-        if simplifier.is_refuted {
-            return Ok(());
-        }
-        if !found {
-            return Ok(());
-        }
-        units.follow(&mut visits, simplifier, store, sink)?;
-        if simplifier.is_refuted {
-            return Ok(());
-        }
-    }
+    let mut units = Units::new(alloc, simplifier.vars)?;
+    units.propagate(&mut visits, simplifier, store, sink)
 }
 
 /// No clause for each of so many variables.

@@ -1,8 +1,6 @@
 -- The store that is left is a simplified form of the formula.
 use Rattle.std.proofs.Common.{◌≡◌, ◌∙◌, false, List, Bool, Some, length, map, sym, ap, subst, refl}
-use Rattle.std.proofs.Common.{inl, inr}
 use Rattle.std.specs.Prelude.{[], All, Contains}
-use Rattle.std.proofs.lemmas.Bool.{cases_Bool}
 use Rattle.cnf.specs.Literal.{Literal}
 use Rattle.cnf.specs.Formula.{IsFormulaClause}
 use Rattle.cnf.specs.Bits.{assignment_of}
@@ -20,14 +18,13 @@ use Rattle.eliminate.proofs.Listed.{together_holds}
 use Rattle.eliminate.proofs.Starting.{stays_start}
 use Rattle.eliminate.proofs.elimination.eliminate.Given.{Over}
 use Rattle.eliminate.proofs.elimination.eliminate.Goals as goal
-use Rattle.eliminate.proofs.elimination.eliminate.Goals.{In_ok-simplifier, In_ok-propagate_units}
-use Rattle.eliminate.proofs.elimination.eliminate.Goals.{In_ok-simplify, In_ok-vars}
+use Rattle.eliminate.proofs.elimination.eliminate.Goals.{In_ok-simplifier, In_ok-vars}
 use Rattle.eliminate.proofs.elimination.eliminate.Goals.{After-move_together}
 
 abbrev start_of : Slots → List Bool → Start
 start_of slots frozen = record { clauses = live_clauses slots; frozen = frozen }
 
--- what each pass leaves is a simplified form
+-- the tables are a simplified form at first
 tables : (g : Over) (c : In_ok-simplifier g)
     → IsSimplified (start_of c.args.store.now.slots c.args.frozen.now) c.in_ok-simplifier.simplifier
     c.args.store.now.slots (g.S.Sink.lines c.args.sink.now)
@@ -36,36 +33,21 @@ tables g c =
     c.in_ok-simplifier.simplifier c.args.store.now.slots ls) (sym c.requires.empty)
     (c.in_ok-simplifier.ensures.simplified c.args.frozen.now refl)
 
-propagated : (g : Over) (c : In_ok-propagate_units g)
-    → IsSimplified (start_of c.args.store.now.slots c.args.frozen.now)
-    c.propagate_units.new.simplifier c.propagate_units.new.store.slots
-    (g.S.Sink.lines c.propagate_units.new.sink)
-propagated g c =
-    c.in_ok-propagate_units.ensures.passes (start_of c.args.store.now.slots c.args.frozen.now)
-    (tables g (goal.at.In_ok-propagate_units g c).In_ok-simplifier)
-
-simplified : (g : Over) (c : In_ok-simplify g)
-    → IsSimplified (start_of c.args.store.now.slots c.args.frozen.now)
-    c.simplify.new.simplifier c.simplify.new.store.slots
-    (g.S.Sink.lines c.simplify.new.sink)
-simplified g c =
-    c.in_ok-simplify.ensures.passes (start_of c.args.store.now.slots c.args.frozen.now)
-    refl (propagated g (goal.at.In_ok-simplify g c).In_ok-propagate_units)
-
--- and what the last one leaves is a result
+-- and what the passes leave is a result
 ended : (g : Over) (c : In_ok-vars g)
     → IsResult (start_of c.args.store.now.slots c.args.frozen.now)
-    c.define_where_open.new.simplifier.removals
-    (stage_of c.in_ok-vars.vars c.define_where_open.new.store.slots
-    c.define_where_open.new.simplifier.names (g.S.Sink.lines c.define_where_open.new.sink))
+    c.run_passes.new.simplifier.removals
+    (stage_of c.in_ok-vars.vars c.run_passes.new.store.slots
+    c.run_passes.new.simplifier.names (g.S.Sink.lines c.run_passes.new.sink))
 ended g c = c.in_ok-vars.ensures.result (start_of c.args.store.now.slots c.args.frozen.now) refl
-    (simplified g (goal.at.In_ok-vars g c).In_ok-simplify)
+    (tables g (goal.at.In_ok-vars g c).In_ok-simplifier)
 
-pub propagate_units-requires : goal.propagate_units-requires
-propagate_units-requires g c = record {
+pub run_passes-requires : goal.run_passes-requires
+run_passes-requires g c = record {
   simplified = (
     start_of c.args.store.now.slots c.args.frozen.now,
-    tables g (goal.at.propagate_units-requires g c).In_ok-simplifier,
+    refl,
+    tables g (goal.at.run_passes-requires g c).In_ok-simplifier,
   );
   going = c.in_ok-simplifier.ensures.going;
 }
@@ -80,54 +62,15 @@ pub returns-in_err-simplifier-clause-none_learned
     : goal.returns-in_err-simplifier-clause-none_learned
 returns-in_err-simplifier-clause-none_learned g c = ap learned_count c.requires.empty
 
-pub returns-in_err-propagate_units-clause-lines : goal.returns-in_err-propagate_units-clause-lines
-returns-in_err-propagate_units-clause-lines g c =
-    (c.in_err-propagate_units.ensures.passes (start_of c.args.store.now.slots c.args.frozen.now)
-    (tables g (goal.at.returns-in_err-propagate_units-clause-lines g c).In_ok-simplifier)).0
-
-pub returns-in_err-propagate_units-clause-none_learned
-    : goal.returns-in_err-propagate_units-clause-none_learned
-returns-in_err-propagate_units-clause-none_learned g c =
-    (c.in_err-propagate_units.ensures.passes (start_of c.args.store.now.slots c.args.frozen.now)
-    (tables g (goal.at.returns-in_err-propagate_units-clause-none_learned g
-    c).In_ok-simplifier)).1
-
-pub simplify-requires : goal.simplify-requires
-simplify-requires g c = (
-  start_of c.args.store.now.slots c.args.frozen.now,
-  refl,
-  propagated g (goal.at.simplify-requires g c).In_ok-propagate_units,
-)
-
-pub returns-in_err-simplify-clause-lines : goal.returns-in_err-simplify-clause-lines
-returns-in_err-simplify-clause-lines g c =
-    (c.in_err-simplify.ensures.passes (start_of c.args.store.now.slots c.args.frozen.now) refl
-    (propagated g (goal.at.returns-in_err-simplify-clause-lines g
-    c).In_ok-propagate_units)).0
-
-pub returns-in_err-simplify-clause-none_learned
-    : goal.returns-in_err-simplify-clause-none_learned
-returns-in_err-simplify-clause-none_learned g c =
-    (c.in_err-simplify.ensures.passes (start_of c.args.store.now.slots c.args.frozen.now) refl
-    (propagated g (goal.at.returns-in_err-simplify-clause-none_learned g
-    c).In_ok-propagate_units)).1
-
-pub define_where_open-requires : goal.define_where_open-requires
-define_where_open-requires g c = (
-  start_of c.args.store.now.slots c.args.frozen.now,
-  refl,
-  simplified g (goal.at.define_where_open-requires g c).In_ok-simplify,
-)
-
 pub returns-in_err-vars-clause-lines : goal.returns-in_err-vars-clause-lines
 returns-in_err-vars-clause-lines g c =
     (c.in_err-vars.ensures.err (start_of c.args.store.now.slots c.args.frozen.now) refl
-    (simplified g (goal.at.returns-in_err-vars-clause-lines g c).In_ok-simplify)).0
+    (tables g (goal.at.returns-in_err-vars-clause-lines g c).In_ok-simplifier)).0
 
 pub returns-in_err-vars-clause-none_learned : goal.returns-in_err-vars-clause-none_learned
 returns-in_err-vars-clause-none_learned g c =
     (c.in_err-vars.ensures.err (start_of c.args.store.now.slots c.args.frozen.now) refl
-    (simplified g (goal.at.returns-in_err-vars-clause-none_learned g c).In_ok-simplify)).1
+    (tables g (goal.at.returns-in_err-vars-clause-none_learned g c).In_ok-simplifier)).1
 
 pub returns-clause-lines : goal.returns-clause-lines
 returns-clause-lines g c = (ended g (goal.at.returns-clause-lines g c).In_ok-vars).work.log
@@ -151,23 +94,23 @@ returns-in_err-names-clause-none_learned g c =
 -- what was left has its clauses still
 same_clauses : (g : Over) (c : After-move_together g)
     → live_clauses c.move_together.new.store.slots ≡ live_clauses
-    c.define_where_open.new.store.slots
+    c.run_passes.new.store.slots
 same_clauses g c = ap live_clauses c.move_together.ensures.slots
-    ∙ live_map (live_clauses c.define_where_open.new.store.slots)
+    ∙ live_map (live_clauses c.run_passes.new.store.slots)
 
 pub returns-clause-leaves : goal.returns-clause-leaves
 returns-clause-leaves g c =
     let k = ended g (goal.at.returns-clause-leaves g c).In_ok-vars in
-    let removed = c.define_where_open.new.simplifier.removals in
-    let slots = c.define_where_open.new.store.slots in
+    let removed = c.run_passes.new.simplifier.removals in
+    let slots = c.run_passes.new.store.slots in
     let same = same_clauses g (goal.at.returns-clause-leaves g c).After-move_together in
     record {
       together = c.move_together.ensures.slots ∙ ap (map Some) (sym same);
       live =
           λ base above. together_holds slots c.move_together.new.store.slots
-          c.define_where_open.new.simplifier.names.names c.in_ok-names.names.items base _
+          c.run_passes.new.simplifier.names.names c.in_ok-names.names.items base _
           (log_live (given_of (live_clauses c.args.store.now.slots)) base
-          (g.S.Sink.lines c.define_where_open.new.sink)) k.work.named.numbers k.work.named.long
+          (g.S.Sink.lines c.run_passes.new.sink)) k.work.named.numbers k.work.named.long
           c.move_together.ensures.slots
           (c.in_ok-names.ensures ∙ ap (λ (n : NamesState). n.names) c.move_together.ensures.names)
           (k.work.named.live base above);
@@ -184,15 +127,8 @@ returns-clause-leaves g c =
           λ bits few all. k.back bits few
           (subst (SatisfiesAll (assignment_of bits)) same all);
       refuted =
-          λ w. elim (cases_Bool c.propagate_units.new.simplifier.is_refuted) [
-            | inl e ↦
-                let h = simplified g (goal.at.returns-clause-leaves g c).In_ok-simplify in
-                subst (λ (cs : List (List Literal)). Contains cs []) (sym (same
-                ∙ ap live_clauses
-                (c.in_ok-vars.ensures.refuted (c.in_ok-simplify.ensures.refuted e))))
-                (h.refuted (c.in_ok-simplify.ensures.refuted e))
-            | inr e ↦ absurd (c.in_ok-propagate_units.ensures.refuted e w)
-          ];
+          λ works. subst (λ (cs : List (List Literal)). Contains cs []) (sym same)
+          (c.in_ok-vars.ensures.refuted works);
     }
 
 pub invariant_of-result : goal.invariant_of-result

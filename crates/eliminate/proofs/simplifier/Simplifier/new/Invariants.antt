@@ -1,9 +1,0 @@
-use Rattle.std.proofs.Common.{◌≡◌, ◌*◌, take, length}
-use Rattle.eliminate_tables.specs.Rows.{AreRows}
-use Rattle.eliminate.proofs.simplifier.Simplifier.new.Given as goal
-
-abbrev pub invariant-loop-place : goal.invariant-loop-place
-invariant-loop-place l = record {
-  rows : AreRows l.occurrences.rows (take l.place l.store.slots);
-  places : length l.occurrences.rows ≡ 2 * l.vars;
-}
