@@ -65,9 +65,10 @@ impl Search {
             s.policy ≡ record { variables = 0; has_learned = false }) }
         ensures analyzer { IfOk result (λ s. s.analyzer ≡ 1) }
     {
-        let engine = Engine::new(alloc, 0)?;
-        let policy = Policy::new(alloc, 0)?;
+        // The engine has the most fields, so it comes last: no exit has to drop it.
         let analyzer = Analyzer::new(alloc, 0)?;
+        let policy = Policy::new(alloc, 0)?;
+        let engine = Engine::new(alloc, 0)?;
         Ok(Search {
             store: Store::new(alloc),
             engine,

@@ -64,16 +64,34 @@ pub fn start(store: Store, stack: &mut Stack, additions: u64) -> Result<Search, 
     ensures started { IfOk result (IsStarted store.slots stack.old additions) }
     ensures names { stack.new ≡ record stack.old { names = [] } }
 {
+    let mut search = search_beside(&store, stack, additions)?;
+    search.store = store;
+    Ok(search)
+}
+
+/// The search of `start`, but for its store, which is still empty: where memory is refused, no exit
+/// has that to drop.
+fn search_beside(store: &Store, stack: &mut Stack, additions: u64) -> Result<Search, AllocError>
+    requires few { stack.old.variables < VARIABLE_LIMIT }
+    requires long { length stack.old.names ≡ length store.now.slots }
+    requires numbers { All (λ n. IsId (number_in n.1)) stack.old.names }
+    requires live { All (λ n. IsLiveWithin store.now.slots stack.old.variables n.0)
+        stack.old.names }
+    ensures started { IfOk result (λ s.
+        IsStarted store.now.slots stack.old additions (record s { store = store.now })) }
+    ensures names { stack.new ≡ record stack.old { names = [] } }
+{
     let alloc = store.allocator();
     let variables = stack.vars();
     let names = stack.take_names();
-    let engine = engine_of(&store, variables)?;
     let units = Vec::from_elem(alloc, MaybeCRef::new(None), variables as usize)?;
     let stamps = Vec::from_elem(alloc, 0, variables as usize)?;
-    let policy = Policy::new(alloc, variables)?;
     let analyzer = Analyzer::new(alloc, variables)?;
+    let policy = Policy::new(alloc, variables)?;
+    // It has the most fields, so it comes last.
+    let engine = engine_of(store, variables)?;
     Ok(Search {
-        store,
+        store: Store::new(alloc),
         engine,
         names,
         units,

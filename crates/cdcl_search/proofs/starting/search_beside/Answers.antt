@@ -12,19 +12,19 @@ use Rattle.cdcl_search.specs.Invariant.{name_at}
 use Rattle.cdcl_search.specs.Starts.{AreWithin, IsLiveWithin}
 use Rattle.cdcl_search.proofs.Places.{live_within}
 use Rattle.cdcl_search.proofs.Started.{listed_names, listed_numbers, listed_within}
-use Rattle.cdcl_search.proofs.starting.start.Goals as goal
-use Rattle.cdcl_search.proofs.starting.start.Goals.{After-take_names-names}
+use Rattle.cdcl_search.proofs.starting.search_beside.Goals as goal
+use Rattle.cdcl_search.proofs.starting.search_beside.Goals.{After-take_names-names}
 
 -- the names are as many as the places
 long : (c : After-take_names-names)
-    → length c.take_names-names.result.items ≡ length c.args.store.slots
+    → length c.take_names-names.result.items ≡ length c.args.store.now.slots
 long c = sym (length-enumerate_from 0 c.take_names-names.result.items)
     ∙ ap length c.take_names-names.ensures.taken ∙ c.requires.long
 
 pub engine_of-requires : goal.engine_of-requires
 engine_of-requires c =
     let names : List Name = c.take_names-names.result.items in
-    let slots : Slots = c.args.store.slots in
+    let slots : Slots = c.args.store.now.slots in
     subst (AreWithin slots) (sym c.vars-variables.ensures)
     (listed_within names slots c.args.stack.now.variables
     (long (goal.at.engine_of-requires c).After-take_names-names)
