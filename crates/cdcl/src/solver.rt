@@ -31,6 +31,7 @@ use lrat_log::lines::Name;
 use lrat_log::sink::Sink;
 use std::alloc::AllocError;
 use std::marker::Model;
+use std::mem::replace;
 
 /// Decides whether clauses can be satisfied together, and writes down why not as lines of a log.
 /// Clauses may be added between two searches, and each search goes on with what was learned before.
@@ -160,6 +161,9 @@ impl<S: Sink> Solver<S> {
     pub fn into_sink(self) -> S
         ensures { result ≡ self.sink }
     {
+        // A call of `drop` is proved once for each type, and the end of a scope field by field.
+        drop(self.search);
+        drop(self.input);
         self.sink
     }
 
@@ -168,7 +172,13 @@ impl<S: Sink> Solver<S> {
         ensures given { result.given ≡ given_to self }
         ensures sink { result.sink ≡ self.sink }
     {
-        let Solver { input, sink, .. } = self;
+        let Solver {
+            search,
+            input,
+            sink,
+            ..
+        } = self;
+        drop(search);
         let Input { given, .. } = input;
         Parts { given, sink }
     }
@@ -181,7 +191,7 @@ impl<S: Sink> Solver<S> {
     {
         self.failed = true;
         if let Ok(search) = Search::empty(self.search.store.allocator()) {
-            self.search = search;
+            drop(replace(&mut self.search, search));
         }
     }
 
