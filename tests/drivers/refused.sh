@@ -4,7 +4,7 @@
 # those that are tried, so that the Nth of all is each of them in turn, from the first one on.
 source "$(dirname "$0")/../lib"
 driver refused cnf clauses propagate cdcl lrat_log lrat_check
-most=400
+most=330
 mkdir "$work/cases"
 for ((before = 0; before < most; before++)); do
     echo $before > "$work/cases/$before"
