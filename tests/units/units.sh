@@ -1,7 +1,8 @@
 #!/usr/bin/env bash
-# The tests of single crates, and the drivers of tests/drivers. tests/units/CRATE/PATH.tests is the module `tests` of
-# crates/CRATE/src/PATH.rt. They stand here and not in the crates, where the gate would prove each crate once more for its tests.
-# Nothing is proved here: `rt try` builds one program over a copy of the crates, and runs it once for each crate and each driver.
+# The tests of single crates, and drivers of single layers. tests/units/CRATE/PATH.tests is the module `tests` of
+# crates/CRATE/src/PATH.rt. They stand here and not in the crates, where the gate would prove each crate once more for
+# its tests. Nothing is proved here: `rt try` builds one program over a copy of the crates, and runs it for each crate
+# and each driver (tests/drivers).
 # A line `// needs NAME..` in a file of tests names crates that the tests use and the crate itself does not.
 #   tests/units/units.sh [CRATE|DRIVER:SEED..]     as in `tests/units/units.sh wcnf eliminate:2 eliminate:3`
 source "$(dirname "$0")/../lib"
@@ -22,9 +23,10 @@ needs() { # CRATE: what its tests use beside what it stands on
     grep -rhE '^// needs ' "tests/units/$1" --include='*.tests' | sed 's,^// needs ,,'
 }
 
-# put_tests CRATE: into the copy, as functions that the program can call. Only `main` and a #[test] have a runtime that aborts, and
-# other functions take whatever aborts, allocates and prints.
+# put_tests CRATE: into the copy, as functions that the program can call. Only `main` and a #[test] have a runtime that
+# aborts, and other functions take whatever aborts, allocates and prints.
 put_tests() {
+    local runtime='impl std::process::Abort + std::alloc::AllocGlobal + std::io::Print + Drop'
     local src=$work/crates/$1/src file of folder
     sed -i "/^$1:/s/\$/ $(needs "$1" | tr '\n' ' ')/" "$work/crates.txt"
     for file in $(cd "tests/units/$1" && find . -name '*.tests'); do
@@ -32,10 +34,10 @@ put_tests() {
         folder=$src/$of
         [ "$of" = ./lib ] && folder=$src
         mkdir -p "$folder"
-        sed '/^#\[test\]/{
+        sed "/^#\[test\]/{
             N
-            s/.*\nfn \(.*\)HostRuntime/pub fn \1impl std::process::Abort + std::alloc::AllocGlobal + std::io::Print + Drop/
-        }' "tests/units/$1/$file" > "$folder/tests.rt"
+            s/.*\nfn \(.*\)HostRuntime/pub fn \1$runtime/
+        }" "tests/units/$1/$file" > "$folder/tests.rt"
         printf '\nmod tests;\n' >> "$src/$of.rt"
     done
     find "$src" -name '*.rt' -exec sed -i 's/^mod /pub mod /' {} +
@@ -130,7 +132,7 @@ echo "units: ${crates[*]} ${runs:+drivers}" >> "$work/crates.txt"
 # shellcheck disable=SC2086
 (cd "$program" && "${RT:-rt}" try --seconds 1000 $data --cases "$cases") > "$work/out" 2> "$work/log"
 for crate in "${crates[@]}"; do
-    wanted=$(tests_of "$crate" | wc -l)
+    wanted=$(grep -rh '^#\[test\]' "tests/units/$crate" --include='*.tests' | wc -l)
     ran=$(grep -cE "^(\| )?ok $crate::" "$work/log")
     ok "$crate: $ran of $wanted tests" passes "$crate"
 done
@@ -138,7 +140,8 @@ for run in "${runs[@]}"; do
     ok "the driver $run" grep -q "^case=$run run=ended status=0 .* output=expected " "$work/log"
 done
 # What was said since the last test that passed, where a case failed, or by the compiler
-awk '/^(\| )?ok [a-z_]+::/ || /^case=.* run=ended status=0 (runners=[12] )?(output=expected )?proved=no$/ { said = ""; next }
+awk '/^(\| )?ok [a-z_]+::/ { said = ""; next }
+    /^case=.* run=ended status=0 (runners=[12] )?(output=expected )?proved=no$/ { said = ""; next }
     { said = said $0 "\n" }
     /^case=/ { printf "%s", said; said = "" }
     END { if (said !~ /^cases=/) printf "%s", said }' "$work/log" | head -n 60
