@@ -3,9 +3,13 @@
 # one `Failed`; the lines are steps also then. The driver is built once, by `rt try`. It makes N - 1, N - 2, .. allocations before
 # those that are tried, so that the Nth of all is each of them in turn, from the first one on.
 source "$(dirname "$0")/../lib"
-driver refused cnf clauses propagate cdcl lrat_log lrat_check
-most=400
-mkdir "$work/cases"
+uses='cnf clauses propagate cdcl lrat_log lrat_check'
+most=330
+# shellcheck disable=SC2086
+copied $uses
+echo "drive: $uses" >> "$work/crates.txt"
+mkdir -p "$work/crates/drive/src" "$work/cases"
+cp tests/drivers/refused.drive "$work/crates/drive/src/main.rt"
 for ((before = 0; before < most; before++)); do
     echo $before > "$work/cases/$before"
 done
