@@ -26,7 +26,7 @@ pub const MOST_CORE_CLAUSES: usize = 4_194_304;
 #[derive(Clone, Copy, Debug, PartialEq, Eq, Drop)]
 pub enum CoreFault {
     /// It is worth nothing, has no output or more outputs than inputs, or an input stands twice or
-    /// has not so much left.
+    /// does not have so much left.
     Weight,
     /// With it the clauses of cores would be more than 2^22.
     TooMany,

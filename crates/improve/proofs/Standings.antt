@@ -23,7 +23,10 @@ use Rattle.improve.specs.declared.standing.Standing.{Standing}
 use Rattle.improve.specs.Progress.{Telling, with_told, with_failed}
 use Rattle.improve.specs.Improving.{IsSolution, IsCostOfSome, AreFalling, IsRightFound, Improves}
 use Rattle.improve.specs.Improving.{OnWork, work_count}
-use Rattle.improve.specs.Standing.{costs_of, IsStanding, GoesOn, Ends, Fails}
+use Rattle.improve.specs.Standing.{costs_of, IsStanding, GoesOn, Descends, Ends, Fails}
+use Rattle.improve.specs.Bounds.{HasLast}
+use Rattle.improve.specs.declared.bounds.Bounds.{Bounds}
+use Rattle.improve.specs.declared.solutions.Solution.{Solution}
 use Rattle.improve.proofs.SearchEnds.{memory_end, progress_end, found_end}
 use Rattle.improve.proofs.CheaperBits.{cost_of_solution, falling_more}
 use Rattle.improve.proofs.Lowering.{on_work_weaker}
@@ -209,22 +212,41 @@ ends_found profile used p result now had left s costs n x y h limit answers lear
     (λ w. left.learned ≡ before.learned + work_count w)
     (λ w e. omega (arith, e, learned, paid.learned)) work) spent
 
--- something was found after what was told and learned on the way from one standing to the other
-pub ends_further : (profile used : Profile) (p : Problem) (result : Result Found ImproveFault)
-    (old now : Telling) (had between left : BudgetState) (s t : Standing) (costs : List ℕ)
-    (lines was more : ℕ) → GoesOn p old now had between s t 0 was → left.limit ≡ between.limit
-    → left.answers ≡ between.answers → left.learned + was ≡ between.learned + more
-    → IfErr result (λ e. e ≡ Memory) → used ≡ profile → costs ≡ costs_of t
-    → IfOk result (IsRightFound used p costs) → OnWork result (λ w. work_count w ≡ lines + more)
+-- the solver answered that nothing is below the best solution, or that the budget is spent
+pub descends_last : (p : Problem) (old now : Telling) (had between left : BudgetState)
+    (s : Standing) (best : Solution) (costs : Vec ℕ Global) (b : Bounds) (was : ℕ)
+    → GoesOn p old now had between s (record { best = best; earlier = costs }) 0 was
+    → HasLast b costs.items best.cost → left.limit ≡ between.limit
+    → left.answers ≡ between.answers
+    → left.learned + was ≡ between.learned + learned_count (b.solver).sink
+    → Descends p old now had left s best b
+descends_last p old now had between left s best costs b was a last limit answers learned =
+    let t = record { best = best; earlier = costs } in
+    let more = learned_count (b.solver).sink in
+    record {
+      earlier = costs;
+      last = last;
+      goes_on =
+          goes_further p old now now had between left s t t 0 was more a
+          (goes_spent p now between left t was more a.standing limit answers learned);
+    }
+
+-- and what was found then
+pub ends_descended : (profile used : Profile) (p : Problem) (result : Result Found ImproveFault)
+    (old now : Telling) (had left : BudgetState) (s : Standing) (best : Solution) (b : Bounds)
+    (lines : ℕ) → Descends p old now had left s best b → IfErr result (λ e. e ≡ Memory)
+    → used ≡ profile → IfOk result (IsRightFound used p (b.costs).items)
+    → OnWork result (λ w. work_count w ≡ lines + learned_count (b.solver).sink)
     → OnWork result (λ w. left_of left ≡ 0) → Ends profile p result old now had left s lines
-ends_further profile used p result old now had between left s t costs lines was more a limit answers
-    learned fault same told right work spent =
-    ends_after p old now now had between left s t 0 was a profile result lines (lines + was)
+ends_descended profile used p result old now had left s best b lines d fault same right work spent =
+    let t = record { best = best; earlier = d.earlier } in
+    let more = learned_count (b.solver).sink in
+    ends_after p old now now had left left s t 0 more d.goes_on profile result lines (lines + more)
     (omega arith)
-    (ends_found profile used p result now between left t costs (lines + was) was more a.standing
-    limit answers learned fault same told right
+    (ends_found profile used p result now left left t (b.costs).items (lines + more) more more
+    d.goes_on.standing refl refl refl fault same d.last right
     (on_work_weaker result (λ w. work_count w ≡ lines + more)
-    (λ w. work_count w + was ≡ lines + was + more) (λ w e. omega (arith, e)) work) spent)
+    (λ w. work_count w + more ≡ lines + more + more) (λ w e. omega (arith, e)) work) spent)
 
 -- what was pushed
 pub if_ok_at : {T F : Type 0} (r : Result T F) → false ≡ is_err r → (xs ys zs : List ℕ)

@@ -18,6 +18,9 @@ use Rattle.improve.specs.Improving.{comparators_for, weaker_before}
 use Rattle.improve.specs.declared.bounds.Bounds.{Bounds}
 use Rattle.improve.specs.declared.bounds.Next.{Next}
 use Rattle.improve.specs.declared.bounds.Next.TheVariants.{Cheaper, Refuted, Spent}
+use Rattle.improve.specs.declared.bounds.BoundsEnd.{BoundsEnd}
+use Rattle.improve.specs.declared.bounds.BoundsEnd.TheVariants.{Refuted as EndRefuted}
+use Rattle.improve.specs.declared.bounds.BoundsEnd.TheVariants.{Spent as EndSpent}
 use Rattle.cdcl_order.specs.Budgets.{BudgetState, left_of}
 
 -- a solver that works, whose clauses are numbered in the order in which they were given
@@ -121,3 +124,14 @@ abbrev pub IsNext : Problem → Bounds → BudgetState → BudgetState → Next 
 IsNext p b old new (Cheaper s) = IsNextCheaper p b old new (s.bits).items s.cost
 IsNext p b old new Refuted = IsNextRefuted b old new
 IsNext p b old new Spent = IsNextSpent b old new
+
+-- the budget is spent, and the last bound, which is this cost, is above 0
+pub record IsEndSpent (b : Bounds) (left : BudgetState) (last : ℕ) : Type 0 where
+  pub open_end : AddsNoEmptyClause (b.solver).sink
+  pub above_zero : 0 < last
+  pub none_left : left_of left ≡ 0
+
+-- the search below the last bound, which is this cost, ends so
+abbrev pub IsBoundsEnd : Bounds → BudgetState → ℕ → BoundsEnd → Type 0
+IsBoundsEnd b left last EndRefuted = IsAcceptedLog (given_to b.solver) (b.solver).sink
+IsBoundsEnd b left last EndSpent = IsEndSpent b left last

@@ -1,6 +1,8 @@
 -- What stands between the first solution and the last one.
 use Rattle.std.specs.Prelude.{◌≡◌, ℕ, ◌+◌, List, [], ◌∷◌, ◌++◌, length, All}
 use Rattle.std.specs.Prelude.{Option, Some, None, Result, Err, IfSome}
+use Rattle.std.specs.declared.vec.Vec.{Vec}
+use Rattle.std.specs.declared.alloc.Global.{Global}
 use Rattle.cnf.specs.Problem.{Problem}
 use Rattle.lrat_log.specs.Log.{LogLine}
 use Rattle.lrat_log.specs.Steps.{learned_count}
@@ -12,6 +14,9 @@ pub use Rattle.improve_trials.specs.Trials.{IsCoreProof, AreFeasible, IsAttempt}
 use Rattle.improve.specs.Progress.{Telling}
 use Rattle.improve.specs.Improving.{IsSolution, AreFalling, IsCostOfSome, IsHardLog}
 use Rattle.improve.specs.Improving.{IsCoreRefutation, Improves}
+use Rattle.improve.specs.Bounds.{HasLast}
+use Rattle.improve.specs.declared.bounds.Bounds.{Bounds}
+use Rattle.improve.specs.declared.solutions.Solution.{Solution}
 use Rattle.improve.specs.declared.found.Found.{Found}
 use Rattle.improve.specs.declared.found.ImproveFault.{ImproveFault}
 use Rattle.improve.specs.declared.found.Work.{Work}
@@ -71,6 +76,14 @@ pub record GoesOn (p : Problem) (old new : Telling) (had left : BudgetState) (s 
   pub limit : left.limit ≡ had.limit
   pub answers : left.answers + length (costs_of s) ≡ had.answers + length (costs_of t)
   pub learned : left.learned + was ≡ had.learned + now
+
+-- the bounds fall from this standing to the best solution, whose cost is the last of them
+pub record Descends (p : Problem) (old new : Telling) (had left : BudgetState) (s : Standing)
+    (best : Solution) (b : Bounds) : Type 0 where
+  pub earlier : Vec ℕ Global
+  pub last : HasLast b earlier.items best.cost
+  pub goes_on : GoesOn p old new had left s (record { best = best; earlier = earlier })
+      0 (learned_count (b.solver).sink)
 
 -- a search ends so that came to this standing, and had learned so many lines
 abbrev pub Ends : Profile → Problem → Result Found ImproveFault → (old new : Telling)

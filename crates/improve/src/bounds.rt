@@ -69,6 +69,15 @@ pub enum Next {
     Spent,
 }
 
+/// How the search below the bounds ends.
+#[derive(Clone, Copy, Drop)]
+pub enum BoundsEnd {
+    /// No solution is below the last bound.
+    Refuted,
+    /// The budget is spent.
+    Spent,
+}
+
 impl Bounds {
     /// A solver that was given no bound.
     pub fn new(instance: &Instance, profile: Profile) -> Result<Self, AllocError>

@@ -12,12 +12,13 @@ ghost use Rattle.improve.specs.Improving.{Improves, IsHardLog, IsRightFound, IsS
 ghost use Rattle.improve.specs.Improving.{PaysForHard, EndsWith, AreFalling, IsCostOfSome};
 ghost use Rattle.improve.specs.Improving.{work_count};
 ghost use Rattle.improve.specs.Progress.{CanFail, with_told, with_failed};
-ghost use Rattle.improve.specs.Bounds.{IsOver, IsOverHard};
-ghost use Rattle.improve.specs.Standing.{IsStanding, IsEarlyWork, HasNoCores, Ends};
+ghost use Rattle.improve.specs.Bounds.{IsOver, IsOverHard, IsBoundsEnd};
+ghost use Rattle.improve.specs.Standing.{IsStanding, IsEarlyWork, HasNoCores, Ends, Fails};
+ghost use Rattle.improve.specs.Standing.{Descends};
 ghost use Rattle.improve.specs.Standing.{IsCoreProof, AreFeasible, IsOnlyHard};
 ghost use Rattle.improve.specs.Watch.{AreShown};
 
-use crate::bounds::{Bounds, Next};
+use crate::bounds::{Bounds, BoundsEnd, Next};
 use crate::by_cores::refute_by_cores;
 use crate::found::{Found, ImproveFault, Work};
 use crate::progress::{Progress, ProgressFault};
@@ -327,9 +328,9 @@ fn make_bounds(instance: &Instance, profile: Profile, costs: &[u64]) -> Result<B
     }
 }
 
-/// Goes from a solution that was told to cheaper ones: the cost of each is the next bound, and what
-/// is found below it is told. The bounds are those of the costs told before. The solver of the
-/// bounds is its caller's, so that no exit here has to give it back.
+/// Goes from a solution that was told to the end of the bounds below it. The bounds are those of
+/// the costs told before. The solver of the bounds is its caller's, so that no exit here has to
+/// give it back.
 fn tighten<T: Progress, W: Watch>(
     instance: &Instance,
     budget: &mut Budget,
@@ -354,6 +355,44 @@ fn tighten<T: Progress, W: Watch>(
         (record { best = first; earlier = bounds.old.costs }) (work_count work) }
 {
     let mut best = first;
+    match descend(instance, budget, progress, watch, bounds, &mut best) {
+        Ok(BoundsEnd::Refuted) => conclude_optimum(instance, bounds, best),
+        Ok(BoundsEnd::Spent) => conclude_spent(instance, bounds, best, work),
+        Err(fault) => Err(fault),
+    }
+}
+
+/// Goes from the best solution, which was told, to cheaper ones: the cost of each is the next
+/// bound, and what is found below it is told and is the best one from then on. All that the search
+/// owns is its caller's, so that its many exits drop nothing.
+fn descend<T: Progress, W: Watch>(
+    instance: &Instance,
+    budget: &mut Budget,
+    progress: &mut T,
+    watch: &mut W,
+    bounds: &mut Bounds,
+    best: &mut Solution,
+) -> Result<BoundsEnd, ImproveFault>
+    requires failures { CanFail (T.state progress.old) }
+    requires standing { IsStanding instance.now
+        (record { best = best.old; earlier = bounds.old.costs }) }
+    requires over { IsOver instance.now bounds.old }
+    requires learned { learned_count bounds.old.solver.sink ≡ 0 }
+    ensures follows { (first : T) → T.follows first progress.old → T.follows first progress.new }
+    ensures shown { AreShown instance.now (T.state progress.old) (T.state progress.new)
+        (W.seen watch.old) (W.seen watch.new) }
+    ensures over { OnOk result (IsOver instance.now bounds.new) }
+    ensures profile { OnOk result (bounds.new.profile ≡ bounds.old.profile) }
+    ensures descends { OnOk result (Descends instance.now
+        (T.state progress.old) (T.state progress.new)
+        budget.old budget.new
+        (record { best = best.old; earlier = bounds.old.costs }) best.new bounds.new) }
+    ensures end { IfOk result (IsBoundsEnd bounds.new budget.new best.new.cost) }
+    ensures fails { IfErr result (λ fault. Fails instance.now fault
+        (T.state progress.old) (T.state progress.new)
+        budget.old budget.new
+        (record { best = best.old; earlier = bounds.old.costs })) }
+{
     loop {
         if bounds.add(instance, best.cost).is_err() {
             return Err(ImproveFault::Memory);
@@ -363,10 +402,10 @@ fn tighten<T: Progress, W: Watch>(
                 if tell(instance, progress, watch, &solution).is_err() {
                     return Err(ImproveFault::Progress);
                 }
-                best = solution;
+                *best = solution;
             }
-            Ok(Next::Refuted) => return conclude_optimum(instance, bounds, best),
-            Ok(Next::Spent) => return conclude_spent(instance, bounds, best, work),
+            Ok(Next::Refuted) => return Ok(BoundsEnd::Refuted),
+            Ok(Next::Spent) => return Ok(BoundsEnd::Spent),
             Err(AllocError) => return Err(ImproveFault::Memory),
         }
     }

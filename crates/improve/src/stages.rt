@@ -25,7 +25,7 @@ use improve_cores::counted::Counted;
 use improve_cores::searching::CoreSearch;
 use improve_trials::found::ByCores;
 
-/// In each stage the search for cores may learn so many times as many clauses as in the one before.
+/// In each stage the search for cores may learn this many times the clauses of the stage before.
 const GROWTH: u64 = 3;
 
 /// How the stages go.

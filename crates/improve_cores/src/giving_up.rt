@@ -17,7 +17,7 @@ const FIRST: u64 = 2500;
 /// and after so many for each soft clause, where these are more.
 const FIRST_EACH: u64 = 5;
 
-/// How the search for cores comes on.
+/// How the search for cores is getting on.
 #[derive(Drop)]
 pub(crate) struct Outlook {
     // How many clauses it learned.

@@ -356,11 +356,24 @@ over_ended (Some x) None fed v f p e h = absurd p
 over_ended (Some x) (Some y) fed v f p e h =
     h ∙ ap f (sym (append-nil fed) ∙ ap (λ z. fed ++ z) (sym e) ∙ sym p)
 
-pub over_end : (o m n : Option (List ℕ)) (fed buf : List ℕ) (k : ℕ) (v : Verdict)
-    (f : List ℕ → Verdict) → Consumes o m fed → Consumes m n (take k buf) → k ≡ 0
-    → IsAtEnd n → v ≡ f fed → IfSome o (λ bytes. v ≡ f bytes)
-over_end o m n fed buf k v f p q e end h =
-    let none : take k buf ≡ [] = ap (λ j. take j buf) e in
-    over_ended o n fed v f
-    (subst (Consumes o n) (append-nil fed)
-    (read_more o m n fed [] p (subst (Consumes m n) none q))) end h
+-- where the checker has judged what was read: all, or up to a fault
+over_state : (c : CheckerState) (r : Option Verdict) → r ≡ (c.reading).refused
+    → (formula : List (List Literal)) (before fed : List ℕ) (o n : Option (List ℕ)) (v : Verdict)
+    → HasJudged c formula (before ++ fed) → Consumes o n fed
+    → ((c.reading).refused ≡ None → IsAtEnd n) → v ≡ proof_verdict formula (before ++ fed)
+    → IfSome o (λ bytes. v ≡ proof_verdict formula (before ++ bytes))
+over_state c None e formula before fed o n v j p end h =
+    over_ended o n fed v (λ x. proof_verdict formula (before ++ x)) p (end (sym e)) h
+over_state c (Some w) e formula before fed o n v j p end h =
+    let stays : (more : List ℕ) → w ≡ proof_verdict formula ((before ++ fed) ++ more) =
+    λ more. refused_stays c.reading (Some w) e formula (before ++ fed) more j.holds in
+    let same : v ≡ w =
+    h ∙ ap (proof_verdict formula) (sym (append-nil (before ++ fed))) ∙ sym (stays []) in
+    over_all o n fed v (λ x. proof_verdict formula (before ++ x)) p
+    (λ more. same ∙ stays more ∙ ap (proof_verdict formula) (append_assoc before fed more))
+
+pub over_judged : (c : CheckerState) (formula : List (List Literal)) (before fed : List ℕ)
+    (o n : Option (List ℕ)) (v : Verdict) → HasJudged c formula (before ++ fed) → Consumes o n fed
+    → ((c.reading).refused ≡ None → IsAtEnd n) → v ≡ proof_verdict formula (before ++ fed)
+    → IfSome o (λ bytes. v ≡ proof_verdict formula (before ++ bytes))
+over_judged c = over_state c (c.reading).refused refl

@@ -95,3 +95,13 @@ pub record IsJudged (before : List ℕ) (old new : Option (List ℕ)) (formula :
   pub in_time : (bytes ≡ []) ⊎ ReadsOn (proof_verdict formula) before bytes
   pub verdict : v ≡ proof_verdict formula (before ++ bytes)
   pub all : IfSome old (λ all. v ≡ proof_verdict formula (before ++ all))
+
+-- from one state to the other, the checker has judged bytes that the reader gave, which was read no
+-- further than the verdict takes
+pub record JudgesMore (old new : CheckerState) (had left : Option (List ℕ)) : Type 0 where
+  pub bytes : List ℕ
+  pub read : Consumes had left bytes
+  pub judged : (formula : List (List Literal)) (before : List ℕ) → HasJudged old formula before
+      → HasJudged new formula (before ++ bytes)
+  pub in_time : (formula : List (List Literal)) (before : List ℕ) → HasJudged old formula before
+      → (bytes ≡ []) ⊎ ReadsOn (proof_verdict formula) before bytes

@@ -133,22 +133,21 @@ fn verdict_at_end(cores: &CoreLines, instance: &Instance, cost: u64) -> Verdict
 
 /// The verdict, where nothing follows the pieces of the head.
 pub(crate) fn end_head(
-    head: CertificateHead,
+    head: &mut CertificateHead,
     instance: &Instance,
     cost: u64,
 ) -> Result<Verdict, AllocError>
     requires small { cost ≤ NUMBER_LIMIT }
-    requires is { IsHeadOf instance.now head.cores }
-    requires room { head.cores.lines + length head.rest < 2 ^ 64 }
+    requires is { IsHeadOf instance.now head.old.cores }
+    requires room { head.old.cores.lines + length head.old.rest < 2 ^ 64 }
     ensures verdict { IfOk result (λ v. (bytes : List ℕ)
-        → IsOpenHead instance.now (head_reading head) bytes
+        → IsOpenHead instance.now (head_reading head.old) bytes
         → v ≡ headed_verdict instance.now cost bytes) }
     ensures sound { IfOk result (λ v. v ≡ Verdict.Yes → CostsAtLeast instance.now cost) }
 {
-    let mut head = head;
     match head.end()? {
         HeadStep::GoesOn => Ok(verdict_at_end(&head.cores, instance, cost)),
-        HeadStep::Ended => judge_behind(&head, instance, cost, &[]),
+        HeadStep::Ended => judge_behind(head, instance, cost, &[]),
         HeadStep::Fails(cause) => Ok(Verdict::No(cause, head.cores.lines() + 1)),
     }
 }

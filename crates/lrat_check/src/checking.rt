@@ -70,10 +70,10 @@ pub fn check(alloc: Global, text: &[u8], answer: &[u8], proof: &[u8]) -> Result<
 /// `core W H x1 .. xm 0`: the weight, the number of outputs and the inputs of a core (Morgado,
 /// Dodaro and Marques-Silva 2014). The LRAT lines behind them have to refute the formula that the
 /// cores make, and the cores have to be worth the told cost together. Further faults are:
-/// - `CoreForm`: a line whose first word is `core` and that has not the form, or with whose core
-/// there are more than 2^22 clauses of cores; that line.
+/// - `CoreForm`: a line whose first word is `core` and that does not have the form, or with whose
+/// core there are more than 2^22 clauses of cores; that line.
 /// - `CoreWeight`: a core that is worth nothing, has no output or more outputs than inputs, or has
-/// an input twice, or one that has not so much left; its line.
+/// an input twice, or one that does not have so much left; its line.
 /// - `CoreSum`: the cores are worth less together than the told cost; the first line behind them
 /// that has a token, or 0 where there is none.
 pub fn check_as(

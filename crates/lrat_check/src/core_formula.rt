@@ -45,7 +45,7 @@ pub fn core_formula(
     }
     let mut head = CertificateHead::new(instance)?;
     match head.take(proof)? {
-        Taken::All => end_formula(head, instance, cost),
+        Taken::All => end_formula(&mut head, instance, cost),
         Taken::Ended(_) => formula_of(&head.cores, instance, cost, head.cores.lines() + 1),
         Taken::Fails(cause) => Ok(RefutedFormula::Nothing(cause, head.cores.lines() + 1)),
     }
@@ -71,18 +71,17 @@ fn formula_of(
 
 /// The formula, where nothing follows the pieces of the head.
 fn end_formula(
-    head: CertificateHead,
+    head: &mut CertificateHead,
     instance: &Instance,
     cost: u64,
 ) -> Result<RefutedFormula, AllocError>
     requires small { cost ≤ NUMBER_LIMIT }
-    requires is { IsHeadOf instance.now head.cores }
-    requires room { head.cores.lines + length head.rest < 2 ^ 64 }
+    requires is { IsHeadOf instance.now head.old.cores }
+    requires room { head.old.cores.lines + length head.old.rest < 2 ^ 64 }
     ensures { IfOk result (λ r. (bytes : List ℕ)
-        → IsOpenHead instance.now (head_reading head) bytes
+        → IsOpenHead instance.now (head_reading head.old) bytes
         → refuted r ≡ headed_formula instance.now cost bytes) }
 {
-    let mut head = head;
     match head.end()? {
         HeadStep::GoesOn => formula_of(&head.cores, instance, cost, 0),
         HeadStep::Ended => formula_of(&head.cores, instance, cost, head.cores.lines() + 1),

@@ -1,6 +1,6 @@
 // Certificates that may begin with core lines, whole or from a reader.
 ghost use Rattle.std.specs.Prelude.{◌≡◌, ℕ, ◌+◌, ◌<◌, ◌≤◌, ◌^◌, ◌++◌, List, length, IfOk, IfSome};
-ghost use Rattle.std.specs.Prelude.{OnOk};
+ghost use Rattle.std.specs.Prelude.{[], OnOk};
 ghost use Rattle.cnf.specs.declared.limits.TheConstants.{NUMBER_LIMIT};
 ghost use Rattle.text.specs.declared.watched.TheConstants.{READ_SIZE};
 ghost use Rattle.text.specs.Text.{token_lines};
@@ -30,9 +30,26 @@ pub(crate) fn check_headed(
     ensures sound { IfOk result (λ v. v ≡ Verdict.Yes → CostsAtLeast instance.now cost) }
 {
     let mut head = CertificateHead::new(instance)?;
+    judge_headed(&mut head, instance, cost, proof)
+}
+
+/// The verdict, where nothing was read before and nothing comes behind. It borrows the head, so
+/// that none of its exits has to drop it.
+fn judge_headed(
+    head: &mut CertificateHead,
+    instance: &Instance,
+    cost: u64,
+    proof: &[u8],
+) -> Result<Verdict, AllocError>
+    requires small { cost ≤ NUMBER_LIMIT }
+    requires open { IsOpenHead instance.now (head_reading head.old) [] }
+    requires new { head.old.cores.lines + length head.old.rest ≡ 0 }
+    ensures verdict { IfOk result (λ v. v ≡ headed_verdict instance.now cost proof.now) }
+    ensures sound { IfOk result (λ v. v ≡ Verdict.Yes → CostsAtLeast instance.now cost) }
+{
     match head.take(proof)? {
         Taken::All => end_head(head, instance, cost),
-        Taken::Ended(left) => judge_behind(&head, instance, cost, left),
+        Taken::Ended(left) => judge_behind(head, instance, cost, left),
         Taken::Fails(cause) => Ok(Verdict::No(cause, head.cores.lines() + 1)),
     }
 }
@@ -52,20 +69,25 @@ pub(crate) fn check_headed_stream<R: Read>(
     ensures sound { IfOk result (λ v. v ≡ Verdict.Yes → CostsAtLeast instance.now cost) }
 {
     let (head, how) = read_head(instance, proof)?;
+    let mut head = head;
     match how {
-        HeadRead::AtEnd => conclude(head, instance, cost),
+        HeadRead::AtEnd => conclude(&mut head, instance, cost),
         HeadRead::More => judge_rest(&head, instance, cost, proof),
         HeadRead::Fails(cause) => Ok(Verdict::No(cause, head.cores.lines() + 1)),
     }
 }
 
 /// The verdict, where the certificate ends with the pieces of the head.
-fn conclude(head: CertificateHead, instance: &Instance, cost: u64) -> Result<Verdict, CheckFault>
+fn conclude(
+    head: &mut CertificateHead,
+    instance: &Instance,
+    cost: u64,
+) -> Result<Verdict, CheckFault>
     requires small { cost ≤ NUMBER_LIMIT }
-    requires is { IsHeadOf instance.now head.cores }
-    requires room { head.cores.lines + length head.rest < 2 ^ 64 }
+    requires is { IsHeadOf instance.now head.old.cores }
+    requires room { head.old.cores.lines + length head.old.rest < 2 ^ 64 }
     ensures verdict { IfOk result (λ v. (bytes : List ℕ)
-        → IsOpenHead instance.now (head_reading head) bytes
+        → IsOpenHead instance.now (head_reading head.old) bytes
         → v ≡ headed_verdict instance.now cost bytes) }
     ensures sound { IfOk result (λ v. v ≡ Verdict.Yes → CostsAtLeast instance.now cost) }
 {

@@ -249,27 +249,41 @@ impl Checker {
             → HasJudged self formula bytes → v ≡ proof_verdict formula bytes) }
         ensures failed { (result ≡ Err FeedFault.Failed) ↔ (self.failed ≡ true) }
     {
-        if self.failed {
-            return Err(FeedFault::Failed);
-        }
-        self.end().map_err(|_| FeedFault::Memory)
-    }
-
-    /// The verdict, where nothing follows.
-    fn end(mut self) -> Result<Verdict, AllocError>
-        requires { self.fed < 2 ^ 64 }
-        ensures { IfOk result (λ v. (formula : List (List Literal)) (bytes : List ℕ)
-            → Holds self.reading formula bytes → v ≡ proof_verdict formula bytes) }
-    {
-        match self.refused {
-            Some(refused) => Ok(refused),
-            None => judge_rest(&mut self.machine, &self.rest),
-        }
+        let Checker {
+            mut machine,
+            rest,
+            refused,
+            failed,
+            ..
+        } = self;
+        judge_end(&mut machine, &rest, refused, failed)
     }
 }
 
-/// The verdict where nothing follows the rest, and no line before it is faulty. It borrows the
-/// machine, so that none of its exits has to drop it.
+/// The verdict where nothing follows the rest. It borrows the machine, so that none of its exits
+/// has to drop it.
+fn judge_end(
+    machine: &mut Machine,
+    rest: &LineBuffer,
+    refused: Option<Verdict>,
+    failed: bool,
+) -> Result<Verdict, FeedFault>
+    requires { machine.old.lines + length rest.now < 2 ^ 64 }
+    ensures verdict { IfOk result (λ v. (formula : List (List Literal)) (bytes : List ℕ)
+        → Holds (record { machine = machine.old; rest = rest.now; refused = refused }) formula bytes
+        → v ≡ proof_verdict formula bytes) }
+    ensures failed { (result ≡ Err FeedFault.Failed) ↔ (failed ≡ true) }
+{
+    if failed {
+        return Err(FeedFault::Failed);
+    }
+    match refused {
+        Some(refused) => Ok(refused),
+        None => judge_rest(machine, rest).map_err(|_| FeedFault::Memory),
+    }
+}
+
+/// The same where no line before the rest is faulty, and no memory was refused.
 fn judge_rest(machine: &mut Machine, rest: &LineBuffer) -> Result<Verdict, AllocError>
     requires { machine.old.lines + length rest.now < 2 ^ 64 }
     ensures { IfOk result (λ v. (formula : List (List Literal)) (bytes : List ℕ)

@@ -1,9 +1,10 @@
 // A certificate that a reader gives.
 ghost use Rattle.std.specs.Prelude.{◌≡◌, ℕ, ◌+◌, ◌<◌, ◌^◌, ◌++◌, List, length, IfOk, IfErr};
-ghost use Rattle.std.specs.Prelude.{IfSome, OnOk};
+ghost use Rattle.std.specs.Prelude.{IfSome, OnOk, None};
+ghost use Rattle.std.specs.Io.KnownBytes.{IsAtEnd};
 ghost use Rattle.cnf.specs.Literal.{Literal};
 ghost use Rattle.cnf.specs.Formula.{IsUnsatisfiable};
-ghost use Rattle.lrat_check.specs.Pieces.{HasJudged, IsJudged};
+ghost use Rattle.lrat_check.specs.Pieces.{HasJudged, IsJudged, JudgesMore};
 ghost use Rattle.lrat_check.specs.Stopping.{StopsInTime};
 ghost use Rattle.lrat_check.specs.Verdict.{proof_verdict};
 
@@ -36,21 +37,31 @@ pub(crate) fn judge_stream<R: Read>(checker: Checker, proof: &mut R) -> Result<V
         → IsJudged before (R.remaining proof.old) (R.remaining proof.new) formula v) }
 {
     let mut checker = checker;
+    judge_pieces(&mut checker, proof)?;
+    conclude(checker)
+}
+
+/// Hands the checker what the reader gives, up to the first faulty line. It borrows the checker, so
+/// that none of its exits has to drop it.
+fn judge_pieces<R: Read>(checker: &mut Checker, proof: &mut R) -> Result<(), CheckFault>
+    ensures judges { OnOk result (JudgesMore checker.old checker.new
+        (R.remaining proof.old) (R.remaining proof.new)) }
+    ensures whole { OnOk result ((checker.new.reading).refused ≡ None
+        → IsAtEnd (R.remaining proof.new)) }
+{
     let mut chunk = [0u8; READ_SIZE];
-    'pieces: loop {
-        if let Some(refused) = checker.refused() {
-            return Ok(refused);
-        }
+    'pieces: while checker.refused().is_none() {
         let count = match proof.read(&mut chunk) {
-            Ok(0) => return conclude(checker),
+            Ok(0) => return Ok(()),
             Ok(count) => count,
             Err(_) => return Err(CheckFault::Read),
         };
         if checker.fed() > u64::MAX - count as u64 {
             return Err(CheckFault::Read);
         }
-        hand_on(&mut checker, &chunk[..count])?;
+        hand_on(checker, &chunk[..count])?;
     }
+    Ok(())
 }
 
 /// Hands the piece to the checker.

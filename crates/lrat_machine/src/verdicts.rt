@@ -37,10 +37,10 @@ pub enum Cause {
     TrailingLine,
     /// A literal stands twice in the clause or with its negation, or its variable is 2^27 or more.
     ClauseForm,
-    /// A core line has not the form of one, or with it the clauses of cores are too many.
+    /// A core line does not have the form of one, or with it the clauses of cores are too many.
     CoreForm,
-    /// A core is worth nothing, or has no output or too many, or an input stands twice or has not
-    /// so much left.
+    /// A core is worth nothing, or has no output or too many, or an input stands twice or does not
+    /// have so much left.
     CoreWeight,
     /// The cores are worth less together than the cost.
     CoreSum,

@@ -83,7 +83,7 @@ Statuses:
    3  a file cannot be read, the verdict cannot be written, or memory ran out
 
 Give the profile that the certificate was made in, by --profile or WMAX_PROFILE.
-In any other profile it is mostly refused, for example by NO DeadId 1, NO
+In any other profile it is usually refused, for example with NO DeadId 1, NO
 IdOrder 1 or NO LineForm 1. --profile any tries them all.
 
 Example:
@@ -100,7 +100,7 @@ Faults:
   NO HintNotUnit N          a clause that line N of PROOF names is not unit
   NO NoConflict N           the clauses named on line N of PROOF do not suffice
   NO NoEmptyClause 0        PROOF ends too soon
-  NO CoreForm N             line N of PROOF is not a core line, or one too many
+  NO CoreForm N             line N of PROOF: no core line, or too many clauses
   NO CoreWeight N           the core on line N is worth 0, or more than is left
   NO CoreSum N              the cores before line N are worth less than the cost
 docs/FAULTS.md and the manual page have the others.";
@@ -128,7 +128,7 @@ Faults:
   NO DeadId N         line N of PROOF names a clause that is not there
   NO NoConflict N     the clauses named on line N of PROOF do not suffice
   NO NoEmptyClause 0  PROOF ends too soon
-  NO CoreForm N       line N of PROOF is not a core line, or one too many
+  NO CoreForm N       line N of PROOF: no core line, or too many clauses
   NO CoreWeight N     the core on line N is worth 0, or more than is left
 docs/FAULTS.md and the manual page have the others.";
 
@@ -179,7 +179,7 @@ Example:
 
 Faults:
   error: line N: NoZero      the clause on line N of FILE has no 0 at its end
-  error: line N: CoreForm    line N is not a core line, or one too many
+  error: line N: CoreForm    line N: no core line, or too many clauses
   error: line N: CoreWeight  the core on line N is worth 0, or more than is left
   error: line N: CoreSum     the cores before line N are worth less than COST
   error: Read                a file cannot be opened or read

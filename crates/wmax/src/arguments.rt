@@ -37,7 +37,7 @@ pub struct SolveRequest<'a> {
     pub lower: Option<&'a str>,
     /// The result with which the search begins.
     pub from: Option<&'a str>,
-    /// Whether it is to be told how far the run is.
+    /// Whether to report progress.
     pub is_told: bool,
 }
 
@@ -88,8 +88,8 @@ pub struct EncodeRequest<'a> {
 }
 
 impl<'a> Request<'a> {
-    /// What a command line asks for that `clap` has read; `None` for one that it lets not pass:
-    /// with no command, or without what that needs.
+    /// What a command line asks for, once `clap` has read it. `None` where there is no command, or
+    /// something that it needs is missing: `clap` lets no such line pass.
     pub fn of(matches: &'a ArgMatches<'_>) -> Option<Self> {
         let (name, found) = matches.subcommand()?;
         match name {

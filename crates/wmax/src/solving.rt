@@ -39,7 +39,7 @@ struct Settings<'a> {
     lower: Option<&'a str>,
     /// and what is known of that.
     bounds: Option<LowerPaths<'a>>,
-    /// Whether it is to be told how far the run is.
+    /// Whether to report progress.
     is_told: bool,
     /// Whether there is a file for the certificate.
     has_proof: bool,

@@ -1,235 +1,65 @@
--- What was told are the bounds so far and the cost in hand.
-use Rattle.std.proofs.Common.{◌≡◌, ℕ, ◌+◌, [], ◌∷◌, ◌++◌, refl, ◌∙◌, ap, arith}
-use Rattle.std.specs.declared.vec.Vec.{Vec}
-use Rattle.std.specs.declared.alloc.Global.{Global}
-use Rattle.cdcl_order.specs.Budgets.{left_of}
+-- The end of the bounds is that of the search.
+use Rattle.std.proofs.Common.{◌≡◌, ℕ, ◌+◌, sym, subst}
 use Rattle.lrat_log.specs.Steps.{learned_count}
-use Rattle.improve.specs.Improving.{work_count}
-use Rattle.improve.specs.declared.found.ImproveFault.TheVariants.{Memory, Progress}
-use Rattle.improve.proofs.CheaperBits.{cost_of_solution}
-use Rattle.cnf.proofs.Laws.{on_ok_at, on_err_at}
-use Rattle.improve.proofs.Lowering.{cost_small, on_work_weaker}
-use Rattle.improve.proofs.Standings.{goes_cheaper, goes_further, goes_nowhere, goes_same}
-use Rattle.improve.proofs.Standings.{fails_memory, fails_progress}
-use Rattle.improve.proofs.Standings.{fails_after, ends_failing, ends_further}
-use Rattle.improve.proofs.Shown.{shown_none, shown_then, shown_more}
-use Rattle.improve.proofs.Shown.{shown_told, shown_failed}
+use Rattle.cdcl_order.specs.Budgets.{left_of}
+use Rattle.improve.specs.Improving.{AreFalling, work_count}
+use Rattle.improve.proofs.Lowering.{on_work_weaker}
+use Rattle.improve.proofs.Standings.{ends_descended, ends_failing}
 use Rattle.improve.proofs.search.tighten.Goals as goal
 
-pub loop-best-init : goal.loop-best-init
-loop-best-init g c = record {
-  over = c.requires.over;
-  profile = refl;
-  goes_on =
-      goes_same c.args.instance.now _ _ _ _ _ _ 0 0 0 _
-      (goes_nowhere c.args.instance.now (g.T.Progress.state c.args.progress.now) c.args.budget.now
-      (record { best = c.args.first; earlier = c.args.bounds.now.costs }) 0 c.requires.standing)
-      (omega (arith, c.requires.learned));
-  follows = λ first h. h;
-  shown =
-      shown_none c.args.instance.now (g.T.Progress.state c.args.progress.now)
-      (g.W.SearchWatch.seen c.args.watch.now);
-}
+pub conclude_optimum-requires-clause-solution : goal.conclude_optimum-requires-clause-solution
+conclude_optimum-requires-clause-solution g c =
+    c.in-Ok-Refuted.ensures.descends.goes_on.standing.solution
 
-pub add-requires-clause-small : goal.add-requires-clause-small
-add-requires-clause-small g c =
-    let i = c.loop-best.invariant in
-    let p = c.args.instance.now in
-    let best = c.loop-best.best in
-    let small =
-    cost_small p best.cost i.over.instance
-    (cost_of_solution p best.bits.items best.cost i.goes_on.standing.solution) in
-    omega (arith, small)
+pub conclude_optimum-requires-clause-last : goal.conclude_optimum-requires-clause-last
+conclude_optimum-requires-clause-last g c =
+    let d = c.in-Ok-Refuted.ensures.descends in (d.earlier.items, d.last)
 
-pub returns-then-is_err-clause-ends : goal.returns-then-is_err-clause-ends
-returns-then-is_err-clause-ends g c =
-    let i = c.loop-best.invariant in
-    ends_failing c.args.bounds.now.profile c.args.instance.now Memory
-    (g.T.Progress.state c.args.progress.now) _ c.args.budget.now _
-    (record { best = c.args.first; earlier = c.args.bounds.now.costs }) (work_count c.args.work)
-    (fails_after _ _ _ _ _ _ _ _ _ _ _ i.goes_on Memory
-    (fails_memory c.args.instance.now (g.T.Progress.state c.loop-best.progress)
-    (g.T.Progress.state c.loop-best.progress) c.loop-best.budget c.loop-best.budget
-    (record { best = c.loop-best.best; earlier = c.loop-best.bounds.costs })
-    i.goes_on.standing refl refl))
-
-pub returns-in-Err-clause-ends : goal.returns-in-Err-clause-ends
-returns-in-Err-clause-ends g c =
-    let i = c.loop-best.invariant in
-    ends_failing c.args.bounds.now.profile c.args.instance.now Memory
-    (g.T.Progress.state c.args.progress.now) _ c.args.budget.now _
-    (record { best = c.args.first; earlier = c.args.bounds.now.costs }) (work_count c.args.work)
-    (fails_after _ _ _ _ _ _ _ _ _ _ _ i.goes_on Memory
-    (fails_memory c.args.instance.now (g.T.Progress.state c.loop-best.progress)
-    (g.T.Progress.state c.loop-best.progress) c.loop-best.budget c.solve.new.budget
-    (record { best = c.loop-best.best; earlier = c.loop-best.bounds.costs })
-    i.goes_on.standing c.solve.ensures.limit refl))
-
-pub solve-requires-clause-over : goal.solve-requires-clause-over
-solve-requires-clause-over g c = on_ok_at c.add.result c.if-is_err.ensures.value c.add.ensures.over
-
-pub solve-requires-clause-bounded : goal.solve-requires-clause-bounded
-solve-requires-clause-bounded g c = (
-  c.loop-best.best.cost,
-  (
-    c.loop-best.bounds.costs.items,
-    on_ok_at c.add.result c.if-is_err.ensures.value c.add.ensures.costs,
-  ),
-)
-
-pub tell-requires-clause-solution : goal.tell-requires-clause-solution
-tell-requires-clause-solution g c =
-    let next = rw c.in-Ok-Cheaper.field-0-is at c.in-Ok-Cheaper.ensures.next in next.solution
-
-pub tell-requires-clause-failures : goal.tell-requires-clause-failures
-tell-requires-clause-failures g c =
-    omega (arith, c.requires.failures, c.loop-best.invariant.goes_on.failures)
-
-pub returns-then-is_err-2-clause-ends : goal.returns-then-is_err-2-clause-ends
-returns-then-is_err-2-clause-ends g c =
-    let p = c.args.instance.now in
-    let i = c.loop-best.invariant in
-    let costs = c.loop-best.bounds.costs.items in
-    let best = c.loop-best.best in
-    let cost = c.in-Ok-Cheaper.solution.cost in
-    let next = rw c.in-Ok-Cheaper.field-0-is at c.in-Ok-Cheaper.ensures.next in
-    let err = on_err_at c.tell.result c.if-is_err-2.ensures.value c.tell.ensures.err in
-    let more : c.solve.new.self.costs.items ≡ costs ++ best.cost ∷ [] =
-    ap (λ (v : Vec ℕ Global). v.items) c.solve.ensures.costs
-    ∙ on_ok_at c.add.result c.if-is_err.ensures.value c.add.ensures.costs in
-    ends_failing c.args.bounds.now.profile c.args.instance.now Progress
-    (g.T.Progress.state c.args.progress.now) _ c.args.budget.now _
-    (record { best = c.args.first; earlier = c.args.bounds.now.costs }) (work_count c.args.work)
-    (fails_after _ _ _ _ _ _ _ _ _ _ _ i.goes_on Progress
-    (fails_progress p (g.T.Progress.state c.loop-best.progress)
-    (g.T.Progress.state c.tell.new.progress)
-    c.loop-best.budget c.solve.new.budget
-    (record { best = c.loop-best.best; earlier = c.loop-best.bounds.costs })
-    i.goes_on.standing c.solve.ensures.limit cost
-    c.in-Ok-Cheaper.solution.bits.items next.solution (next.below costs best.cost more) err))
-
-pub loop-best-smaller : goal.loop-best-smaller
-loop-best-smaller g c =
-    let added = on_ok_at c.add.result c.if-is_err.ensures.value c.add.ensures.costs in
-    let next = rw c.in-Ok-Cheaper.field-0-is at c.in-Ok-Cheaper.ensures.next in
-    next.below c.loop-best.bounds.costs.items c.loop-best.best.cost
-    (ap (λ (v : Vec ℕ Global). v.items) c.solve.ensures.costs ∙ added)
-
-pub loop-best-preserved : goal.loop-best-preserved
-loop-best-preserved g c =
-    let p = c.args.instance.now in
-    let i = c.loop-best.invariant in
-    let costs = c.loop-best.bounds.costs.items in
-    let best = c.loop-best.best in
-    let next = rw c.in-Ok-Cheaper.field-0-is at c.in-Ok-Cheaper.ensures.next in
-    let ok = on_ok_at c.tell.result c.if-is_err-2.ensures.value c.tell.ensures.ok in
-    let added = on_ok_at c.add.result c.if-is_err.ensures.value c.add.ensures.costs in
-    let same = on_ok_at c.add.result c.if-is_err.ensures.value c.add.ensures.profile in
-    let unlearned = on_ok_at c.add.result c.if-is_err.ensures.value c.add.ensures.learned in
-    let more : c.solve.new.self.costs.items ≡ costs ++ best.cost ∷ [] =
-    ap (λ (v : Vec ℕ Global). v.items) c.solve.ensures.costs ∙ added in
-    record {
-      over = c.in-Ok-Cheaper.ensures.over;
-      profile = c.solve.ensures.profile ∙ same ∙ i.profile;
-      goes_on =
-          goes_further p _ _ _ _ _ _ _ _ _ 0
-          (learned_count c.loop-best.bounds.solver.sink)
-          (learned_count c.solve.new.self.solver.sink) i.goes_on
-          (goes_cheaper p _ _ _ _
-          (record { best = c.loop-best.best; earlier = c.loop-best.bounds.costs })
-          (record { best = c.in-Ok-Cheaper.solution; earlier = c.solve.new.self.costs })
-          i.goes_on.standing more (next.below costs best.cost more) next.solution ok next.answers
-          c.solve.ensures.limit (learned_count c.loop-best.bounds.solver.sink)
-          (learned_count c.solve.new.self.solver.sink)
-          (omega (arith, c.solve.ensures.learned, unlearned)));
-      follows = λ first h. c.tell.ensures.follows first (i.follows first h);
-      shown =
-          shown_more p _ _ _ _ _ _ (shown_then p _ _ _ _ _ i.shown c.solve.ensures.quiet)
-          i.goes_on.failures
-          (shown_told p (g.T.Progress.state c.loop-best.progress) _ _ _
-          c.in-Ok-Cheaper.solution.cost c.in-Ok-Cheaper.solution.bits.items next.solution
-          c.tell.ensures.shown ok);
-    }
+pub conclude_optimum-requires-clause-falling : goal.conclude_optimum-requires-clause-falling
+conclude_optimum-requires-clause-falling g c =
+    let d = c.in-Ok-Refuted.ensures.descends in
+    subst AreFalling (sym d.last) d.goes_on.standing.falling
 
 pub returns-in-Ok-Refuted-clause-ends : goal.returns-in-Ok-Refuted-clause-ends
 returns-in-Ok-Refuted-clause-ends g c =
-    let i = c.loop-best.invariant in
-    let next = rw c.in-Ok-Refuted.field-0-is at c.in-Ok-Refuted.ensures.next in
     let r = c.conclude_optimum in
-    let sink = c.solve.new.self.solver.sink in
-    let unlearned = on_ok_at c.add.result c.if-is_err.ensures.value c.add.ensures.learned in
-    ends_further c.args.bounds.now.profile c.solve.new.self.profile c.args.instance.now r.result
-    _ _ _ c.loop-best.budget c.solve.new.budget _ _ c.solve.new.self.costs.items
-    (work_count c.args.work) (learned_count c.loop-best.bounds.solver.sink) (learned_count sink)
-    i.goes_on c.solve.ensures.limit next.answers
-    (omega (arith, c.solve.ensures.learned, unlearned)) r.ensures.fault
-    (c.solve.ensures.profile
-    ∙ on_ok_at c.add.result c.if-is_err.ensures.value c.add.ensures.profile ∙ i.profile)
-    (ap (λ (v : Vec ℕ Global). v.items) c.solve.ensures.costs
-    ∙ on_ok_at c.add.result c.if-is_err.ensures.value c.add.ensures.costs) r.ensures.found
-    (on_work_weaker r.result (λ w. ⊥)
-    (λ w. work_count w ≡ work_count c.args.work + learned_count sink) (λ w x. absurd x)
+    let learned = learned_count c.descend.new.bounds.solver.sink in
+    ends_descended c.args.bounds.now.profile c.descend.new.bounds.profile c.args.instance.now
+    r.result _ _ _ _ _ _ _ (work_count c.args.work) c.in-Ok-Refuted.ensures.descends
+    r.ensures.fault c.in-Ok-Refuted.ensures.profile r.ensures.found
+    (on_work_weaker r.result (λ w. ⊥) (λ w. work_count w ≡ work_count c.args.work + learned)
+    (λ w x. absurd x) r.ensures.work)
+    (on_work_weaker r.result (λ w. ⊥) (λ w. left_of c.descend.new.budget ≡ 0) (λ w x. absurd x)
     r.ensures.work)
-    (on_work_weaker r.result (λ w. ⊥) (λ w. left_of c.solve.new.budget ≡ 0) (λ w x. absurd x)
-    r.ensures.work)
-
-pub conclude_optimum-requires-clause-solution : goal.conclude_optimum-requires-clause-solution
-conclude_optimum-requires-clause-solution g c = c.loop-best.invariant.goes_on.standing.solution
 
 pub conclude_spent-requires-clause-solution : goal.conclude_spent-requires-clause-solution
-conclude_spent-requires-clause-solution g c = c.loop-best.invariant.goes_on.standing.solution
+conclude_spent-requires-clause-solution g c =
+    c.in-Ok-Spent.ensures.descends.goes_on.standing.solution
 
-pub conclude_spent-requires-clause-above : goal.conclude_spent-requires-clause-above
-conclude_spent-requires-clause-above g c =
-    let added = on_ok_at c.add.result c.if-is_err.ensures.value c.add.ensures.costs in
-    let next = rw c.in-Ok-Spent.field-0-is at c.in-Ok-Spent.ensures.next in
-    next.above_zero c.loop-best.bounds.costs.items c.loop-best.best.cost
-    (ap (λ (v : Vec ℕ Global). v.items) c.solve.ensures.costs ∙ added)
+pub conclude_spent-requires-clause-last : goal.conclude_spent-requires-clause-last
+conclude_spent-requires-clause-last g c =
+    let d = c.in-Ok-Spent.ensures.descends in (d.earlier.items, d.last)
+
+pub conclude_spent-requires-clause-falling : goal.conclude_spent-requires-clause-falling
+conclude_spent-requires-clause-falling g c =
+    let d = c.in-Ok-Spent.ensures.descends in
+    subst AreFalling (sym d.last) d.goes_on.standing.falling
 
 pub returns-in-Ok-Spent-clause-ends : goal.returns-in-Ok-Spent-clause-ends
 returns-in-Ok-Spent-clause-ends g c =
-    let i = c.loop-best.invariant in
-    let next = rw c.in-Ok-Spent.field-0-is at c.in-Ok-Spent.ensures.next in
     let r = c.conclude_spent in
-    let sink = c.solve.new.self.solver.sink in
-    let unlearned = on_ok_at c.add.result c.if-is_err.ensures.value c.add.ensures.learned in
-    ends_further c.args.bounds.now.profile c.solve.new.self.profile c.args.instance.now r.result
-    _ _ _ c.loop-best.budget c.solve.new.budget _ _ c.solve.new.self.costs.items
-    (work_count c.args.work) (learned_count c.loop-best.bounds.solver.sink) (learned_count sink)
-    i.goes_on c.solve.ensures.limit next.answers
-    (omega (arith, c.solve.ensures.learned, unlearned)) r.ensures.fault
-    (c.solve.ensures.profile
-    ∙ on_ok_at c.add.result c.if-is_err.ensures.value c.add.ensures.profile ∙ i.profile)
-    (ap (λ (v : Vec ℕ Global). v.items) c.solve.ensures.costs
-    ∙ on_ok_at c.add.result c.if-is_err.ensures.value c.add.ensures.costs) r.ensures.found
-    r.ensures.work
-    (on_work_weaker r.result
-    (λ w. work_count w ≡ work_count c.args.work + learned_count sink)
-    (λ w. left_of c.solve.new.budget ≡ 0) (λ w x. next.none_left) r.ensures.work)
+    let learned = learned_count c.descend.new.bounds.solver.sink in
+    let end = rw c.in-Ok-Spent.field-0-is at c.in-Ok-Spent.ensures.end in
+    ends_descended c.args.bounds.now.profile c.descend.new.bounds.profile c.args.instance.now
+    r.result _ _ _ _ _ _ _ (work_count c.args.work) c.in-Ok-Spent.ensures.descends
+    r.ensures.fault c.in-Ok-Spent.ensures.profile r.ensures.found r.ensures.work
+    (on_work_weaker r.result (λ w. work_count w ≡ work_count c.args.work + learned)
+    (λ w. left_of c.descend.new.budget ≡ 0) (λ w x. end.none_left) r.ensures.work)
 
-pub returns-then-is_err-2-clause-follows : goal.returns-then-is_err-2-clause-follows
-returns-then-is_err-2-clause-follows g c =
-    λ first h. c.tell.ensures.follows first (c.loop-best.invariant.follows first h)
-
-pub returns-in-Err-clause-shown : goal.returns-in-Err-clause-shown
-returns-in-Err-clause-shown g c =
-    shown_then c.args.instance.now _ _ _ _ _ c.loop-best.invariant.shown c.solve.ensures.quiet
-
-pub returns-in-Ok-Refuted-clause-shown : goal.returns-in-Ok-Refuted-clause-shown
-returns-in-Ok-Refuted-clause-shown g c =
-    shown_then c.args.instance.now _ _ _ _ _ c.loop-best.invariant.shown c.solve.ensures.quiet
-
-pub returns-in-Ok-Spent-clause-shown : goal.returns-in-Ok-Spent-clause-shown
-returns-in-Ok-Spent-clause-shown g c =
-    shown_then c.args.instance.now _ _ _ _ _ c.loop-best.invariant.shown c.solve.ensures.quiet
-
-pub returns-then-is_err-2-clause-shown : goal.returns-then-is_err-2-clause-shown
-returns-then-is_err-2-clause-shown g c =
-    let p = c.args.instance.now in
-    let i = c.loop-best.invariant in
-    let next = rw c.in-Ok-Cheaper.field-0-is at c.in-Ok-Cheaper.ensures.next in
-    let err = on_err_at c.tell.result c.if-is_err-2.ensures.value c.tell.ensures.err in
-    shown_more p _ _ _ _ _ _ (shown_then p _ _ _ _ _ i.shown c.solve.ensures.quiet)
-    i.goes_on.failures
-    (shown_failed p (g.T.Progress.state c.loop-best.progress) _ _ _ c.in-Ok-Cheaper.solution.cost
-    c.in-Ok-Cheaper.solution.bits.items next.solution c.tell.ensures.shown err)
+pub returns-in-Err-clause-ends : goal.returns-in-Err-clause-ends
+returns-in-Err-clause-ends g c =
+    ends_failing c.args.bounds.now.profile c.args.instance.now c.in-Err.fault
+    (g.T.Progress.state c.args.progress.now) (g.T.Progress.state c.descend.new.progress)
+    c.args.budget.now c.descend.new.budget
+    (record { best = c.args.first; earlier = c.args.bounds.now.costs }) (work_count c.args.work)
+    c.in-Err.ensures.fails

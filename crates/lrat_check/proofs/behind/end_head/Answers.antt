@@ -37,8 +37,8 @@ returns-in-Ended-clause-verdict c =
     ∙ ap (verdict_at c.args.instance.now c.args.cost) (sym ends))
     c.judge_behind.ensures.verdict
 
-pub returns-clause-verdict : goal.returns-clause-verdict
-returns-clause-verdict c = λ bytes h.
+pub returns-in-Fails-clause-verdict : goal.returns-in-Fails-clause-verdict
+returns-in-Fails-clause-verdict c = λ bytes h.
     let ends = rw c.in-Fails.is at (c.in_ok-end.ensures.ends c.args.instance.now bytes h) in
     ap (λ n. No c.in-Fails.cause (n + 1)) c.lines.ensures
     ∙ ap (verdict_at c.args.instance.now c.args.cost) (sym ends)

@@ -30,8 +30,8 @@ returns-in-Ended c =
     ∙ headed_refuted p c.args.cost c.args.proof.now c.if-cost-eq0.false)
     c.formula_of.ensures
 
-pub returns-in-Fails : goal.returns-in-Fails
-returns-in-Fails c =
+pub returns : goal.returns
+returns c =
     let p = c.args.instance.now in
     let t = subst (λ t. Takes p t (head_reading c.take.new.self) c.args.proof.now) c.in-Fails.is
     (c.in_ok-take.ensures.takes p [] c.in_ok-head.ensures.open) in

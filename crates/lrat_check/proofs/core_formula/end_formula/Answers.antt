@@ -23,8 +23,8 @@ returns-in-Ended c =
     ∙ ap (formula_at c.args.instance.now c.args.cost) (sym ends))
     c.formula_of-in-Ended.ensures
 
-pub returns : goal.returns
-returns c = λ bytes h.
+pub returns-in-Fails : goal.returns-in-Fails
+returns-in-Fails c = λ bytes h.
     let ends = rw c.in-Fails.is at (c.in_ok-end.ensures.ends c.args.instance.now bytes h) in
     ap (λ n. Err (c.in-Fails.cause, n + 1)) c.lines-in-Fails.ensures
     ∙ ap (formula_at c.args.instance.now c.args.cost) (sym ends)

@@ -75,8 +75,8 @@ returns-in-More-clause-stops g c =
     (head_on p (verdict_at p c.args.cost) (λ cause line. refl) h.bytes h.in_time)))
     c.judge_rest.ensures.stops
 
-pub returns-in-Fails-clause-verdict : goal.returns-in-Fails-clause-verdict
-returns-in-Fails-clause-verdict g c =
+pub returns-clause-verdict : goal.returns-clause-verdict
+returns-clause-verdict g c =
     let p = c.args.instance.now in
     let h = c.in_ok-head.ensures.read in
     let leaves = rw c.in-Fails.is at h.leaves in
@@ -85,8 +85,8 @@ returns-in-Fails-clause-verdict g c =
     (λ more. ap (λ n. No c.in-Fails.cause (n + 1)) c.lines.ensures
     ∙ ap (verdict_at p c.args.cost) (sym (leaves more)))
 
-pub returns-in-Fails-clause-stops : goal.returns-in-Fails-clause-stops
-returns-in-Fails-clause-stops g c =
+pub returns-clause-stops : goal.returns-clause-stops
+returns-clause-stops g c =
     let p = c.args.instance.now in
     let h = c.in_ok-head.ensures.read in
     head_stops p (verdict_at p c.args.cost) (λ cause line. refl) h.bytes

@@ -4,14 +4,14 @@ use Rattle.lrat_log.specs.Steps.{learned_count}
 use Rattle.improve.specs.Bounds.{IsOver}
 use Rattle.improve.specs.Standing.{GoesOn}
 use Rattle.improve.specs.Watch.{AreShown}
-use Rattle.improve.proofs.search.tighten.Given as goal
+use Rattle.improve.proofs.search.descend.Given as goal
 
 abbrev pub invariant-loop-best : goal.invariant-loop-best
 invariant-loop-best g l = record {
   over : IsOver l.instance l.bounds;
   profile : (l.bounds).profile ≡ (l.fn.bounds).profile;
   goes_on : GoesOn l.instance (g.T.Progress.state l.fn.progress) (g.T.Progress.state l.progress)
-      l.fn.budget l.budget (record { best = l.fn.first; earlier = (l.fn.bounds).costs })
+      l.fn.budget l.budget (record { best = l.fn.best; earlier = (l.fn.bounds).costs })
       (record { best = l.best; earlier = (l.bounds).costs })
       0 (learned_count ((l.bounds).solver).sink);
   follows : (first : g.row.T.Denot) → g.T.Progress.follows first l.fn.progress
