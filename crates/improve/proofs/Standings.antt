@@ -221,7 +221,7 @@ pub descends_last : (p : Problem) (old now : Telling) (had between left : Budget
     → left.learned + was ≡ between.learned + learned_count (b.solver).sink
     → Descends p old now had left s best b
 descends_last p old now had between left s best costs b was a last limit answers learned =
-    let t = record { best = best; earlier = costs } in
+    let t : Standing = record { best = best; earlier = costs } in
     let more = learned_count (b.solver).sink in
     record {
       earlier = costs;
@@ -239,7 +239,7 @@ pub ends_descended : (profile used : Profile) (p : Problem) (result : Result Fou
     → OnWork result (λ w. work_count w ≡ lines + learned_count (b.solver).sink)
     → OnWork result (λ w. left_of left ≡ 0) → Ends profile p result old now had left s lines
 ends_descended profile used p result old now had left s best b lines d fault same right work spent =
-    let t = record { best = best; earlier = d.earlier } in
+    let t : Standing = record { best = best; earlier = d.earlier } in
     let more = learned_count (b.solver).sink in
     ends_after p old now now had left left s t 0 more d.goes_on profile result lines (lines + more)
     (omega arith)

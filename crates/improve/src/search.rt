@@ -289,15 +289,11 @@ fn lower_by_bounds<T: Progress, W: Watch>(
         return Err(ImproveFault::Memory);
     };
     suggest_given(&mut bounds, &standing.best, is_given);
-    tighten(
-        instance,
-        budget,
-        progress,
-        watch,
-        &mut bounds,
-        standing.best,
-        work,
-    )
+    let (best, bound) = (standing.best, &mut bounds);
+    let found = tighten(instance, budget, progress, watch, bound, best, work);
+    // A call of `drop` is proved once for each type, and the end of a scope field by field.
+    drop(bounds);
+    found
 }
 
 /// The values of the best solution are tried first, where the search was given a solution.

@@ -1,5 +1,5 @@
 -- What was told are the bounds so far and the cost in hand.
-use Rattle.std.proofs.Common.{◌≡◌, ℕ, ◌+◌, [], ◌∷◌, ◌++◌, refl, ◌∙◌, ap, arith}
+use Rattle.std.proofs.Common.{◌≡◌, ℕ, [], ◌∷◌, ◌++◌, refl, ◌∙◌, ap, arith}
 use Rattle.std.specs.declared.vec.Vec.{Vec}
 use Rattle.std.specs.declared.alloc.Global.{Global}
 use Rattle.lrat_log.specs.Steps.{learned_count}
@@ -14,8 +14,8 @@ use Rattle.improve.proofs.Shown.{shown_none, shown_then, shown_more}
 use Rattle.improve.proofs.Shown.{shown_told, shown_failed}
 use Rattle.improve.proofs.search.descend.Goals as goal
 
-pub loop-best-init : goal.loop-best-init
-loop-best-init g c = record {
+pub loop-bounds-init : goal.loop-bounds-init
+loop-bounds-init g c = record {
   over = c.requires.over;
   profile = refl;
   goes_on =
@@ -31,9 +31,9 @@ loop-best-init g c = record {
 
 pub add-requires-clause-small : goal.add-requires-clause-small
 add-requires-clause-small g c =
-    let i = c.loop-best.invariant in
+    let i = c.loop-bounds.invariant in
     let p = c.args.instance.now in
-    let best = c.loop-best.best in
+    let best = c.loop-bounds.best in
     let small =
     cost_small p best.cost i.over.instance
     (cost_of_solution p best.bits.items best.cost i.goes_on.standing.solution) in
@@ -41,20 +41,20 @@ add-requires-clause-small g c =
 
 pub returns-then-is_err-clause-fails : goal.returns-then-is_err-clause-fails
 returns-then-is_err-clause-fails g c =
-    let i = c.loop-best.invariant in
+    let i = c.loop-bounds.invariant in
     fails_after _ _ _ _ _ _ _ _ _ _ _ i.goes_on Memory
-    (fails_memory c.args.instance.now (g.T.Progress.state c.loop-best.progress)
-    (g.T.Progress.state c.loop-best.progress) c.loop-best.budget c.loop-best.budget
-    (record { best = c.loop-best.best; earlier = c.loop-best.bounds.costs })
+    (fails_memory c.args.instance.now (g.T.Progress.state c.loop-bounds.progress)
+    (g.T.Progress.state c.loop-bounds.progress) c.loop-bounds.budget c.loop-bounds.budget
+    (record { best = c.loop-bounds.best; earlier = c.loop-bounds.bounds.costs })
     i.goes_on.standing refl refl)
 
 pub returns-in-Err-clause-fails : goal.returns-in-Err-clause-fails
 returns-in-Err-clause-fails g c =
-    let i = c.loop-best.invariant in
+    let i = c.loop-bounds.invariant in
     fails_after _ _ _ _ _ _ _ _ _ _ _ i.goes_on Memory
-    (fails_memory c.args.instance.now (g.T.Progress.state c.loop-best.progress)
-    (g.T.Progress.state c.loop-best.progress) c.loop-best.budget c.solve.new.budget
-    (record { best = c.loop-best.best; earlier = c.loop-best.bounds.costs })
+    (fails_memory c.args.instance.now (g.T.Progress.state c.loop-bounds.progress)
+    (g.T.Progress.state c.loop-bounds.progress) c.loop-bounds.budget c.solve.new.budget
+    (record { best = c.loop-bounds.best; earlier = c.loop-bounds.bounds.costs })
     i.goes_on.standing c.solve.ensures.limit refl)
 
 pub solve-requires-clause-over : goal.solve-requires-clause-over
@@ -62,9 +62,9 @@ solve-requires-clause-over g c = on_ok_at c.add.result c.if-is_err.ensures.value
 
 pub solve-requires-clause-bounded : goal.solve-requires-clause-bounded
 solve-requires-clause-bounded g c = (
-  c.loop-best.best.cost,
+  c.loop-bounds.best.cost,
   (
-    c.loop-best.bounds.costs.items,
+    c.loop-bounds.bounds.costs.items,
     on_ok_at c.add.result c.if-is_err.ensures.value c.add.ensures.costs,
   ),
 )
@@ -75,14 +75,14 @@ tell-requires-clause-solution g c =
 
 pub tell-requires-clause-failures : goal.tell-requires-clause-failures
 tell-requires-clause-failures g c =
-    omega (arith, c.requires.failures, c.loop-best.invariant.goes_on.failures)
+    omega (arith, c.requires.failures, c.loop-bounds.invariant.goes_on.failures)
 
 pub returns-then-is_err-2-clause-fails : goal.returns-then-is_err-2-clause-fails
 returns-then-is_err-2-clause-fails g c =
     let p = c.args.instance.now in
-    let i = c.loop-best.invariant in
-    let costs = c.loop-best.bounds.costs.items in
-    let best = c.loop-best.best in
+    let i = c.loop-bounds.invariant in
+    let costs = c.loop-bounds.bounds.costs.items in
+    let best = c.loop-bounds.best in
     let cost = c.in-Ok-Cheaper.solution.cost in
     let next = rw c.in-Ok-Cheaper.field-0-is at c.in-Ok-Cheaper.ensures.next in
     let err = on_err_at c.tell.result c.if-is_err-2.ensures.value c.tell.ensures.err in
@@ -90,26 +90,26 @@ returns-then-is_err-2-clause-fails g c =
     ap (λ (v : Vec ℕ Global). v.items) c.solve.ensures.costs
     ∙ on_ok_at c.add.result c.if-is_err.ensures.value c.add.ensures.costs in
     fails_after _ _ _ _ _ _ _ _ _ _ _ i.goes_on Progress
-    (fails_progress p (g.T.Progress.state c.loop-best.progress)
+    (fails_progress p (g.T.Progress.state c.loop-bounds.progress)
     (g.T.Progress.state c.tell.new.progress)
-    c.loop-best.budget c.solve.new.budget
-    (record { best = c.loop-best.best; earlier = c.loop-best.bounds.costs })
+    c.loop-bounds.budget c.solve.new.budget
+    (record { best = c.loop-bounds.best; earlier = c.loop-bounds.bounds.costs })
     i.goes_on.standing c.solve.ensures.limit cost
     c.in-Ok-Cheaper.solution.bits.items next.solution (next.below costs best.cost more) err)
 
-pub loop-best-smaller : goal.loop-best-smaller
-loop-best-smaller g c =
+pub loop-bounds-smaller : goal.loop-bounds-smaller
+loop-bounds-smaller g c =
     let added = on_ok_at c.add.result c.if-is_err.ensures.value c.add.ensures.costs in
     let next = rw c.in-Ok-Cheaper.field-0-is at c.in-Ok-Cheaper.ensures.next in
-    next.below c.loop-best.bounds.costs.items c.loop-best.best.cost
+    next.below c.loop-bounds.bounds.costs.items c.loop-bounds.best.cost
     (ap (λ (v : Vec ℕ Global). v.items) c.solve.ensures.costs ∙ added)
 
-pub loop-best-preserved : goal.loop-best-preserved
-loop-best-preserved g c =
+pub loop-bounds-preserved : goal.loop-bounds-preserved
+loop-bounds-preserved g c =
     let p = c.args.instance.now in
-    let i = c.loop-best.invariant in
-    let costs = c.loop-best.bounds.costs.items in
-    let best = c.loop-best.best in
+    let i = c.loop-bounds.invariant in
+    let costs = c.loop-bounds.bounds.costs.items in
+    let best = c.loop-bounds.best in
     let next = rw c.in-Ok-Cheaper.field-0-is at c.in-Ok-Cheaper.ensures.next in
     let ok = on_ok_at c.tell.result c.if-is_err-2.ensures.value c.tell.ensures.ok in
     let added = on_ok_at c.add.result c.if-is_err.ensures.value c.add.ensures.costs in
@@ -122,61 +122,62 @@ loop-best-preserved g c =
       profile = c.solve.ensures.profile ∙ same ∙ i.profile;
       goes_on =
           goes_further p _ _ _ _ _ _ _ _ _ 0
-          (learned_count c.loop-best.bounds.solver.sink)
+          (learned_count c.loop-bounds.bounds.solver.sink)
           (learned_count c.solve.new.self.solver.sink) i.goes_on
           (goes_cheaper p _ _ _ _
-          (record { best = c.loop-best.best; earlier = c.loop-best.bounds.costs })
+          (record { best = c.loop-bounds.best; earlier = c.loop-bounds.bounds.costs })
           (record { best = c.in-Ok-Cheaper.solution; earlier = c.solve.new.self.costs })
           i.goes_on.standing more (next.below costs best.cost more) next.solution ok next.answers
-          c.solve.ensures.limit (learned_count c.loop-best.bounds.solver.sink)
+          c.solve.ensures.limit (learned_count c.loop-bounds.bounds.solver.sink)
           (learned_count c.solve.new.self.solver.sink)
           (omega (arith, c.solve.ensures.learned, unlearned)));
       follows = λ first h. c.tell.ensures.follows first (i.follows first h);
       shown =
           shown_more p _ _ _ _ _ _ (shown_then p _ _ _ _ _ i.shown c.solve.ensures.quiet)
           i.goes_on.failures
-          (shown_told p (g.T.Progress.state c.loop-best.progress) _ _ _
+          (shown_told p (g.T.Progress.state c.loop-bounds.progress) _ _ _
           c.in-Ok-Cheaper.solution.cost c.in-Ok-Cheaper.solution.bits.items next.solution
           c.tell.ensures.shown ok);
     }
 
 pub returns-then-is_err-2-clause-follows : goal.returns-then-is_err-2-clause-follows
 returns-then-is_err-2-clause-follows g c =
-    λ first h. c.tell.ensures.follows first (c.loop-best.invariant.follows first h)
+    λ first h. c.tell.ensures.follows first (c.loop-bounds.invariant.follows first h)
 
 pub returns-in-Err-clause-shown : goal.returns-in-Err-clause-shown
 returns-in-Err-clause-shown g c =
-    shown_then c.args.instance.now _ _ _ _ _ c.loop-best.invariant.shown c.solve.ensures.quiet
+    shown_then c.args.instance.now _ _ _ _ _ c.loop-bounds.invariant.shown c.solve.ensures.quiet
 
 pub returns-in-Ok-Refuted-clause-shown : goal.returns-in-Ok-Refuted-clause-shown
 returns-in-Ok-Refuted-clause-shown g c =
-    shown_then c.args.instance.now _ _ _ _ _ c.loop-best.invariant.shown c.solve.ensures.quiet
+    shown_then c.args.instance.now _ _ _ _ _ c.loop-bounds.invariant.shown c.solve.ensures.quiet
 
 pub returns-in-Ok-Spent-clause-shown : goal.returns-in-Ok-Spent-clause-shown
 returns-in-Ok-Spent-clause-shown g c =
-    shown_then c.args.instance.now _ _ _ _ _ c.loop-best.invariant.shown c.solve.ensures.quiet
+    shown_then c.args.instance.now _ _ _ _ _ c.loop-bounds.invariant.shown c.solve.ensures.quiet
 
 pub returns-then-is_err-2-clause-shown : goal.returns-then-is_err-2-clause-shown
 returns-then-is_err-2-clause-shown g c =
     let p = c.args.instance.now in
-    let i = c.loop-best.invariant in
+    let i = c.loop-bounds.invariant in
     let next = rw c.in-Ok-Cheaper.field-0-is at c.in-Ok-Cheaper.ensures.next in
     let err = on_err_at c.tell.result c.if-is_err-2.ensures.value c.tell.ensures.err in
     shown_more p _ _ _ _ _ _ (shown_then p _ _ _ _ _ i.shown c.solve.ensures.quiet)
     i.goes_on.failures
-    (shown_failed p (g.T.Progress.state c.loop-best.progress) _ _ _ c.in-Ok-Cheaper.solution.cost
+    (shown_failed p (g.T.Progress.state c.loop-bounds.progress) _ _ _ c.in-Ok-Cheaper.solution.cost
     c.in-Ok-Cheaper.solution.bits.items next.solution c.tell.ensures.shown err)
+
 pub returns-in-Ok-Refuted-clause-profile : goal.returns-in-Ok-Refuted-clause-profile
 returns-in-Ok-Refuted-clause-profile g c =
     c.solve.ensures.profile
     ∙ on_ok_at c.add.result c.if-is_err.ensures.value c.add.ensures.profile
-    ∙ c.loop-best.invariant.profile
+    ∙ c.loop-bounds.invariant.profile
 
 pub returns-in-Ok-Refuted-clause-descends : goal.returns-in-Ok-Refuted-clause-descends
 returns-in-Ok-Refuted-clause-descends g c =
     let next = rw c.in-Ok-Refuted.field-0-is at c.in-Ok-Refuted.ensures.next in
-    descends_last c.args.instance.now _ _ _ _ _ _ _ c.loop-best.bounds.costs
-    c.solve.new.self (learned_count c.loop-best.bounds.solver.sink) c.loop-best.invariant.goes_on
+    descends_last c.args.instance.now _ _ _ _ _ _ _ c.loop-bounds.bounds.costs
+    c.solve.new.self (learned_count c.loop-bounds.bounds.solver.sink) c.loop-bounds.invariant.goes_on
     (ap (λ (v : Vec ℕ Global). v.items) c.solve.ensures.costs
     ∙ on_ok_at c.add.result c.if-is_err.ensures.value c.add.ensures.costs)
     c.solve.ensures.limit next.answers
@@ -190,13 +191,13 @@ pub returns-in-Ok-Spent-clause-profile : goal.returns-in-Ok-Spent-clause-profile
 returns-in-Ok-Spent-clause-profile g c =
     c.solve.ensures.profile
     ∙ on_ok_at c.add.result c.if-is_err.ensures.value c.add.ensures.profile
-    ∙ c.loop-best.invariant.profile
+    ∙ c.loop-bounds.invariant.profile
 
 pub returns-in-Ok-Spent-clause-descends : goal.returns-in-Ok-Spent-clause-descends
 returns-in-Ok-Spent-clause-descends g c =
     let next = rw c.in-Ok-Spent.field-0-is at c.in-Ok-Spent.ensures.next in
-    descends_last c.args.instance.now _ _ _ _ _ _ _ c.loop-best.bounds.costs
-    c.solve.new.self (learned_count c.loop-best.bounds.solver.sink) c.loop-best.invariant.goes_on
+    descends_last c.args.instance.now _ _ _ _ _ _ _ c.loop-bounds.bounds.costs
+    c.solve.new.self (learned_count c.loop-bounds.bounds.solver.sink) c.loop-bounds.invariant.goes_on
     (ap (λ (v : Vec ℕ Global). v.items) c.solve.ensures.costs
     ∙ on_ok_at c.add.result c.if-is_err.ensures.value c.add.ensures.costs)
     c.solve.ensures.limit next.answers
@@ -217,7 +218,7 @@ returns-in-Ok-Spent-clause-end g c =
     record {
       open_end = next.open_end;
       above_zero =
-          next.above_zero c.loop-best.bounds.costs.items c.loop-best.best.cost
+          next.above_zero c.loop-bounds.bounds.costs.items c.loop-bounds.best.cost
           (ap (λ (v : Vec ℕ Global). v.items) c.solve.ensures.costs ∙ added);
       none_left = next.none_left;
     }

@@ -6,8 +6,8 @@ use Rattle.improve.specs.Standing.{GoesOn}
 use Rattle.improve.specs.Watch.{AreShown}
 use Rattle.improve.proofs.search.descend.Given as goal
 
-abbrev pub invariant-loop-best : goal.invariant-loop-best
-invariant-loop-best g l = record {
+abbrev pub invariant-loop-bounds : goal.invariant-loop-bounds
+invariant-loop-bounds g l = record {
   over : IsOver l.instance l.bounds;
   profile : (l.bounds).profile ≡ (l.fn.bounds).profile;
   goes_on : GoesOn l.instance (g.T.Progress.state l.fn.progress) (g.T.Progress.state l.progress)
@@ -20,5 +20,5 @@ invariant-loop-best g l = record {
       (g.W.SearchWatch.seen l.fn.watch) (g.W.SearchWatch.seen l.watch);
 }
 
-abbrev pub decreases-loop-best : goal.decreases-loop-best
-decreases-loop-best g l = (l.best).cost
+abbrev pub decreases-loop-bounds : goal.decreases-loop-bounds
+decreases-loop-bounds g l = (l.best).cost

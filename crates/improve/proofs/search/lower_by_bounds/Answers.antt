@@ -18,8 +18,8 @@ returns-in_default-clause-ends g c =
     (g.T.Progress.state c.args.progress.now) c.args.budget.now c.args.budget.now c.args.standing
     c.requires.standing refl refl)
 
-pub tighten-requires-clause-standing : goal.tighten-requires-clause-standing
-tighten-requires-clause-standing g c =
+pub tighten-found-requires-clause-standing : goal.tighten-found-requires-clause-standing
+tighten-found-requires-clause-standing g c =
     rw c.suggest_given.ensures (
     same_standing c.args.instance.now c.args.standing c.in-Ok.bounds.costs
     (c.in-Ok.ensures.costs ∙ c.deref.ensures.value) c.requires.standing)
@@ -27,13 +27,13 @@ tighten-requires-clause-standing g c =
 pub returns-clause-ends : goal.returns-clause-ends
 returns-clause-ends g c =
     let first = c.args.standing.best in
-    ends_same c.args.profile c.in-Ok.bounds.profile c.args.instance.now c.tighten.result
-    (g.T.Progress.state c.args.progress.now) (g.T.Progress.state c.tighten.new.progress)
-    c.args.budget.now c.tighten.new.budget c.args.standing
+    ends_same c.args.profile c.in-Ok.bounds.profile c.args.instance.now c.tighten-found.result
+    (g.T.Progress.state c.args.progress.now) (g.T.Progress.state c.tighten-found.new.progress)
+    c.args.budget.now c.tighten-found.new.budget c.args.standing
     (record { best = first; earlier = c.in-Ok.bounds.costs }) (work_count c.args.work)
     c.in-Ok.ensures.profile
     (ap (λ cs. cs ++ first.cost ∷ []) (c.in-Ok.ensures.costs ∙ c.deref.ensures.value))
-    (rw c.suggest_given.ensures at c.tighten.ensures.ends)
+    (rw c.suggest_given.ensures at c.tighten-found.ensures.ends)
 
 pub returns-in_default-clause-shown : goal.returns-in_default-clause-shown
 returns-in_default-clause-shown g c =

@@ -1,5 +1,5 @@
 -- The end of the bounds is that of the search.
-use Rattle.std.proofs.Common.{◌≡◌, ℕ, ◌+◌, sym, subst}
+use Rattle.std.proofs.Common.{◌≡◌, ◌+◌, sym, subst}
 use Rattle.lrat_log.specs.Steps.{learned_count}
 use Rattle.cdcl_order.specs.Budgets.{left_of}
 use Rattle.improve.specs.Improving.{AreFalling, work_count}
