@@ -247,7 +247,7 @@ impl<S: Sink> Solver<S> {
     /// A hint for the order of decisions, on which no answer depends: the literal's variable starts
     /// at the share that its weight has of the greatest weight so far.
     pub fn weigh(&mut self, lit: Lit, weight: u64)
-        ensures unchanged { self.new ≡ self.old }
+        ensures same_view { self.new ≡ self.old }
     {
         self.search.policy.weigh(lit.variable(), weight);
     }
@@ -256,7 +256,7 @@ impl<S: Sink> Solver<S> {
     /// variable from 1, each until its variable has another. Variables without one keep theirs,
     /// and values of no variable are ignored.
     pub fn suggest(&mut self, values: &[bool])
-        ensures unchanged { self.new ≡ self.old }
+        ensures same_view { self.new ≡ self.old }
     {
         if self.failed || self.refuted {
             return;

@@ -138,7 +138,7 @@ impl Bounds {
 
     /// The values of a solution, by variable from 1, are tried first from now on.
     pub fn suggest(&mut self, bits: &[bool])
-        ensures unchanged { self.new ≡ self.old }
+        ensures same_view { self.new ≡ self.old }
     {
         self.solver.suggest(bits);
     }

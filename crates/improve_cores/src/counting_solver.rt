@@ -201,7 +201,7 @@ impl CountingSolver {
 
     /// Gives back the memory of its search, after which nothing is found.
     pub(crate) fn retire(&mut self)
-        ensures unchanged { self.new ≡ self.old }
+        ensures same_view { self.new ≡ self.old }
     {
         self.solver.retire();
     }

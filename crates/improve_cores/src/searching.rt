@@ -141,7 +141,7 @@ impl CoreSearch {
     /// From now on the search may be over before its share is spent, where the cores are not worth
     /// enough in time.
     pub fn may_give_up(&mut self, instance: &Instance)
-        ensures unchanged { self.new ≡ self.old }
+        ensures same_view { self.new ≡ self.old }
     {
         self.policy.outlook = Outlook::watched(instance.soft().len());
     }
@@ -150,14 +150,14 @@ impl CoreSearch {
     /// about `patience` clauses without a core or a model for the next lower one: there more is
     /// assumed, so cores are found sooner, and are worth less.
     pub fn allow(&mut self, more: u64, patience: u64)
-        ensures unchanged { self.new ≡ self.old }
+        ensures same_view { self.new ≡ self.old }
     {
         self.policy.allow(more, patience);
     }
 
     /// Gives back the memory that only a search needs: no further core is looked for.
     pub fn retire(&mut self)
-        ensures unchanged { self.new ≡ self.old }
+        ensures same_view { self.new ≡ self.old }
     {
         self.policy.end();
         self.solver.retire();

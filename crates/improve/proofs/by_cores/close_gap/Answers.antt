@@ -73,7 +73,7 @@ returns-in_err-note_model-in-Model-clause-fault g c =
 
 pub returns-in-Closed-clause-search : goal.returns-in-Closed-clause-search
 returns-in-Closed-clause-search g c =
-    subst (IsSearchFor c.args.instance.now) (sym c.retire.ensures.unchanged)
+    subst (IsSearchFor c.args.instance.now) (sym c.retire.ensures.same_view)
     (search_kept c.args.instance.now c.events.search c.next.new.self c.events.invariant.search
     c.next.ensures.formula)
 
@@ -89,7 +89,7 @@ returns-in-Closed-clause-goes_on g c =
     (omega (
       arith,
       a.learned,
-      ap (λ (w : CoreWork). learned_count w.lines) c.retire.ensures.unchanged,
+      ap (λ (w : CoreWork). learned_count w.lines) c.retire.ensures.same_view,
     ))
 
 pub returns-in-Over-clause-search : goal.returns-in-Over-clause-search

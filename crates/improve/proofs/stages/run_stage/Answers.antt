@@ -10,7 +10,7 @@ use Rattle.improve.proofs.stages.run_stage.Goals as goal
 
 pub close_gap-requires-clause-search : goal.close_gap-requires-clause-search
 close_gap-requires-clause-search g c =
-    subst (IsSearchFor c.args.instance.now) (sym c.allow.ensures.unchanged) c.requires.search
+    subst (IsSearchFor c.args.instance.now) (sym c.allow.ensures.same_view) c.requires.search
 
 pub returns-in_err-is_closed-clause-fault : goal.returns-in_err-is_closed-clause-fault
 returns-in_err-is_closed-clause-fault g c =
@@ -24,7 +24,7 @@ returns-in_default-clause-goes_on g c =
     (omega (
       arith,
       a.learned,
-      ap (λ (w : CoreWork). learned_count w.lines) c.allow.ensures.unchanged,
+      ap (λ (w : CoreWork). learned_count w.lines) c.allow.ensures.same_view,
     ))
 
 pub refute-requires-clause-failures : goal.refute-requires-clause-failures
@@ -37,7 +37,7 @@ returns-clause-follows g c =
 
 pub returns-clause-goes_on : goal.returns-clause-goes_on
 returns-clause-goes_on g c =
-    let given = ap (λ (w : CoreWork). learned_count w.lines) c.allow.ensures.unchanged in
+    let given = ap (λ (w : CoreWork). learned_count w.lines) c.allow.ensures.same_view in
     IfOk-weaker c.refute.result _ _
     (λ f h. goes_beside c.args.instance.now _ _ _ _ _ _ _ _ _ _ _ _ _ _ _
     c.in_ok-is_closed.ensures.goes_on h (omega (arith, given))) c.refute.ensures.goes_on
