@@ -401,102 +401,115 @@ fn make_cost<'a>(alloc: Global) -> Arg<'a> {
     .value_parser(ValueParser::unsigned(0, MOST_COST))
 }
 
-/// `wmax solve`. The error, here and below, is want of memory. Each argument is made where it is
-/// handed over, so that no exit has to drop those that come later.
+/// `wmax solve`. The error, here and below, is want of memory.
 fn make_solve<'a>(alloc: Global) -> Result<Command<'a>, Error> {
+    let args = vec![in alloc;
+        make_conflicts(alloc),
+        make_option(alloc, PROOF_OPTION, "PATH", PROOF_HELP),
+        make_option(alloc, BEST_OPTION, "PATH", BEST_HELP),
+        make_option(alloc, LOWER_OPTION, "PATH", LOWER_HELP),
+        make_option(alloc, FROM_OPTION, "RESULT", FROM_HELP),
+        make_progress(alloc),
+        make_profile(alloc),
+        make_positional(alloc, FILE, "The instance, a WCNF text"),
+    ]?;
     let command = Command::new(alloc, SOLVE)
         .about("Finds a solution of least cost, and proves that nothing is cheaper")
         .after_help(SOLVE_NOTES)
-        .next_line_help(true)
-        .arg(make_conflicts(alloc))?
-        .arg(make_option(alloc, PROOF_OPTION, "PATH", PROOF_HELP))?
-        .arg(make_option(alloc, BEST_OPTION, "PATH", BEST_HELP))?
-        .arg(make_option(alloc, LOWER_OPTION, "PATH", LOWER_HELP))?
-        .arg(make_option(alloc, FROM_OPTION, "RESULT", FROM_HELP))?
-        .arg(make_progress(alloc))?
-        .arg(make_profile(alloc))?
-        .arg(make_positional(alloc, FILE, "The instance, a WCNF text"))?;
-    Ok(command)
+        .next_line_help(true);
+    Ok(command.args(args)?)
 }
 
 /// `wmax check`.
 fn make_check<'a>(alloc: Global) -> Result<Command<'a>, Error> {
-    let command = Command::new(alloc, CHECK)
-        .about("Checks a result and the certificate that proves it")
-        .after_help(CHECK_NOTES)
-        .next_line_help(true)
-        .arg(make_positional(alloc, FILE, "The instance, a WCNF text"))?
-        .arg(make_positional(
+    let args = vec![in alloc;
+        make_positional(alloc, FILE, "The instance, a WCNF text"),
+        make_positional(
             alloc,
             RESULT,
             "The result, as a solver printed it: o, s and v lines",
-        ))?
-        .arg(make_positional(alloc, PROOF, "The certificate, LRAT as text"))?
-        .arg(make_profile_or_any(alloc))?;
-    Ok(command)
+        ),
+        make_positional(alloc, PROOF, "The certificate, LRAT as text"),
+        make_profile_or_any(alloc),
+    ]?;
+    let command = Command::new(alloc, CHECK)
+        .about("Checks a result and the certificate that proves it")
+        .after_help(CHECK_NOTES)
+        .next_line_help(true);
+    Ok(command.args(args)?)
 }
 
 /// `wmax lower`.
 fn make_lower<'a>(alloc: Global) -> Result<Command<'a>, Error> {
+    let args = vec![in alloc;
+        make_positional(alloc, FILE, "The instance, a WCNF text"),
+        make_positional(alloc, PROOF, "The certificate, LRAT as text"),
+    ]?;
     let command = Command::new(alloc, LOWER)
         .about("Prints the lower bound that an LRAT certificate proves by itself")
-        .after_help(LOWER_NOTES)
-        .arg(make_positional(alloc, FILE, "The instance, a WCNF text"))?
-        .arg(make_positional(alloc, PROOF, "The certificate, LRAT as text"))?;
-    Ok(command)
+        .after_help(LOWER_NOTES);
+    Ok(command.args(args)?)
 }
 
 /// `wmax explain`.
 fn make_explain<'a>(alloc: Global) -> Result<Command<'a>, Error> {
+    let args = vec![in alloc;
+        make_positional(alloc, FILE, "The instance, a WCNF text"),
+        Arg::new(alloc, RESULT)
+            .action(ArgAction::Set)
+            .help("The result, as a solver printed it: o, s and v lines"),
+        Arg::new(alloc, PROOF).action(ArgAction::Set).help(
+            "A certificate of a lower bound, as solve --lower keeps it"
+        ),
+    ]?;
     let command = Command::new(alloc, EXPLAIN)
         .about("Says what a result gives up and breaks, or how large an instance is")
-        .after_help(EXPLAIN_NOTES)
-        .arg(make_positional(alloc, FILE, "The instance, a WCNF text"))?
-        .arg(
-            Arg::new(alloc, RESULT)
-                .action(ArgAction::Set)
-                .help("The result, as a solver printed it: o, s and v lines"),
-        )?
-        .arg(
-            Arg::new(alloc, PROOF).action(ArgAction::Set).help(
-                "A certificate of a lower bound, as solve --lower keeps it",
-            ),
-        )?;
-    Ok(command)
+        .after_help(EXPLAIN_NOTES);
+    Ok(command.args(args)?)
 }
 
 /// `wmax encode`.
 fn make_encode<'a>(alloc: Global) -> Result<Command<'a>, Error> {
+    let args = vec![in alloc;
+        make_positional(alloc, FILE, "The instance, a WCNF text"),
+        make_cost(alloc),
+        make_option(alloc, PROOF_OPTION, "CERTIFICATE", CERTIFICATE_HELP),
+        make_profile(alloc),
+    ]?;
     let command = Command::new(alloc, ENCODE)
         .about("Prints the formula that a certificate refutes, as DIMACS CNF")
         .after_help(ENCODE_NOTES)
-        .next_line_help(true)
-        .arg(make_positional(alloc, FILE, "The instance, a WCNF text"))?
-        .arg(make_cost(alloc))?
-        .arg(make_option(alloc, PROOF_OPTION, "CERTIFICATE", CERTIFICATE_HELP))?
-        .arg(make_profile(alloc))?;
-    Ok(command)
+        .next_line_help(true);
+    Ok(command.args(args)?)
 }
 
-/// The command line with one command more, if there was memory for that one.
+/// Adds a command to the list, if there was memory for it.
 fn add_command<'a>(
-    all: Command<'a>,
+    commands: &mut Vec<Command<'a>>,
     command: Result<Command<'a>, Error>,
-) -> Result<Command<'a>, Error> {
-    Ok(all.subcommand(command?)?)
+) -> Result<(), Error> {
+    commands.push(command?)?;
+    Ok(())
+}
+
+/// Fills the list of what the program can be asked for.
+fn add_commands<'a>(alloc: Global, commands: &mut Vec<Command<'a>>) -> Result<(), Error> {
+    add_command(commands, make_solve(alloc))?;
+    add_command(commands, make_check(alloc))?;
+    add_command(commands, make_lower(alloc))?;
+    add_command(commands, make_explain(alloc))?;
+    add_command(commands, make_encode(alloc))
 }
 
 /// The whole command line.
 pub fn make_command<'a>(alloc: Global) -> Result<Command<'a>, Error> {
+    let mut commands = Vec::new(alloc);
+    add_commands(alloc, &mut commands)?;
     let all = Command::new(alloc, "wmax")
         .about("Certified weighted partial MaxSAT")
         .version(VERSION)
         .after_help(NOTES)
         .subcommand_required(true)
         .disable_help_subcommand(true);
-    let all = add_command(all, make_solve(alloc))?;
-    let all = add_command(all, make_check(alloc))?;
-    let all = add_command(all, make_lower(alloc))?;
-    let all = add_command(all, make_explain(alloc))?;
-    add_command(all, make_encode(alloc))
+    Ok(all.subcommands(commands)?)
 }
