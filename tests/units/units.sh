@@ -23,8 +23,8 @@ needs() { # CRATE: what its tests use beside what it stands on
     grep -rhE '^// needs ' "tests/units/$1" --include='*.tests' | sed 's,^// needs ,,'
 }
 
-# put_tests CRATE: into the copy, as functions that the program can call. Only `main` and a #[test] have a runtime that
-# aborts, and other functions take whatever aborts, allocates and prints.
+# put_tests CRATE: into the copy, as functions that the program can call. Only `main` and a #[test] may take HostRuntime, so
+# each test becomes a function of any runtime that aborts, allocates and prints.
 put_tests() {
     local runtime='impl std::process::Abort + std::alloc::AllocGlobal + std::io::Print + Drop'
     local src=$work/crates/$1/src file of folder
