@@ -100,7 +100,7 @@ Faults:
   NO HintNotUnit N          a clause that line N of PROOF names is not unit
   NO NoConflict N           the clauses named on line N of PROOF do not suffice
   NO NoEmptyClause 0        PROOF ends too soon
-  NO CoreForm N             line N of PROOF: no core line, or too many clauses
+  NO CoreForm N             line N of PROOF: bad core line, or too many clauses
   NO CoreWeight N           the core on line N is worth 0, or more than is left
   NO CoreSum N              the cores before line N are worth less than the cost
 docs/FAULTS.md and the manual page have the others.";
@@ -128,7 +128,7 @@ Faults:
   NO DeadId N         line N of PROOF names a clause that is not there
   NO NoConflict N     the clauses named on line N of PROOF do not suffice
   NO NoEmptyClause 0  PROOF ends too soon
-  NO CoreForm N       line N of PROOF: no core line, or too many clauses
+  NO CoreForm N       line N of PROOF: bad core line, or too many clauses
   NO CoreWeight N     the core on line N is worth 0, or more than is left
 docs/FAULTS.md and the manual page have the others.";
 
@@ -179,7 +179,7 @@ Example:
 
 Faults:
   error: line N: NoZero      the clause on line N of FILE has no 0 at its end
-  error: line N: CoreForm    line N: no core line, or too many clauses
+  error: line N: CoreForm    line N: bad core line, or too many clauses
   error: line N: CoreWeight  the core on line N is worth 0, or more than is left
   error: line N: CoreSum     the cores before line N are worth less than COST
   error: Read                a file cannot be opened or read
@@ -213,7 +213,7 @@ How 'cheaper' is encoded. The default is WMAX_PROFILE if set, else 1.
 4: generalized totalizers along a tree that follows the hard clauses;
 5: cores first, by core-guided search, and then as 4. The cores begin
 the certificate. Profile 5 finds the most optima.
-check needs the profile that the certificate was made in";
+check and encode need the profile that the certificate was made in";
 
 const PROFILE_OR_ANY_HELP: &str = "\
 The profile that the certificate was made in. The default is
@@ -223,8 +223,7 @@ PROOF. PROOF is read again for each profile, so it cannot be a pipe";
 
 const CONFLICTS_HELP: &str = "\
 The effort: at most N learned clauses and solutions in all. Time and
-memory grow with N. The same N always gives the same
-answer";
+memory grow with N. The same N always gives the same answer";
 
 const PROOF_HELP: &str = "\
 Writes the LRAT certificate to PATH at the end of the search. PATH is
