@@ -177,7 +177,8 @@ pub returns-in-Ok-Refuted-clause-descends : goal.returns-in-Ok-Refuted-clause-de
 returns-in-Ok-Refuted-clause-descends g c =
     let next = rw c.in-Ok-Refuted.field-0-is at c.in-Ok-Refuted.ensures.next in
     descends_last c.args.instance.now _ _ _ _ _ _ _ c.loop-bounds.bounds.costs
-    c.solve.new.self (learned_count c.loop-bounds.bounds.solver.sink) c.loop-bounds.invariant.goes_on
+    c.solve.new.self (learned_count c.loop-bounds.bounds.solver.sink)
+    c.loop-bounds.invariant.goes_on
     (ap (λ (v : Vec ℕ Global). v.items) c.solve.ensures.costs
     ∙ on_ok_at c.add.result c.if-is_err.ensures.value c.add.ensures.costs)
     c.solve.ensures.limit next.answers
@@ -197,7 +198,8 @@ pub returns-in-Ok-Spent-clause-descends : goal.returns-in-Ok-Spent-clause-descen
 returns-in-Ok-Spent-clause-descends g c =
     let next = rw c.in-Ok-Spent.field-0-is at c.in-Ok-Spent.ensures.next in
     descends_last c.args.instance.now _ _ _ _ _ _ _ c.loop-bounds.bounds.costs
-    c.solve.new.self (learned_count c.loop-bounds.bounds.solver.sink) c.loop-bounds.invariant.goes_on
+    c.solve.new.self (learned_count c.loop-bounds.bounds.solver.sink)
+    c.loop-bounds.invariant.goes_on
     (ap (λ (v : Vec ℕ Global). v.items) c.solve.ensures.costs
     ∙ on_ok_at c.add.result c.if-is_err.ensures.value c.add.ensures.costs)
     c.solve.ensures.limit next.answers
