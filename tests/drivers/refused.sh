@@ -4,7 +4,7 @@
 # those that are tried, so that the Nth of all is each of them in turn, from the first one on.
 source "$(dirname "$0")/../lib"
 uses='cnf clauses propagate cdcl lrat_log lrat_check'
-most=330
+most=400
 # shellcheck disable=SC2086
 copied $uses
 echo "drive: $uses" >> "$work/crates.txt"

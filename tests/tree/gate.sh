@@ -54,7 +54,7 @@ ok 'no edit stays in the checkout' [ "$(ls "$work"/crates/*/must-fail)" = plain.
 ok 'the copy is gone' [ ! -e "$(cat "$JOURNAL.where")" ]
 (cd "$work" && git init -q . && git -c user.name=a -c user.email=a@b.c commit -q --allow-empty -m one) 2> /dev/null
 PROVES=yes SCRIPTS= gated
-ok 'at the next commit four of another crate' [ "$(cat "$JOURNAL")" = "$(printf 'low/must-fail/%s\n' further-{a,b,c,d}.edit plain.edit)" ]
+ok 'at the next commit eight of another crate' [ "$(cat "$JOURNAL")" = "$(printf 'low/must-fail/%s\n' further-{a,b,c,d,e,f,g,h}.edit plain.edit)" ]
 ok 'a crate by name' [ "$(cd "$work" && mkdir -p to && tests/further --into to high && ls to/crates/high/must-fail)" = $'high: 1 of 1 further edits\nfurther-other.edit' ]
 PROVES=yes SCRIPTS='6 passed, 1 failed' gated
 ok 'a script that fails' [ "$status$(tail -n 1 <<< "$out")" = '111 passed, 1 failed' ]
