@@ -16,7 +16,8 @@ ghost use Rattle.cdcl_order.specs.Budgets.{left_of};
 ghost use Rattle.cdcl_search.specs.Invariant.{zero_of};
 ghost use Rattle.cdcl.specs.Solving.{IsLiveRefuted};
 ghost use Rattle.cdcl.specs.Turns.{IsPlain};
-ghost use Rattle.cdcl_search.specs.Running.{Runs, IsReady, KeepsRunning, EngineMoves};
+ghost use Rattle.cdcl_search.specs.Running.{Runs, CanDecide, IsReady, KeepsRunning};
+ghost use Rattle.cdcl_search.specs.Running.{EngineMoves};
 ghost use Rattle.cdcl.specs.Halting.{AreKnown, AreTrue, IsUntrue, IsChoice, Halts};
 ghost use Rattle.cdcl.specs.Halting.{TurnsOrHalts};
 ghost use Rattle.cdcl.specs.declared.assuming.SearchEnd.TheVariants.{Refuted};
@@ -402,9 +403,7 @@ fn decide_next(
     assumptions: &[Lit],
     progress: &mut AssumptionProgress<'_>,
 ) -> Choice
-    requires ready { IsReady search.old }
-    requires quiet { IsQuiet search.old.store.slots (literals_of search.old.engine.trail) }
-    requires noted { length (zero_of search.old.engine.trail) ≤ search.old.noted }
+    requires can { CanDecide search.old }
     requires known { AreKnown search.old.engine.variables assumptions.now }
     ensures runs { KeepsRunning search.old search.new }
     ensures engine { EngineMoves search.old search.new }
@@ -429,9 +428,7 @@ fn branch_beside(
     assumptions: &[Lit],
     progress: &mut AssumptionProgress<'_>,
 ) -> Choice
-    requires ready { IsReady search.old }
-    requires quiet { IsQuiet search.old.store.slots (literals_of search.old.engine.trail) }
-    requires noted { length (zero_of search.old.engine.trail) ≤ search.old.noted }
+    requires can { CanDecide search.old }
     requires known { AreKnown search.old.engine.variables assumptions.now }
     ensures runs { KeepsRunning search.old search.new }
     ensures engine { EngineMoves search.old search.new }

@@ -1,5 +1,5 @@
 -- Cores: what an assumption that is false rests on, and the line of its clause.
-use Rattle.std.proofs.Common.{◌≡◌, ℕ, ◌+◌, ◌<◌, ◌≤◌, ◌-◌, ◌^◌, ◌||◌, true, false, List}
+use Rattle.std.proofs.Common.{◌≡◌, ℕ, ◌+◌, ◌<◌, ◌≤◌, ◌-◌, ◌||◌, true, false, List}
 use Rattle.std.proofs.Common.{[], ◌∷◌, ◌++◌}
 use Rattle.std.proofs.Common.{length, take, map, Option, Some, refl, sym, ◌∙◌, ap, subst}
 use Rattle.std.proofs.Common.{arith, not}
@@ -37,7 +37,7 @@ use Rattle.cdcl_search.specs.declared.input.Input.{Input}
 use Rattle.cdcl_search.specs.declared.search.Search.{Search}
 use Rattle.cdcl_search.specs.Invariant.{HasUnit, NotesUnits, IsRunning, zero_of}
 use Rattle.cdcl_search.specs.Hinting.{AreHintsOf, AreNoted, Serves}
-use Rattle.cdcl_search.specs.Running.{HasRoom, Stores, Runs, tables_of}
+use Rattle.cdcl_search.specs.Running.{AddsLine, HasRoom, Runs, tables_of}
 use Rattle.cdcl_search.specs.Cores.{HasSubset, AreAssumed, IsShown, IsCoreClause}
 use Rattle.cdcl_search.proofs.LogLines.{AddsByHints}
 use Rattle.cdcl_search.proofs.LearnedLines.{new_to_log}
@@ -205,15 +205,17 @@ core_new s p ls clause lits r k is base above =
     (λ q d at. ap (is_subset d) is ∙ k.new q d at)
 
 -- the search at level 0, with the clause
-pub runs_core : (m n : Search) (p : Input) (ls : List LogLine) (l : LogLine) (k : Literal)
+pub runs_core : (m n : Search) (p : Input) (ls now : List LogLine) (l : LogLine) (k : Literal)
     (others : List Literal)
     → IsRunning m.engine (m.store).slots p.stack (tables_of m) (p.frozen).items p.first
     p.given ls
     → HasRoom m → All (λ x. x ≤ m.additions + 1) (m.stamps).items
     → depth_of (m.engine).trail ≡ 0 → l.clause ≡ k ∷ others → AddsByHints p.given ls l
-    → Stores m n (Added (m.additions + 1)) l.clause → n.additions ≡ m.additions + 1
-    → n.additions < 2 ^ 61 → Runs n p (ls ++ l ∷ [])
-runs_core m n p ls l k others run room past flat split adds stored more few =
+    → AddsLine m n ls now l → Runs n p now
+runs_core m n p ls now l k others run room past flat split adds added =
+    let stored = added.stored in
+    let more = added.additions in
+    let few = added.few in
     let slots = (m.store).slots in
     let t = tables_of m in
     let ran =
@@ -224,7 +226,8 @@ runs_core m n p ls l k others run room past flat split adds stored more few =
     (λ level below. absurd (omega arith)) refl
     (units_add slots l.clause (zero_of (m.engine).trail) (depth_of (m.engine).trail) t.units
     t.noted run.units) in
-    record {
+    subst (Runs n p) (sym added.lines)
+    (record {
       running = running_same n.engine n.engine (slots ++ Some l.clause ∷ []) (n.store).slots p.stack
           (with_addition t (m.units).items m.noted) (tables_of n) (p.frozen).items p.first
           p.given (ls ++ l ∷ [])
@@ -236,7 +239,7 @@ runs_core m n p ls l k others run room past flat split adds stored more few =
       past = subst (λ x. All (λ y. y ≤ n.additions) x.items) (sym stored.stamps)
           (subst (λ x. All (λ y. y ≤ x) (m.stamps).items) (sym more) past);
       few = few;
-    }
+    })
 
 pub core_has : (slots now : Slots) (lits c : List Literal) → now ≡ slots ++ Some lits ∷ []
     → lits ≡ c → HasSubset now c

@@ -26,7 +26,7 @@ use Rattle.cdcl_search.specs.declared.input.Input.{Input}
 use Rattle.cdcl_search.specs.Invariant.{HasUnit, NotesUnits, NamesStore, Searches, IsRunning}
 use Rattle.cdcl_search.specs.Invariant.{zero_of}
 use Rattle.cdcl_search.specs.Hinting.{AreHintsOf, AreNoted}
-use Rattle.cdcl_search.specs.Running.{HasRoom, Stores, Runs, tables_of}
+use Rattle.cdcl_search.specs.Running.{AddsLine, HasRoom, Runs, tables_of}
 use Rattle.cdcl_search.proofs.LogLines.{AddsByHints}
 use Rattle.cdcl_search.proofs.LearnedLines.{adds_learned, refutes_alone, no_tautology_false}
 use Rattle.cdcl_search.proofs.Conflicts.{is_conflict, serves_zero}
@@ -168,23 +168,26 @@ is_lesson s p ls learned c back found rs names hints r deep asserting refuted hi
     }
 
 -- What the search is once the line is written.
-pub runs_learned : (m n : Search) (p : Input) (ls : List LogLine) (l : LogLine)
+pub runs_learned : (m n : Search) (p : Input) (ls now : List LogLine) (l : LogLine)
     (T : List Assigned) (back : ℕ)
     → IsRunning m.engine (m.store).slots p.stack (tables_of m) (p.frozen).items p.first
     p.given ls
     → HasRoom m
     → All (λ x. x ≤ m.additions + 1) (m.stamps).items → IsAsserting T l.clause back
     → (m.engine).trail ≡ kept_to back T → AddsByHints p.given ls l
-    → Stores m n (Added (m.additions + 1)) l.clause → n.additions ≡ m.additions + 1
-    → n.additions < 2 ^ 61 → Runs n p (ls ++ l ∷ [])
-runs_learned m n p ls l T back run room past w trail adds stored more few =
+    → AddsLine m n ls now l → Runs n p now
+runs_learned m n p ls now l T back run room past w trail adds added =
+    let stored = added.stored in
+    let more = added.additions in
+    let few = added.few in
     let slots = (m.store).slots in
     let low : depth_of (m.engine).trail ≤ back =
     subst (λ X. depth_of X ≤ back) (sym trail) (kept_low back T) in
     let ran = run_learn m.engine n.engine slots p.stack (tables_of m) (p.frozen).items p.first
     p.given ls l T back run w (back_low T l.clause back w) trail low adds (omega arith)
     stored.attached (stored.trail, stored.variables) stored.works stored.fits in
-    record {
+    subst (Runs n p) (sym added.lines)
+    (record {
       running = running_same n.engine n.engine (slots ++ Some l.clause ∷ []) (n.store).slots p.stack
           (with_addition (tables_of m) (m.units).items m.noted) (tables_of n)
           (p.frozen).items p.first
@@ -197,4 +200,4 @@ runs_learned m n p ls l T back run room past w trail adds stored more few =
       past = subst (λ x. All (λ y. y ≤ n.additions) x.items) (sym stored.stamps)
           (subst (λ x. All (λ y. y ≤ x) (m.stamps).items) (sym more) past);
       few = few;
-    }
+    })

@@ -28,7 +28,7 @@ use Rattle.cdcl_search.specs.Invariant.{HasUnit, NotesUnits, NamesStore, zero_of
 use Rattle.lrat_log.specs.declared.lines.Name.TheVariants.{Added}
 use Rattle.cdcl_search.specs.declared.search.Search.{Search}
 use Rattle.cdcl_search.specs.declared.input.Input.{Input}
-use Rattle.cdcl_search.specs.Running.{HasRoom, Stores, Runs, tables_of}
+use Rattle.cdcl_search.specs.Running.{AddsLine, HasRoom, Runs, tables_of}
 use Rattle.cdcl_search.proofs.LogLines.{AddsByHints}
 use Rattle.cdcl_search.proofs.Moves.{with_addition}
 use Rattle.cdcl_search.proofs.MoreMoves.{run_note}
@@ -182,18 +182,19 @@ pub record NotesOne (n u : Search) (v r : ℕ) : Type 0 where
   pub policy : u.policy ≡ n.policy
   pub analyzer : u.analyzer ≡ n.analyzer
 
-pub runs_noted : (m n u : Search) (p : Input) (ls : List LogLine) (hints : List Hint)
+pub runs_noted : (m n u : Search) (p : Input) (ls now : List LogLine) (hints : List Hint)
     (k : Literal) (v r : ℕ) → IsRunning m.engine (m.store).slots p.stack (tables_of m)
     (p.frozen).items p.first p.given ls → HasRoom m
     → All (λ x. x ≤ m.additions + 1) (m.stamps).items
     → depth_of (m.engine).trail ≡ 0 → m.noted < length (m.engine).trail
     → k ≡ get_or (literals_of (m.engine).trail) m.noted k
     → AddsByHints p.given ls (record { kind = UnitKind; clause = k ∷ []; hints = hints })
-    → Stores m n (Added (m.additions + 1)) (k ∷ []) → n.additions ≡ m.additions + 1
-    → n.additions < 2 ^ 61
-    → v ≡ k.variable - 1 → r ≡ length (m.store).slots → NotesOne n u v r
-    → Runs u p (ls ++ record { kind = UnitKind; clause = k ∷ []; hints = hints } ∷ [])
-runs_noted m n u p ls hints k v r run room past flat left at adds w more few vis ris d =
+    → AddsLine m n ls now (record { kind = UnitKind; clause = k ∷ []; hints = hints })
+    → v ≡ k.variable - 1 → r ≡ length (m.store).slots → NotesOne n u v r → Runs u p now
+runs_noted m n u p ls now hints k v r run room past flat left at adds added vis ris d =
+    let w = added.stored in
+    let more = added.additions in
+    let few = added.few in
     let e = m.engine in
     let slots = (m.store).slots in
     let T = e.trail in
@@ -223,7 +224,8 @@ runs_noted m n u p ls hints k v r run room past flat left at adds w more few vis
       w.variables,
     ) w.works w.fits in
     let stored = room_stored m n (Added (m.additions + 1)) (k ∷ []) room w in
-    record {
+    subst (Runs u p) (sym added.lines)
+    (record {
       running = running_same n.engine u.engine (slots ++ Some (k ∷ []) ∷ []) (u.store).slots p.stack
           (with_addition (tables_of m) (set (m.units).items (k.variable - 1) (Some (length slots)))
           (m.noted + 1)) (tables_of u) (p.frozen).items p.first p.given (ls ++ l ∷ [])
@@ -251,4 +253,4 @@ runs_noted m n u p ls hints k v r run room past flat left at adds w more few vis
           subst (λ x. All (λ y. y ≤ u.additions) x.items) (sym (d.stamps ∙ w.stamps))
           (subst (λ x. All (λ y. y ≤ x) (m.stamps).items) (sym (d.additions ∙ more)) past);
       few = subst (λ x. x < 2 ^ 61) (sym d.additions) few;
-    }
+    })

@@ -1,19 +1,22 @@
 -- What holds of a search between its moves, and what moves do.
-use Rattle.std.specs.Prelude.{◌≡◌, ℕ, ◌<◌, ◌≤◌, Bool, true, false, List, [], ◌∷◌, ◌++◌, length}
+use Rattle.std.specs.Prelude.{◌≡◌, ℕ, ◌+◌, ◌<◌, ◌≤◌, Bool, true, false, List, [], ◌∷◌, ◌++◌, length}
 use Rattle.std.specs.Prelude.{take, map, Some, All}
 use Rattle.cnf.specs.Literal.{Literal}
 use Rattle.cnf.specs.Formula.{IsFormulaClause}
 use Rattle.cnf.specs.declared.limits.TheConstants.{VARIABLE_LIMIT, FORMULA_VARIABLE_LIMIT}
+use Rattle.propagate.specs.Trail.{Assigned, literals_of}
 use Rattle.propagate.specs.Watches.{SetsAttached}
-use Rattle.propagate.specs.Fits.{Fits}
+use Rattle.propagate.specs.Fits.{Fits, IsWithin}
+use Rattle.analyze.specs.Analyzer.{IsQuiet}
 use Rattle.lrat_log.specs.declared.lines.Name.{Name}
+use Rattle.lrat_log.specs.declared.lines.Name.TheVariants.{Added}
 use Rattle.lrat_log.specs.declared.log.TheConstants.{LINE_LIMIT}
 use Rattle.lrat_log.specs.Log.{LogLine, Given}
 use Rattle.lrat_log.specs.Steps.{StaysLogOver, AddsNoEmptyClause, IsBaseOf, given_of, learned_count}
 use Rattle.lrat_log.specs.Steps.{IsLearnedOrShort, LearnsNew, nothing_exempt, adds_empty_clause}
 use Rattle.cdcl_search.specs.declared.input.Input.{Input}
 use Rattle.cdcl_search.specs.declared.search.Search.{Search}
-use Rattle.cdcl_search.specs.Invariant.{Tables, Searches, IsRunning}
+use Rattle.cdcl_search.specs.Invariant.{Tables, Searches, IsRunning, zero_of}
 use Rattle.std.specs.List.{list_any}
 
 -- The state of a search.
@@ -40,6 +43,18 @@ pub record IsReady (s : Search) : Type 0 where
   pub searches : Searches s.engine (s.store).slots
   pub room : HasRoom s
   pub named : length (s.names).items ≡ length (s.store).slots
+
+-- what it takes to attach a clause
+pub record CanAttach (s : Search) (c : List Literal) : Type 0 where
+  pub ready : IsReady s
+  pub within : IsWithin (s.engine).variables c
+
+-- what a decision asks for: no clause is false or unit, and each literal of level 0 has a clause of
+-- its own
+pub record CanDecide (s : Search) : Type 0 where
+  pub ready : IsReady s
+  pub quiet : IsQuiet (s.store).slots (literals_of (s.engine).trail)
+  pub noted : length (zero_of (s.engine).trail) ≤ s.noted
 
 -- it goes on over the clauses given, with these lines written
 pub record Runs (s : Search) (p : Input) (ls : List LogLine) : Type 0 where
@@ -72,6 +87,13 @@ pub record EngineMoves (old new : Search) : Type 0 where
   pub variables : (new.engine).variables ≡ (old.engine).variables
   pub rest : new ≡ record old { engine = new.engine }
 
+-- the engine moved alone, to this trail: the search goes on, and any move may be next
+pub record MovesTo (old new : Search) (T : List Assigned) : Type 0 where
+  pub runs : KeepsRunning old new
+  pub ready : IsReady new
+  pub trail : (new.engine).trail ≡ T
+  pub engine : EngineMoves old new
+
 -- a clause came under a name, the last of the store
 pub record Stores (old new : Search) (n : Name) (c : List Literal) : Type 0 where
   pub slots : (new.store).slots ≡ (old.store).slots ++ Some c ∷ []
@@ -89,6 +111,13 @@ pub record Stores (old new : Search) (n : Name) (c : List Literal) : Type 0 wher
   pub analyzer : new.analyzer ≡ old.analyzer
 
 -- The log.
+
+-- a clause that follows was added, and its line was written last
+pub record AddsLine (old new : Search) (before after : List LogLine) (l : LogLine) : Type 0 where
+  pub stored : Stores old new (Added (old.additions + 1)) l.clause
+  pub additions : new.additions ≡ old.additions + 1
+  pub few : new.additions < LINE_LIMIT
+  pub lines : after ≡ before ++ l ∷ []
 
 -- what was written between two moments: the lines after `before`, of which so many were learned
 pub record Writes (given : Given) (before after : List LogLine) (learned : ℕ) : Type 0 where

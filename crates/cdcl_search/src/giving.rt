@@ -1,9 +1,8 @@
 // Clauses that come after the formula.
 ghost use Rattle.std.specs.Prelude.{◌≡◌, ◌<◌, false, All, OnOk, OnErr};
 ghost use Rattle.cnf.specs.declared.limits.TheConstants.{NUMBER_LIMIT};
-ghost use Rattle.propagate.specs.Fits.{IsWithin};
 ghost use Rattle.lrat_log.specs.declared.lines.Name.TheVariants.{Formula};
-ghost use Rattle.cdcl_search.specs.Running.{IsReady};
+ghost use Rattle.cdcl_search.specs.Running.{CanAttach};
 ghost use Rattle.cdcl_search.specs.Giving.{TakesClause, Takes, GivesOne};
 
 use crate::input::Input;
@@ -15,8 +14,7 @@ use std::alloc::AllocError;
 /// Searches on with one clause more, from level 0.
 fn take_clause(search: &mut Search, number: u64, lits: &[Lit]) -> Result<(), AllocError>
     requires number { (0 < number) × (number < NUMBER_LIMIT) }
-    requires ready { IsReady search.old }
-    requires within { IsWithin search.old.engine.variables lits.now }
+    requires can { CanAttach search.old lits.now }
     ensures { OnOk result (TakesClause search.old search.new (Formula number) lits.now) }
 {
     search.backtrack(0);
@@ -43,8 +41,7 @@ pub fn give(
     lits: &[Lit],
 ) -> Result<(), AllocError>
     requires number { (0 < number) × (number < NUMBER_LIMIT) }
-    requires ready { refuted ≡ false → IsReady search.old }
-    requires within { refuted ≡ false → IsWithin search.old.engine.variables lits.now }
+    requires can { refuted ≡ false → CanAttach search.old lits.now }
     ensures takes { OnOk result (refuted ≡ false
         → Takes search.old search.new input.old input.new (Formula number) lits.now) }
     ensures given { OnOk result (GivesOne input.old input.new (Formula number) lits.now) }

@@ -6,8 +6,7 @@ ghost use Rattle.propagate.specs.Watches.{is_attached, IsBare};
 ghost use Rattle.propagate.specs.Fits.{IsFalseClause, IsWithin, GrowsByUnits};
 ghost use Rattle.analyze.specs.Analyzer.{IsQuiet};
 ghost use Rattle.cdcl_order.specs.Orders.{IsOpenVariable, AreClosed};
-ghost use Rattle.cdcl_search.specs.Invariant.{zero_of};
-ghost use Rattle.cdcl_search.specs.Running.{EngineMoves, IsReady, KeepsRunning};
+ghost use Rattle.cdcl_search.specs.Running.{CanDecide, EngineMoves, IsReady, KeepsRunning, MovesTo};
 ghost use Rattle.cdcl_search.specs.Moves.{KeepsState};
 
 use crate::subsets::Subsets;
@@ -114,11 +113,8 @@ impl Search {
     pub(crate) fn backtrack(&mut self, level: u32)
         requires ready { IsReady self.old }
         requires level { level ≤ depth_of self.old.engine.trail }
-        ensures runs { KeepsRunning self.old self.new }
         ensures state { KeepsState self.old self.new }
-        ensures ready { IsReady self.new }
-        ensures trail { self.new.engine.trail ≡ kept_to level self.old.engine.trail }
-        ensures engine { EngineMoves self.old self.new }
+        ensures moves { MovesTo self.old self.new (kept_to level self.old.engine.trail) }
     {
         put_back(&mut self.policy, &self.engine, level);
         self.engine.backtrack(level);
@@ -142,10 +138,7 @@ impl Search {
     /// back to level 0, since each value that is undone is tried first from then on.
     pub fn suggest(&mut self, values: &[bool])
         requires { IsReady self.old }
-        ensures runs { KeepsRunning self.old self.new }
-        ensures ready { IsReady self.new }
-        ensures trail { self.new.engine.trail ≡ kept_to 0 self.old.engine.trail }
-        ensures engine { EngineMoves self.old self.new }
+        ensures { MovesTo self.old self.new (kept_to 0 self.old.engine.trail) }
     {
         self.backtrack(0);
         self.policy.suggest(values);
@@ -188,9 +181,7 @@ impl Search {
 
     /// Decides a variable without a value; it answers whether there was one.
     pub fn branch(&mut self) -> bool
-        requires ready { IsReady self.old }
-        requires quiet { IsQuiet self.old.store.slots (literals_of self.old.engine.trail) }
-        requires noted { length (zero_of self.old.engine.trail) ≤ self.old.noted }
+        requires { CanDecide self.old }
         ensures runs { KeepsRunning self.old self.new }
         ensures longer { result ≡ true
             → length self.new.engine.trail ≡ length self.old.engine.trail + 1 }
@@ -213,18 +204,13 @@ impl Search {
 
     /// Opens a level with the literal.
     pub fn decide(&mut self, lit: Lit)
-        requires ready { IsReady self.old }
+        requires can { CanDecide self.old }
         requires open { IsOpenVariable self.old.engine.trail self.old.engine.variables
             lit.variable }
-        requires quiet { IsQuiet self.old.store.slots (literals_of self.old.engine.trail) }
-        requires noted { length (zero_of self.old.engine.trail) ≤ self.old.noted }
-        ensures runs { KeepsRunning self.old self.new }
-        ensures ready { IsReady self.new }
-        ensures trail { self.new.engine.trail ≡ self.old.engine.trail ++ record {
+        ensures { MovesTo self.old self.new (self.old.engine.trail ++ record {
           literal = lit;
           reason = None;
-        } ∷ [] }
-        ensures engine { EngineMoves self.old self.new }
+        } ∷ []) }
     {
         self.engine.decide(lit);
     }

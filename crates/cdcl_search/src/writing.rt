@@ -1,13 +1,11 @@
 // Clauses come to the store, the engine and the log together.
-ghost use Rattle.std.specs.Prelude.{◌≡◌, ◌+◌, ◌<◌, false, All, [], ◌∷◌, ◌++◌, length, IfOk};
+ghost use Rattle.std.specs.Prelude.{◌≡◌, ◌<◌, false, All, length, IfOk};
 ghost use Rattle.std.specs.Prelude.{OnOk, OnErr};
 ghost use Rattle.lrat_log.specs.declared.log.TheConstants.{LINE_LIMIT};
 ghost use Rattle.cnf.specs.Lrat.{IsId};
-ghost use Rattle.propagate.specs.Fits.{IsWithin};
-ghost use Rattle.lrat_log.specs.declared.lines.Name.TheVariants.{Added};
 ghost use Rattle.lrat_log.specs.Log.{is_delete, name_of, number_in};
 ghost use Rattle.lrat_log.specs.Steps.{added_count};
-ghost use Rattle.cdcl_search.specs.Running.{IsReady, Stores};
+ghost use Rattle.cdcl_search.specs.Running.{AddsLine, CanAttach, Stores};
 
 use crate::search::Search;
 use clauses::store::CRef;
@@ -20,8 +18,7 @@ use std::alloc::AllocError;
 impl Search {
     /// Adds a clause to the store under a name, and attaches it.
     pub(crate) fn attach_clause(&mut self, name: Name, lits: &[Lit]) -> Result<CRef, AllocError>
-        requires ready { IsReady self.old }
-        requires within { IsWithin self.old.engine.variables lits.now }
+        requires { CanAttach self.old lits.now }
         ensures stored { OnOk result (Stores self.old self.new name lits.now) }
         ensures additions { self.new.additions ≡ self.old.additions }
         ensures reference { IfOk result (λ r. r ≡ length self.old.store.slots) }
@@ -43,22 +40,18 @@ impl Search {
         lits: &[Lit],
         hints: &[Hint],
     ) -> Result<CRef, AllocError>
-        requires ready { IsReady self.old }
-        requires within { IsWithin self.old.engine.variables lits.now }
+        requires can { CanAttach self.old lits.now }
         requires adds { is_delete kind ≡ false }
         requires hints { All (λ h. IsId (number_in (name_of h))) hints.now }
         requires counted { self.old.additions ≡ added_count (S.lines sink.old) }
         requires few { self.old.additions < LINE_LIMIT }
-        ensures stored { OnOk result
-            (Stores self.old self.new (Added (self.old.additions + 1)) lits.now) }
-        ensures additions { OnOk result (self.new.additions ≡ self.old.additions + 1) }
-        ensures few { OnOk result (self.new.additions < LINE_LIMIT) }
+        ensures added { OnOk result (AddsLine self.old self.new (S.lines sink.old)
+            (S.lines sink.new) record {
+              kind = kind;
+              clause = lits.now;
+              hints = hints.now;
+            }) }
         ensures reference { IfOk result (λ r. r ≡ length self.old.store.slots) }
-        ensures lines { OnOk result (S.lines sink.new ≡ S.lines sink.old ++ record {
-          kind = kind;
-          clause = lits.now;
-          hints = hints.now;
-        } ∷ []) }
         ensures err { OnErr result (S.lines sink.new ≡ S.lines sink.old) }
     {
         let name = Name::Added(Number::new(self.additions + 1));

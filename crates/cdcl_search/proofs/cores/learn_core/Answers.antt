@@ -1,4 +1,4 @@
-use Rattle.std.proofs.Common.{◌≡◌, ◌+◌, ◌≤◌, true, [], ◌∷◌, ◌++◌, refl, sym, ◌∙◌, ap, subst}
+use Rattle.std.proofs.Common.{◌≡◌, ◌+◌, ◌≤◌, true, refl, sym, ◌∙◌, ap, subst}
 use Rattle.std.proofs.Common.{arith}
 use Rattle.std.specs.Prelude.{All}
 use Rattle.propagate.specs.Trail.{depth_of, kept_to}
@@ -10,7 +10,7 @@ use Rattle.lrat_log.specs.declared.lines.Kind.TheVariants.{Learned}
 use Rattle.lrat_log.specs.Log.{LogLine}
 use Rattle.cdcl_search.specs.declared.search.Search.{Search}
 use Rattle.cdcl_search.specs.Invariant.{IsRunning}
-use Rattle.cdcl_search.specs.Running.{Runs, Writes, tables_of}
+use Rattle.cdcl_search.specs.Running.{Writes, tables_of}
 use Rattle.cdcl_search.proofs.HintNames.{hint_ids}
 use Rattle.cdcl_search.proofs.Written.{writes_learned}
 use Rattle.cdcl_search.proofs.Lessons.{refutes_live, live_attached}
@@ -34,18 +34,22 @@ hints_of-requires-clause-noted g c =
     zero_noted s.store.slots s.engine.trail s.units.items s.noted c.as_slice.result.now
     c.requires.runs.running.units c.requires.noted
 
-pub add_line-requires-clause-within : goal.add_line-requires-clause-within
-add_line-requires-clause-within g c =
+pub add_line-requires-clause-can : goal.add_line-requires-clause-can
+add_line-requires-clause-can g c =
     let s = c.args.search.now in
     let k = c.requires.lesson in
     let within =
     core_within s.engine s.store.slots k.literal k.reason c.args.clause.now
     c.requires.runs.running.searches.fits k.falsified k.small k.final in
     let same : c.backtrack.new.self.engine.variables ≡ s.engine.variables =
-    c.backtrack.ensures.engine.variables
+    c.backtrack.ensures.moves.engine.variables
     ∙ ap (λ (x : Search). (x.engine).variables) c.hints_of.ensures.only_stamps in
-    subst (λ n. IsWithin n c.as_slice-lits.result.now) (sym same)
-    (subst (IsWithin s.engine.variables) (sym c.as_slice-lits.ensures) within)
+    record {
+      ready = c.backtrack.ensures.moves.ready;
+      within =
+          subst (λ n. IsWithin n c.as_slice-lits.result.now) (sym same)
+          (subst (IsWithin s.engine.variables) (sym c.as_slice-lits.ensures) within);
+    }
 
 pub add_line-requires-clause-hints : goal.add_line-requires-clause-hints
 add_line-requires-clause-hints g c =
@@ -86,28 +90,27 @@ returns-clause-learns g c =
     let moved = c.backtrack.ensures.state p ls stamped in
     let low = kept_low 0 c.hints_of.new.self.engine.trail in
     let none : depth_of (kept_to 0 c.hints_of.new.self.engine.trail) ≡ 0 = omega arith in
-    let flat : depth_of m.engine.trail ≡ 0 = ap depth_of c.backtrack.ensures.trail ∙ none in
+    let flat : depth_of m.engine.trail ≡ 0 = ap depth_of c.backtrack.ensures.moves.trail ∙ none in
     let stamps : m.stamps.items ≡ c.hints_of.new.self.stamps.items =
-    ap (λ (x : Search). (x.stamps).items) c.backtrack.ensures.engine.rest in
+    ap (λ (x : Search). (x.stamps).items) c.backtrack.ensures.moves.engine.rest in
     let additions : m.additions ≡ s.additions =
-    ap (λ (x : Search). x.additions) c.backtrack.ensures.engine.rest
+    ap (λ (x : Search). x.additions) c.backtrack.ensures.moves.engine.rest
     ∙ ap (λ (x : Search). x.additions) c.hints_of.ensures.only_stamps in
     let past : All (λ x. x ≤ m.additions + 1) m.stamps.items =
     subst (λ j. All (λ x. x ≤ j + 1) m.stamps.items) (sym additions)
     (subst (All (λ x. x ≤ s.additions + 1)) (sym stamps) c.hints_of.ensures.past) in
-    let on : Runs n p (ls ++ l ∷ []) =
-    runs_core m n p ls l _ k.final.others moved c.backtrack.ensures.ready.room past flat
-    (c.as_slice-lits.ensures ∙ k.final.split) adds c.in_ok-reference.ensures.stored
-    c.in_ok-reference.ensures.additions c.in_ok-reference.ensures.few in
-    let written : Runs n p (g.S.Sink.lines c.add_line.new.sink) =
-    subst (Runs n p) (sym c.in_ok-reference.ensures.lines) on in
+    let added = c.in_ok-reference.ensures.added in
+    let written =
+    runs_core m n p ls (g.S.Sink.lines c.add_line.new.sink) l _ k.final.others moved
+    c.backtrack.ensures.moves.ready.room past flat (c.as_slice-lits.ensures ∙ k.final.split) adds
+    added in
     record {
       runs = runs_chosen n c.note_learned.new.self p _
           (ap (λ x. x.variables) c.note_learned.ensures.same_view) written;
       writes =
-          subst (λ x. Writes p.given ls x 1) (sym c.in_ok-reference.ensures.lines)
+          subst (λ x. Writes p.given ls x 1) (sym added.lines)
           (writes_learned p.given ls l refl adds
           (core_new s p ls c.args.clause.now lits c.requires.runs k c.as_slice-lits.ensures));
       has = core_has m.store.slots n.store.slots lits c.args.clause.now.lits.items
-          c.in_ok-reference.ensures.stored.slots c.as_slice-lits.ensures;
+          added.stored.slots c.as_slice-lits.ensures;
     }

@@ -1,4 +1,4 @@
-use Rattle.std.proofs.Common.{◌≡◌, ◌+◌, ◌≤◌, true, [], ◌∷◌, ◌++◌, refl, sym, ◌∙◌, ap, subst, arith}
+use Rattle.std.proofs.Common.{◌≡◌, ◌+◌, ◌≤◌, true, refl, sym, ◌∙◌, ap, subst, arith}
 use Rattle.std.specs.Prelude.{All}
 use Rattle.propagate.specs.Trail.{depth_of, kept_to}
 use Rattle.propagate.specs.Watches.{is_attached}
@@ -8,7 +8,7 @@ use Rattle.lrat_log.specs.declared.lines.Kind.TheVariants.{Learned}
 use Rattle.lrat_log.specs.Log.{LogLine}
 use Rattle.cdcl_search.specs.declared.search.Search.{Search}
 use Rattle.cdcl_search.specs.Invariant.{IsRunning}
-use Rattle.cdcl_search.specs.Running.{Runs, Writes, tables_of}
+use Rattle.cdcl_search.specs.Running.{Writes, tables_of}
 use Rattle.cdcl_search.proofs.HintNames.{hint_ids}
 use Rattle.cdcl_search.proofs.Written.{writes_learned}
 use Rattle.cdcl_search.proofs.MoreMoves.{learn_is_new}
@@ -67,19 +67,23 @@ backtrack-requires-clause-level g c =
     c.in_ok-learned.ensures.asserting in
     omega arith
 
-pub add_line-requires-clause-within : goal.add_line-requires-clause-within
-add_line-requires-clause-within g c =
+pub add_line-requires-clause-can : goal.add_line-requires-clause-can
+add_line-requires-clause-can g c =
     let s = c.args.search.now in
     let learned = c.in_ok-learned.learned in
     let within =
     asserting_within s.engine s.store.slots learned.lits.items learned.back_level
     c.requires.runs.running.searches.fits c.in_ok-learned.ensures.asserting in
     let same : c.backtrack.new.self.engine.variables ≡ s.engine.variables =
-    c.backtrack.ensures.engine.variables
+    c.backtrack.ensures.moves.engine.variables
     ∙ ap (λ (x : Search). (x.engine).variables) c.learn_from-lbd.ensures.only_policy
     ∙ ap (λ (x : Search). (x.engine).variables) c.hints_of.ensures.only_stamps in
-    subst (λ n. IsWithin n c.as_slice-2.result.now) (sym same)
-    (subst (IsWithin s.engine.variables) (sym c.as_slice-2.ensures) within)
+    record {
+      ready = c.backtrack.ensures.moves.ready;
+      within =
+          subst (λ n. IsWithin n c.as_slice-2.result.now) (sym same)
+          (subst (IsWithin s.engine.variables) (sym c.as_slice-2.ensures) within);
+    }
 
 pub add_line-requires-clause-hints : goal.add_line-requires-clause-hints
 add_line-requires-clause-hints g c =
@@ -123,37 +127,35 @@ returns-clause-learns g c =
     subst goes (sym c.learn_from-lbd.ensures.only_policy)
     (subst goes (sym c.hints_of.ensures.only_stamps) c.requires.runs.running) in
     let moved = c.backtrack.ensures.state p ls bumped in
-    let trail : m.engine.trail ≡ kept_to learned.back_level T = c.backtrack.ensures.trail
+    let trail : m.engine.trail ≡ kept_to learned.back_level T = c.backtrack.ensures.moves.trail
     ∙ ap (λ (x : Search). kept_to learned.back_level (x.engine).trail)
     c.learn_from-lbd.ensures.only_policy
     ∙ ap (λ (x : Search). kept_to learned.back_level (x.engine).trail)
     c.hints_of.ensures.only_stamps in
     let stamps : m.stamps.items ≡ c.hints_of.new.self.stamps.items =
-    ap (λ (x : Search). (x.stamps).items) c.backtrack.ensures.engine.rest
+    ap (λ (x : Search). (x.stamps).items) c.backtrack.ensures.moves.engine.rest
     ∙ ap (λ (x : Search). (x.stamps).items) c.learn_from-lbd.ensures.only_policy in
     let additions : m.additions ≡ s.additions =
-    ap (λ (x : Search). x.additions) c.backtrack.ensures.engine.rest
+    ap (λ (x : Search). x.additions) c.backtrack.ensures.moves.engine.rest
     ∙ ap (λ (x : Search). x.additions) c.learn_from-lbd.ensures.only_policy
     ∙ ap (λ (x : Search). x.additions) c.hints_of.ensures.only_stamps in
     let past : All (λ x. x ≤ m.additions + 1) m.stamps.items =
     subst (λ k. All (λ x. x ≤ k + 1) m.stamps.items) (sym additions)
     (subst (All (λ x. x ≤ s.additions + 1)) (sym stamps) c.hints_of.ensures.past) in
-    let on : Runs n p (ls ++ l ∷ []) =
-    runs_learned m n p ls l T learned.back_level moved c.backtrack.ensures.ready.room past
-    lesson.asserting trail lesson.adds c.in_ok-reference.ensures.stored
-    c.in_ok-reference.ensures.additions c.in_ok-reference.ensures.few in
-    let written : Runs n p (g.S.Sink.lines c.add_line.new.sink) =
-    subst (Runs n p) (sym c.in_ok-reference.ensures.lines) on in
+    let added = c.in_ok-reference.ensures.added in
+    let written =
+    runs_learned m n p ls (g.S.Sink.lines c.add_line.new.sink) l T learned.back_level moved
+    c.backtrack.ensures.moves.ready.room past lesson.asserting trail lesson.adds added in
     let run = c.requires.runs.running in
-    let same : m.engine.variables ≡ s.engine.variables = c.backtrack.ensures.engine.variables
+    let same : m.engine.variables ≡ s.engine.variables = c.backtrack.ensures.moves.engine.variables
     ∙ ap (λ (x : Search). (x.engine).variables) c.learn_from-lbd.ensures.only_policy
     ∙ ap (λ (x : Search). (x.engine).variables) c.hints_of.ensures.only_stamps in
     record {
       runs = runs_chosen n c.note_learned.new.self p _
           (ap (λ x. x.variables) c.note_learned.ensures.same_view) written;
-      variables = c.in_ok-reference.ensures.stored.variables ∙ same;
+      variables = added.stored.variables ∙ same;
       writes =
-          subst (λ x. Writes p.given ls x 1) (sym c.in_ok-reference.ensures.lines)
+          subst (λ x. Writes p.given ls x 1) (sym added.lines)
           (writes_learned p.given ls l refl lesson.adds
           (λ base above. learn_is_new s.engine s.store.slots s.names.items p.given ls l
           learned.back_level run.searches run.recorded.names lesson.asserting c.requires.deep

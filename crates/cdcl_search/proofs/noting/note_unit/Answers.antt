@@ -8,14 +8,13 @@ use Rattle.clauses.specs.Slots.{clause_at}
 use Rattle.propagate.specs.Trail.{Assigned, literals_of, reason_in}
 use Rattle.propagate.specs.Watches.{is_attached, IsVariable}
 use Rattle.cdcl_search.specs.declared.search.Search.{Search}
-use Rattle.cdcl_search.specs.Running.{Runs, HasRoom, Stores, Writes}
+use Rattle.cdcl_search.specs.Running.{HasRoom, AddsLine, Writes}
 use Rattle.cdcl_search.proofs.HintNames.{hint_ids}
 use Rattle.cdcl_search.proofs.Placing.{literal_small}
 use Rattle.cdcl_search.proofs.UnitLines.{flat_reason, IsNext, is_next, next_noted, adds_unit}
 use Rattle.cdcl_search.proofs.UnitLines.{runs_noted}
 use Rattle.analyze.proofs.Laws.{reason_at}
 use Rattle.std.proofs.lemmas.List.{get_or-map, get_or_default, length-map}
-use Rattle.lrat_log.specs.declared.lines.Name.TheVariants.{Added}
 use Rattle.lrat_log.specs.declared.lines.Kind.TheVariants.{Unit as UnitKind}
 use Rattle.lrat_log.specs.Log.{LogLine}
 use Rattle.cdcl_order.specs.Orders.{positive}
@@ -86,16 +85,20 @@ hints_of-requires-clause-noted g c =
     s.noted c.requires.runs.running.searches.fits.reasons c.requires.flat n
     c.requires.runs.running.units
 
-pub add_line-requires-clause-within : goal.add_line-requires-clause-within
-add_line-requires-clause-within g c =
+pub add_line-requires-clause-can : goal.add_line-requires-clause-can
+add_line-requires-clause-can g c =
     let s = c.args.search.now in
-    let small = named g (goal.at.add_line-requires-clause-within g c).After-index-trail-search in
+    let small = named g (goal.at.add_line-requires-clause-can g c).After-index-trail-search in
     let kept : (c.hints_of.new.self.engine).variables ≡ (s.engine).variables =
-    ap (λ (x : Search). (x.engine).variables) c.hints_of.ensures.only_stamps in (
-      All-cons (λ (l : Literal). 0 < l.variable) c.index-trail-search.result [] small.0
-          (All-nil (λ (l : Literal). 0 < l.variable)),
-      (let h = small.1 in omega (arith, kept)),
-    )
+    ap (λ (x : Search). (x.engine).variables) c.hints_of.ensures.only_stamps in
+    record {
+      ready = c.hints_of.ensures.ready;
+      within = (
+        All-cons (λ (l : Literal). 0 < l.variable) c.index-trail-search.result [] small.0
+            (All-nil (λ (l : Literal). 0 < l.variable)),
+        (let h = small.1 in omega (arith, kept)),
+      );
+    }
 
 pub add_line-requires-clause-hints : goal.add_line-requires-clause-hints
 add_line-requires-clause-hints g c =
@@ -112,7 +115,7 @@ index_mut-requires g c =
     let s = c.args.search.now in
     let small = named g (goal.at.index_mut-requires g c).After-index-trail-search in
     let same : length (c.add_line.new.self.units).items ≡ length (s.units).items =
-    ap (λ v. length v.items) c.in_ok-unit.ensures.stored.units
+    ap (λ v. length v.items) c.in_ok-unit.ensures.added.stored.units
     ∙ ap (λ (x : Search). length (x.units).items) c.hints_of.ensures.only_stamps in
     let room = c.requires.runs.room.units in
     let v = c.variable.ensures.variable in
@@ -143,25 +146,23 @@ returns-clause-notes g c =
     let only : c.hints_of.new.self ≡ stamped = c.hints_of.ensures.only_stamps in
     let room : HasRoom stamped = subst HasRoom only c.hints_of.ensures.ready.room in
     let A : List Literal = literals_of T in
-    let stored : Stores stamped c.add_line.new.self (Added (s.additions + 1)) (k ∷ []) =
-    subst (λ (x : Search). Stores x c.add_line.new.self (Added (x.additions + 1)) (k ∷ [])) only
-    c.in_ok-unit.ensures.stored in
     let first : k ≡ get_or A s.noted (positive 0) =
     at ∙ get_or_default A s.noted k (positive 0)
     (let long : length A ≡ length T = length-map T (λ (x : Assigned). x.literal) in
     omega (arith, c.requires.next)) in
+    let ls = g.S.Sink.lines c.args.sink.now in
+    let now = g.S.Sink.lines c.add_line.new.sink in
     let l : LogLine =
     record { kind = UnitKind; clause = k ∷ []; hints = c.deref.result.now } in
+    let added : AddsLine stamped c.add_line.new.self ls now l =
+    subst (λ (x : Search). AddsLine x c.add_line.new.self ls now l) only
+    c.in_ok-unit.ensures.added in
+    let stored = added.stored in
     record {
       runs =
-          subst (Runs _ c.args.input.now) (sym c.in_ok-unit.ensures.lines)
-          (runs_noted stamped
-          c.add_line.new.self _ c.args.input.now (g.S.Sink.lines c.args.sink.now)
-          c.deref.result.now k (c.variable.result - 1) c.in_ok-unit.unit run room
-          c.hints_of.ensures.past
-          c.requires.flat c.requires.next at adds stored
-          (c.in_ok-unit.ensures.additions ∙ ap (λ (x : Search). x.additions + 1) only)
-          c.in_ok-unit.ensures.few
+          runs_noted stamped c.add_line.new.self _ c.args.input.now ls now c.deref.result.now k
+          (c.variable.result - 1) c.in_ok-unit.unit run room c.hints_of.ensures.past
+          c.requires.flat c.requires.next at adds added
           (ap (λ x. x - 1) c.variable.ensures.variable)
           (c.in_ok-unit.ensures.reference ∙ ap (λ (x : Search). length (x.store).slots) only)
           (record {
@@ -176,15 +177,13 @@ returns-clause-notes g c =
             stamps = refl;
             policy = refl;
             analyzer = refl;
-          }));
+          });
       noted = ap (λ n. n + 1) stored.noted;
       trail = stored.trail;
       variables = stored.variables;
       policy = stored.policy;
       slots = stored.slots ∙ ap (λ x. slots ++ Some (x ∷ []) ∷ []) first;
       writes =
-          subst (λ x. Writes c.args.input.now.given (g.S.Sink.lines c.args.sink.now) x 0)
-          (sym c.in_ok-unit.ensures.lines)
-          (writes_short c.args.input.now.given (g.S.Sink.lines c.args.sink.now) l refl
-          (omega arith));
+          subst (λ x. Writes c.args.input.now.given ls x 0) (sym added.lines)
+          (writes_short c.args.input.now.given ls l refl (omega arith));
     }

@@ -46,13 +46,21 @@ pub returns-then-self-clause-lines : goal.returns-then-self-clause-lines
 returns-then-self-clause-lines g c =
     seen_log g.S.Sink.lines c.self.invariant.input c.self.view_is c.self.invariant.lines
 
-pub give-requires-clause-within : goal.give-requires-clause-within
-give-requires-clause-within g c = λ u.
+pub give-requires-clause-can : goal.give-requires-clause-can
+give-requires-clause-can g c = λ u.
+    let runs = c.self.invariant.running c.if-self.false u in
     let fixed =
     subst (λ s. All (IsFrozen s.frozen) c.args.lits.now) (sym c.self.view_is) c.requires.frozen in
-    frozen_within c.self.inside.search c.self.inside.input (g.S.Sink.lines c.self.inside.sink)
-    c.args.lits.now c.self.invariant.input (c.self.invariant.running c.if-self.false u) fixed
-    c.ask_variables.ensures
+    record {
+      ready = record {
+        searches = runs.running.searches;
+        room = runs.room;
+        named = runs.running.recorded.names.as_many;
+      };
+      within = frozen_within c.self.inside.search c.self.inside.input
+          (g.S.Sink.lines c.self.inside.sink) c.args.lits.now c.self.invariant.input runs fixed
+          c.ask_variables.ensures;
+    }
 
 pub invariant_of-self : goal.invariant_of-self
 invariant_of-self g c = gives g (goal.at.invariant_of-self g c).In-Ok

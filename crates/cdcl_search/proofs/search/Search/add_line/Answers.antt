@@ -4,6 +4,6 @@ use Rattle.cdcl_search.proofs.search.Search.add_line.Goals as goal
 pub append-requires : goal.append-requires
 append-requires g c = record {
   line = adding_line c.args.kind c.args.lits.now c.args.hints.now
-      (c.args.self.now.engine).variables c.requires.adds c.requires.ready.room.few
-      c.requires.within c.requires.hints;
+      (c.args.self.now.engine).variables c.requires.adds c.requires.can.ready.room.few
+      c.requires.can.within c.requires.hints;
 }

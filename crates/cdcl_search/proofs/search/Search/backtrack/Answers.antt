@@ -2,10 +2,11 @@ use Rattle.std.proofs.Common.{◌≤◌, sym, ap, subst}
 use Rattle.std.specs.Prelude.{All}
 use Rattle.cnf.specs.Literal.{Literal}
 use Rattle.propagate.specs.Trail.{literals_of}
+use Rattle.cdcl_order.specs.Policies.{PolicyState}
 use Rattle.cdcl_search.specs.Running.{tables_of}
 use Rattle.cdcl_search.proofs.Moves.{run_backtrack}
 use Rattle.cdcl_search.proofs.Quiet.{searches_backtrack}
-use Rattle.cdcl_search.proofs.EngineMoves.{ready_moved, runs_moved, literals_within}
+use Rattle.cdcl_search.proofs.EngineMoves.{moved_to, ready_moved, runs_moved, literals_within}
 use Rattle.cdcl_search.proofs.search.Search.backtrack.Goals as goal
 
 pub put_back-requires-clause-within : goal.put_back-requires-clause-within
@@ -23,22 +24,25 @@ returns-clause-state c p ls r =
     p.first p.given ls c.args.level r c.requires.level b.trail b.attached b.frame
     (b.fits s.store.slots c.requires.ready.searches.fits)
 
-pub returns-clause-runs : goal.returns-clause-runs
-returns-clause-runs c p ls r =
+pub returns-clause-moves : goal.returns-clause-moves
+returns-clause-moves c =
     let s = c.args.self.now in
+    let f = c.backtrack.new.self in
+    let o = c.put_back.new.policy in
     let b = c.backtrack.ensures in
-    runs_moved s c.backtrack.new.self c.put_back.new.policy p ls r b.frame.0
-    (ap (λ o. o.variables) c.put_back.ensures.same_view)
-    (run_backtrack s.engine c.backtrack.new.self s.store.slots p.stack (tables_of s) p.frozen.items
-    p.first p.given ls c.args.level r.running c.requires.level b.trail b.attached b.frame
-    (b.fits s.store.slots c.requires.ready.searches.fits))
-
-pub returns-clause-ready : goal.returns-clause-ready
-returns-clause-ready c =
-    let s = c.args.self.now in
-    let b = c.backtrack.ensures in
-    ready_moved s c.backtrack.new.self c.put_back.new.policy c.requires.ready b.frame.0
-    (ap (λ o. o.variables) c.put_back.ensures.same_view)
-    (searches_backtrack s.store.slots s.engine c.backtrack.new.self c.args.level
-    c.requires.ready.searches c.requires.level b.trail b.attached b.frame.1
-    (b.fits s.store.slots c.requires.ready.searches.fits))
+    let same = c.put_back.ensures.same_view in
+    let many = ap (λ (x : PolicyState). x.variables) same in
+    let fits = b.fits s.store.slots c.requires.ready.searches.fits in
+    record {
+      runs = λ p ls r. runs_moved s f o p ls r b.frame.0 many
+          (run_backtrack s.engine f s.store.slots p.stack (tables_of s) p.frozen.items p.first
+          p.given ls c.args.level r.running c.requires.level b.trail b.attached b.frame fits);
+      ready = ready_moved s f o c.requires.ready b.frame.0 many
+          (searches_backtrack s.store.slots s.engine f c.args.level c.requires.ready.searches
+          c.requires.level b.trail b.attached b.frame.1 fits);
+      trail = b.trail;
+      engine = record {
+        variables = b.frame.0;
+        rest = ap (λ (x : PolicyState). moved_to s f x) same;
+      };
+    }

@@ -1,9 +1,12 @@
-use Rattle.std.proofs.Common.{ap}
-use Rattle.cdcl_search.proofs.EngineMoves.{runs_chosen}
+use Rattle.std.proofs.Common.{sym, subst}
+use Rattle.propagate.specs.Trail.{kept_to}
+use Rattle.cdcl_order.specs.Policies.{PolicyState}
+use Rattle.cdcl_search.specs.Running.{MovesTo}
 use Rattle.cdcl_search.proofs.search.Search.suggest.Goals as goal
 
-pub returns-clause-runs : goal.returns-clause-runs
-returns-clause-runs c p ls r =
-    runs_chosen c.backtrack.new.self c.suggest.new.self p ls
-    (ap (λ x. x.variables) c.suggest.ensures.same_view)
-    (c.backtrack.ensures.runs p ls r)
+pub returns : goal.returns
+returns c =
+    let s = c.args.self.now in
+    let m = c.backtrack.new.self in
+    subst (λ (x : PolicyState). MovesTo s (record m { policy = x }) (kept_to 0 s.engine.trail))
+    (sym c.suggest.ensures.same_view) c.backtrack.ensures.moves
