@@ -1,8 +1,7 @@
 // First unique implication point.
-ghost use Rattle.std.specs.Prelude.{◌≡◌, ◌+◌, ◌<◌, ◌≤◌, [], length, vec_capacity, All, IfOk};
+ghost use Rattle.std.specs.Prelude.{◌≡◌, ◌+◌, ◌<◌, ◌≤◌, length, All, IfOk};
 ghost use Rattle.std.specs.Prelude.{IfSome};
-ghost use Rattle.analyze.specs.Marks.{IsClear};
-ghost use Rattle.analyze.specs.Met.{HasMet, AreVariables};
+ghost use Rattle.analyze.specs.Met.{AreVariables, IsUnmarked, ListsMarked};
 ghost use Rattle.clauses.specs.Slots.{IsLive, clause_at};
 ghost use Rattle.propagate.specs.Trail.{depth_of};
 ghost use Rattle.propagate.specs.Fits.{Fits};
@@ -190,14 +189,9 @@ fn learn(
     minimiser: &mut Minimiser,
 ) -> Result<Learned, AllocError>
     requires can { CanLearn engine.now store.now.slots conflict }
-    requires room { engine.now.variables < length marking.old.marks.items }
-    requires clear { IsClear marking.old.marks.items }
-    requires none { marking.old.met.items ≡ [] }
-    requires spare { length marking.old.marks.items ≤ vec_capacity marking.old.met }
+    requires unmarked { IsUnmarked engine.now marking.old }
     ensures learns { IfOk result (Learns store.now.slots engine.now.trail conflict) }
-    ensures listed { HasMet engine.now.trail marking.new.marks.items marking.new.met.items }
-    ensures long { length marking.new.marks.items ≡ length marking.old.marks.items }
-    ensures spare { length marking.old.marks.items ≤ vec_capacity marking.new.met }
+    ensures lists { ListsMarked engine.now.trail marking.old marking.new }
     ensures beside { AreVariables marking.new.marks.items marking.new.list.items }
 {
     let count = mark_clause(engine, store.lits(conflict), marking);

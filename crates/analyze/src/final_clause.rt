@@ -4,11 +4,11 @@
 // is resolved by its reason, the last first, until decisions are left. What comes out is what a
 // conflict would teach on the trail on which the literal had been decided in place of its negation,
 // which its reason would then contradict.
-ghost use Rattle.std.specs.Prelude.{◌≡◌, ◌<◌, ◌≤◌, [], length, vec_capacity, IfOk};
+ghost use Rattle.std.specs.Prelude.{◌≤◌, IfOk};
 ghost use Rattle.propagate.specs.Fits.{Fits};
 ghost use Rattle.analyze.specs.Analyzer.{IsFalsified, IsFinal};
-ghost use Rattle.analyze.specs.Marks.{IsClear, IsBefore, ReducesBefore};
-ghost use Rattle.analyze.specs.Met.{HasMet, IsMarking};
+ghost use Rattle.analyze.specs.Marks.{IsBefore, ReducesBefore};
+ghost use Rattle.analyze.specs.Met.{IsMarking, IsUnmarked, ListsMarked};
 
 use crate::analyzer::FinalClause;
 use crate::collect::collect;
@@ -55,14 +55,9 @@ pub(crate) fn learn_final(
     requires fits { Fits engine.now store.now.slots }
     requires small { falsified.variable ≤ engine.now.variables }
     requires falsified { IsFalsified engine.now.trail falsified reason }
-    requires room { engine.now.variables < length marking.old.marks.items }
-    requires clear { IsClear marking.old.marks.items }
-    requires none { marking.old.met.items ≡ [] }
-    requires spare { length marking.old.marks.items ≤ vec_capacity marking.old.met }
+    requires unmarked { IsUnmarked engine.now marking.old }
     ensures learns { IfOk result (IsFinal store.now.slots engine.now.trail falsified reason) }
-    ensures listed { HasMet engine.now.trail marking.new.marks.items marking.new.met.items }
-    ensures long { length marking.new.marks.items ≡ length marking.old.marks.items }
-    ensures spare { length marking.old.marks.items ≤ vec_capacity marking.new.met }
+    ensures lists { ListsMarked engine.now.trail marking.old marking.new }
 {
     let _ = mark_clause(engine, store.lits(reason), marking);
     resolve_before(engine, store, falsified, marking);

@@ -10,9 +10,8 @@
 // were used. It takes what was found last first, as a variable is found redundant after those of
 // its reason.
 ghost use Rattle.std.specs.Prelude.{◌≡◌, ◌<◌, ◌≤◌, length};
-ghost use Rattle.propagate.specs.Fits.{Fits};
-ghost use Rattle.analyze.specs.Marks.{IsReduced, Reduces, HasMarks, FitsMarks};
-ghost use Rattle.analyze.specs.Met.{IsMarking, AreVariables};
+ghost use Rattle.analyze.specs.Marks.{HasMarks, FitsMarks};
+ghost use Rattle.analyze.specs.Met.{CanMinimise, LeavesOne, AreVariables};
 
 use crate::marks::{Mark, Marking, resolve_one};
 use crate::positions::put;
@@ -122,12 +121,8 @@ impl Minimiser {
         asserting: Lit,
         marking: &mut Marking,
     )
-        requires fits { Fits engine.now store.now.slots }
-        requires reduced { IsReduced engine.now.trail marking.old.marks.items asserting }
-        requires marking { IsMarking engine.now marking.old }
-        ensures reduces { Reduces store.now.slots engine.now.trail
-            marking.old.marks.items marking.new.marks.items asserting }
-        ensures marking { IsMarking engine.now marking.new }
+        requires { CanMinimise engine.now store.now.slots marking.old asserting }
+        ensures { LeavesOne engine.now store.now.slots marking.old marking.new asserting }
     {
         self.start(
             engine,
@@ -324,12 +319,8 @@ impl Minimiser {
         asserting: Lit,
         marking: &mut Marking,
     )
-        requires fits { Fits engine.now store.now.slots }
-        requires reduced { IsReduced engine.now.trail marking.old.marks.items asserting }
-        requires marking { IsMarking engine.now marking.old }
-        ensures reduces { Reduces store.now.slots engine.now.trail
-            marking.old.marks.items marking.new.marks.items asserting }
-        ensures marking { IsMarking engine.now marking.new }
+        requires { CanMinimise engine.now store.now.slots marking.old asserting }
+        ensures { LeavesOne engine.now store.now.slots marking.old marking.new asserting }
     {
         while let Some(settled) = self.settled.pop() {
             let variable = settled.min(engine.variables());

@@ -1,10 +1,11 @@
-use Rattle.std.proofs.Common.{arith, ◌≡◌, ◌≤◌, sym, ◌∙◌, ap, subst}
+use Rattle.std.proofs.Common.{rules, arith, ◌≡◌, ◌≤◌, sym, ◌∙◌, ap, subst}
 use Rattle.std.specs.Prelude.{All}
 use Rattle.cnf.specs.Literal.{Literal, negation}
 use Rattle.clauses.specs.Slots.{clause_at}
 use Rattle.propagate.specs.Trail.{literals_of}
 use Rattle.analyze.specs.Analyzer.{IsAsserting, IsRefutedBy, greatest_level}
 use Rattle.analyze.specs.Marks.{kept_of, resolved_of, others_in, learned_from}
+use Rattle.analyze.specs.Met.{ListsMarked}
 use Rattle.analyze.proofs.Counting.{current_clear}
 use Rattle.analyze.proofs.Fitting.{false_within}
 use Rattle.analyze.proofs.Listing.{listed_none}
@@ -13,6 +14,17 @@ use Rattle.analyze.proofs.Marked.{marked_refutes}
 use Rattle.analyze.proofs.Collecting.{conflict_is, start_above, start_some, learned_asserting}
 use Rattle.analyze.proofs.Collecting.{learned_collected, learned_within, tail_is}
 use Rattle.analyze.proofs.analyzer.learn.Goals as goal
+use Rattle.analyze.proofs.analyzer.learn.Goals.{After-clear}
+
+-- what is marked is listed
+lists : (c : After-clear)
+    → ListsMarked c.args.engine.now.trail c.args.marking.now
+    (record c.put_in_order.new.marking { list = c.clear.new.self })
+lists c = record {
+  listed = (c.put_in_order.ensures.along c.args.store.now.slots c.requires.can.fits).listed;
+  long = search rules;
+  spare = search rules;
+}
 
 pub mark_clause-count-requires-clause-named : goal.mark_clause-count-requires-clause-named
 mark_clause-count-requires-clause-named c =
@@ -30,12 +42,13 @@ resolve-asserting-requires c =
     let new = c.mark_clause-count.new.marking.marks.items in
     let marked = c.mark_clause-count.ensures.marked in
     let conflict = conflict_is T ls _ c.lits.ensures c.requires.can.falsified in
-    let some = start_some T ls old new c.requires.clear marked c.requires.can.deep conflict in
-    let zero = current_clear T old c.requires.clear in
+    let clear = c.requires.unmarked.clear in
+    let some = start_some T ls old new clear marked c.requires.can.deep conflict in
+    let zero = current_clear T old clear in
     let n = c.mark_clause-count.ensures.counted in
     record {
       fits = c.requires.can.fits;
-      above = start_above T ls old new c.requires.clear marked;
+      above = start_above T ls old new clear marked;
       counted = omega arith;
       some = omega arith;
       marking = c.mark_clause-count.ensures.marking;
@@ -75,7 +88,7 @@ returns-clause-learns c =
     let conflict = conflict_is T ls _ c.lits.ensures c.requires.can.falsified in
     let first =
     marked_start at T ls c.args.marking.now.marks.items
-    c.mark_clause-count.new.marking.marks.items c.requires.clear
+    c.mark_clause-count.new.marking.marks.items c.requires.unmarked.clear
     c.mark_clause-count.ensures.marked in
     let marked = reduces.known ls (c.resolve-asserting.ensures.reduces.known ls first) in
     let collected = learned_collected at T M u reasons reduces.reduced in
@@ -97,10 +110,10 @@ returns-clause-learns c =
 
 pub mark_clause-count-requires-clause-marking : goal.mark_clause-count-requires-clause-marking
 mark_clause-count-requires-clause-marking c = record {
-  room = c.requires.room;
-  spare = c.requires.spare;
+  room = c.requires.unmarked.room;
+  spare = c.requires.unmarked.spare;
   listed = listed_none c.args.engine.now.trail c.args.marking.now.marks.items
-      c.args.marking.now.met.items c.requires.clear c.requires.none;
+      c.args.marking.now.met.items c.requires.unmarked.clear c.requires.unmarked.none;
 }
 
 pub put_in_order-requires-clause-small : goal.put_in_order-requires-clause-small
@@ -116,14 +129,15 @@ collect-requires-clause-along c =
     rw (c.deref.ensures.value, c.deref-2.ensures.value)
     (c.put_in_order.ensures.along c.args.store.now.slots c.requires.can.fits)
 
-pub returns-in_err-collect-clause-listed : goal.returns-in_err-collect-clause-listed
-returns-in_err-collect-clause-listed c =
-    (c.put_in_order.ensures.along c.args.store.now.slots c.requires.can.fits).listed
+pub returns-in_err-collect-clause-lists : goal.returns-in_err-collect-clause-lists
+returns-in_err-collect-clause-lists c =
+    lists (goal.at.returns-in_err-collect-clause-lists c).After-clear
 
-pub returns-in_err-hints-clause-listed : goal.returns-in_err-hints-clause-listed
-returns-in_err-hints-clause-listed c =
-    (c.put_in_order.ensures.along c.args.store.now.slots c.requires.can.fits).listed
+pub returns-in_err-hints-clause-lists : goal.returns-in_err-hints-clause-lists
+returns-in_err-hints-clause-lists c =
+    lists (goal.at.returns-in_err-hints-clause-lists c).After-clear
 
-pub returns-clause-listed : goal.returns-clause-listed
-returns-clause-listed c =
-    (c.put_in_order.ensures.along c.args.store.now.slots c.requires.can.fits).listed
+pub returns-clause-lists : goal.returns-clause-lists
+returns-clause-lists c =
+    let l = lists (goal.at.returns-clause-lists c).After-clear in
+    record { listed = l.listed; long = l.long; spare = l.spare }

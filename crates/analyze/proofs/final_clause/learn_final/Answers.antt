@@ -1,10 +1,21 @@
-use Rattle.std.proofs.Common.{arith, ◌≡◌, ◌∙◌}
+use Rattle.std.proofs.Common.{rules, arith, ◌≡◌, ◌∙◌}
+use Rattle.clauses.specs.Slots.{clause_at}
+use Rattle.analyze.specs.Met.{ListsMarked}
 use Rattle.analyze.proofs.Fitting.{reason_live, reason_named}
 use Rattle.analyze.proofs.Listing.{listed_none}
 use Rattle.analyze.proofs.Resolving.{marked_start}
 use Rattle.analyze.proofs.Finals.{before_start, final_from}
-use Rattle.clauses.specs.Slots.{clause_at}
 use Rattle.analyze.proofs.final_clause.learn_final.Goals as goal
+use Rattle.analyze.proofs.final_clause.learn_final.Goals.{After-put_in_order}
+
+-- what is marked is listed
+lists : (c : After-put_in_order)
+    → ListsMarked c.args.engine.now.trail c.args.marking.now c.put_in_order.new.marking
+lists c = record {
+  listed = (c.put_in_order.ensures.along c.args.store.now.slots c.requires.fits).listed;
+  long = search rules;
+  spare = search rules;
+}
 
 pub lits-requires : goal.lits-requires
 lits-requires c =
@@ -18,17 +29,17 @@ mark_clause-requires-clause-named c =
 
 pub mark_clause-requires-clause-marking : goal.mark_clause-requires-clause-marking
 mark_clause-requires-clause-marking c = record {
-  room = c.requires.room;
-  spare = c.requires.spare;
+  room = c.requires.unmarked.room;
+  spare = c.requires.unmarked.spare;
   listed = listed_none c.args.engine.now.trail c.args.marking.now.marks.items
-      c.args.marking.now.met.items c.requires.clear c.requires.none;
+      c.args.marking.now.met.items c.requires.unmarked.clear c.requires.unmarked.none;
 }
 
 pub resolve_before-requires-clause-before : goal.resolve_before-requires-clause-before
 resolve_before-requires-clause-before c =
     before_start c.args.store.now.slots c.args.engine.now.trail c.args.falsified c.args.reason
     c.lits.result.now c.args.marking.now.marks.items c.mark_clause.new.marking.marks.items
-    c.requires.fits.reasons c.requires.falsified c.lits.ensures c.requires.clear
+    c.requires.fits.reasons c.requires.falsified c.lits.ensures c.requires.unmarked.clear
     c.mark_clause.ensures.marked
 
 pub put_in_order-requires-clause-small : goal.put_in_order-requires-clause-small
@@ -44,17 +55,16 @@ collect-requires-clause-along c =
     rw (c.deref.ensures.value, c.deref-2.ensures.value)
     (c.put_in_order.ensures.along c.args.store.now.slots c.requires.fits)
 
-pub returns-in_err-collect-clause-listed : goal.returns-in_err-collect-clause-listed
-returns-in_err-collect-clause-listed c =
-    (c.put_in_order.ensures.along c.args.store.now.slots c.requires.fits).listed
+pub returns-in_err-collect-clause-lists : goal.returns-in_err-collect-clause-lists
+returns-in_err-collect-clause-lists c =
+    lists (goal.at.returns-in_err-collect-clause-lists c).After-put_in_order
 
-pub returns-in_err-hints-clause-listed : goal.returns-in_err-hints-clause-listed
-returns-in_err-hints-clause-listed c =
-    (c.put_in_order.ensures.along c.args.store.now.slots c.requires.fits).listed
+pub returns-in_err-hints-clause-lists : goal.returns-in_err-hints-clause-lists
+returns-in_err-hints-clause-lists c =
+    lists (goal.at.returns-in_err-hints-clause-lists c).After-put_in_order
 
-pub returns-clause-listed : goal.returns-clause-listed
-returns-clause-listed c =
-    (c.put_in_order.ensures.along c.args.store.now.slots c.requires.fits).listed
+pub returns-clause-lists : goal.returns-clause-lists
+returns-clause-lists c = lists (goal.at.returns-clause-lists c).After-put_in_order
 
 pub returns-clause-learns : goal.returns-clause-learns
 returns-clause-learns c =
@@ -69,7 +79,7 @@ returns-clause-learns c =
     let reduces = c.resolve_before.ensures.reduces in
     let first =
     marked_start at T wrong c.args.marking.now.marks.items
-    c.mark_clause.new.marking.marks.items c.requires.clear c.mark_clause.ensures.marked in
+    c.mark_clause.new.marking.marks.items c.requires.unmarked.clear c.mark_clause.ensures.marked in
     final_from slots T c.args.falsified c.args.reason M c.requires.fits.reasons
     c.requires.falsified reduces.state wrong _ c.lits.ensures (reduces.known wrong first)
     lits hints

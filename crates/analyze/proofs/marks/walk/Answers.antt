@@ -37,12 +37,15 @@ pub resolve_one-fresh-requires-clause-small : goal.resolve_one-fresh-requires-cl
 resolve_one-fresh-requires-clause-small c =
     (met (goal.at.resolve_one-fresh-requires-clause-small c).After-variable-variable).here.small
 
-pub returns-then-open-eq1-clause-reduces : goal.returns-then-open-eq1-clause-reduces
-returns-then-open-eq1-clause-reduces c =
-    let m = met (goal.at.returns-then-open-eq1-clause-reduces c).After-variable-variable in
+pub returns-then-open-eq1 : goal.returns-then-open-eq1
+returns-then-open-eq1 c =
+    let m = met (goal.at.returns-then-open-eq1 c).After-variable-variable in
     let M = c.loop-place.marking.marks.items in
     let kept : mark_at M c.variable-variable.result ≡ Kept = search rules in
-    met_last m kept c.if-open-eq1.true
+    record {
+      reduces = met_last m kept c.if-open-eq1.true;
+      marking = c.loop-place.invariant.marking;
+    }
 
 pub overflow_add-open : goal.overflow_add-open
 overflow_add-open c =
