@@ -6,8 +6,10 @@ mod arguments;
 mod checking;
 mod encoding;
 mod explaining;
+mod inputs;
 mod lower_bounds;
 mod profiles;
+mod refusals;
 mod solving;
 
 use arguments::Request;

@@ -1,64 +1,30 @@
 //! `wmax solve`: a result and its certificate.
 use crate::arguments::SolveRequest;
-use crate::checking::show;
+use crate::inputs::{Inputs, Kept, Source, are_named, prepare};
 use crate::profiles::{choose_profile, refuse_profile};
+use crate::refusals::{KeptFileFault, Refused, tell};
 use adder::profiles::Profile;
 use cdcl::budget::Budget;
-use explain::judging::{Judgement, read_bits};
-use lrat_check::checking::check_as;
-use lrat_check::lower::{LowerVerdict, check_lower};
-use lrat_check::verdicts::Cause;
+use report::best::RunWatch;
 use report::fault::RunFault;
 use report::options::MOST_CONFLICTS;
 use report::running::run_from;
-use std::alloc::Global;
 use std::fs::File;
 use std::io::{self, Read, Write};
 use std::rt::{Clock, Env, Files};
 use wmax_onlooker::bounding::{Bounder, LowerPaths};
-use wmax_onlooker::file_id::{FileId, empty, find_file_id, find_path_id, open_proof};
-use wmax_onlooker::files::{UNREADABLE, read_file, refuse_file};
-use wmax_onlooker::keeper::{Keeper, judge_left};
+use wmax_onlooker::file_id::{FileId, empty, find_file_id, open_proof};
+use wmax_onlooker::files::UNREADABLE;
+use wmax_onlooker::keeper::Keeper;
 use wmax_onlooker::onlooker::Onlooker;
 use wmax_onlooker::progress::Meter;
 use wmax_onlooker::standard_error::Messages;
-use wmax_onlooker::whole_file::WholePaths;
-
-/// How a run searches.
-#[derive(Drop)]
-struct Settings<'a> {
-    /// How 'cheaper' is said.
-    profile: Profile,
-    /// The effort.
-    budget: Budget,
-    /// Where it begins, if it has such a solution.
-    start: Option<Start>,
-    /// Where the best solution is kept, if it is to be kept.
-    best: Option<&'a str>,
-    /// Where the best lower bound is kept, if it is to be kept,
-    lower: Option<&'a str>,
-    /// and what is known of that.
-    bounds: Option<LowerPaths<'a>>,
-    /// Whether to report progress.
-    is_told: bool,
-    /// Whether there is a file for the certificate.
-    has_proof: bool,
-}
-
-/// A solution with which a search begins.
-#[derive(Drop)]
-struct Start {
-    /// What it costs.
-    cost: u64,
-    /// Its bits.
-    bits: Vec<bool>,
-}
 
 /// FILE is opened, then RESULT, if the search begins with one: that is judged by FILE, all of which
-/// is in memory then. Then the file of the best solution is looked at, and the search begins with
-/// what stands there, if that is cheaper. Then the file of the certificate is opened or created,
-/// then that of the best solution is written, then that of the certificate is emptied, and what is
-/// left of FILE is read. Without a file the certificate is dropped.
+/// is in memory then. Then the files of the best lower bound and of the best solution are looked
+/// at, and the search begins with what stands in that, if it is cheaper. Then the file of the
+/// certificate is opened or created, then the kept files are written, then that of the certificate
+/// is emptied, and what is left of FILE is read. Without a file the certificate is dropped.
 pub fn solve<R: Files + AllocGlobal + Print + Env + Clock, E: Write>(
     rt: &R,
     messages: &mut Messages<'_, E>,
@@ -68,276 +34,66 @@ pub fn solve<R: Files + AllocGlobal + Print + Env + Clock, E: Write>(
         Ok(profile) => profile,
         Err(why) => return refuse_profile(messages, why),
     };
-    let search = Settings {
-        profile,
-        // `clap` lets no greater one pass; said again, since nothing is known of that here.
-        budget: Budget::new(request.limit.min(MOST_CONFLICTS)),
-        start: None,
-        best: request.best,
-        lower: request.lower,
-        bounds: None,
-        is_told: request.is_told,
-        has_proof: request.proof.is_some(),
-    };
-    let mut text = File::open(rt, request.text).map_err(|_| UNREADABLE)?;
-    match request.from {
-        Some(from) => solve_from(rt, messages, search, &mut text, from, request.proof),
-        None => {
-            let Some(here) = find_file_id(&text) else {
-                return Err(UNREADABLE);
-            };
-            solve_bounded(rt, messages, search, &mut text, request.proof, [here, here])
-        }
-    }
+    let file = File::open(rt, request.text).map_err(|_| UNREADABLE)?;
+    solve_file(rt, messages, *request, profile, file)
 }
 
-/// Solves the text of a file, where the search begins with a result. What `check` would say of one
-/// that is not right is printed.
-fn solve_from<R: Files + AllocGlobal + Print + Clock, E: Write>(
-    rt: &R,
-    messages: &mut Messages<'_, E>,
-    mut search: Settings<'_>,
-    text: &mut R::File,
-    from: &str,
-    proof: Option<&str>,
-) -> Result<u8, RunFault> {
-    let Ok(mut result) = File::open(rt, from) else {
-        return Ok(refuse_file(messages, "--from", from));
-    };
-    let (Some(here), Some(there)) = (find_file_id(text), find_file_id(&result)) else {
-        return Err(UNREADABLE);
-    };
-    let text = read_file(rt, text)?;
-    let said = match read_file(rt, &mut result) {
-        Ok(said) => said,
-        Err(RunFault::Read(_)) => return Ok(refuse_file(messages, "--from", from)),
-        Err(fault) => return Err(fault),
-    };
-    match judge_left(rt.alloc(), &text, &said)? {
-        Judgement::Unknown | Judgement::Unsatisfiable => {}
-        Judgement::Right(cost) => search.start = read_start(rt.alloc(), &said, cost)?,
-        Judgement::Wrong => {
-            let verdict = check_as(rt.alloc(), &text, &said, &[], Profile::One);
-            return show(rt, &verdict.map_err(|_| RunFault::Memory)?);
-        }
-    }
-    let mut text = text.as_slice();
-    solve_bounded(rt, messages, search, &mut text, proof, [here, there])
-}
-
-/// The solution of a result, with which a search begins; it costs this.
-fn read_start(alloc: Global, said: &[u8], cost: u64) -> Result<Option<Start>, RunFault> {
-    match read_bits(alloc, said) {
-        Ok(Some(bits)) => Ok(Some(Start { cost, bits })),
-        Ok(None) => Ok(None),
-        Err(_) => Err(RunFault::Memory),
-    }
-}
-
-/// The bits with which a search begins.
-fn bits_of(start: Option<Start>) -> Option<Vec<bool>> {
-    match start {
-        Some(start) => Some(start.bits),
-        None => None,
-    }
-}
-
-/// Whether this cost is less than that of the solution with which the search begins, if it has one.
-fn is_cheaper(cost: u64, start: &Option<Start>) -> bool {
-    match start {
-        Some(start) => cost < start.cost,
-        None => true,
-    }
-}
-
-/// Solves, where `--lower` may name none of the other files. Where it has something already, that
-/// is judged by FILE first, all of which is in memory then.
-fn solve_bounded<'a, R: Files + AllocGlobal + Print + Clock, E: Write, T: Read>(
+/// Solves this file.
+fn solve_file<'a, R: Files + AllocGlobal + Print + Clock, E: Write>(
     rt: &'a R,
     messages: &'a mut Messages<'_, E>,
-    mut search: Settings<'a>,
-    text: &mut T,
-    proof: Option<&str>,
-    read: [FileId; 2],
+    request: SolveRequest<'a>,
+    profile: Profile,
+    file: R::File,
 ) -> Result<u8, RunFault> {
-    let Some(path) = search.lower else {
-        return solve_proved(rt, messages, search, text, proof, read);
-    };
-    let Ok(paths) = WholePaths::new(rt.alloc(), path) else {
-        return Err(RunFault::Memory);
-    };
-    if are_named(rt, &paths, &[proof, search.best], read) {
-        return Ok(refuse(messages, Refused::Lower(KeptFileFault::Taken)));
-    }
-    let left = match paths.read_earlier(rt) {
-        Ok(left) => left,
-        Err(RunFault::Read(_)) => return Ok(refuse_file(messages, "--lower", path)),
-        Err(fault) => return Err(fault),
-    };
-    if left.is_empty() {
-        search.bounds = Some(LowerPaths {
-            paths,
-            lower: 0,
-            is_free: true,
-        });
-        return solve_proved(rt, messages, search, text, proof, read);
-    }
-    let text = read_file(rt, text)?;
-    let Some(lower) = judge_bound(rt.alloc(), &text, &left)? else {
-        return Ok(refuse(messages, Refused::Lower(KeptFileFault::Other)));
-    };
-    search.bounds = Some(LowerPaths {
-        paths,
-        lower,
-        is_free: false,
-    });
-    let mut text = text.as_slice();
-    solve_proved(rt, messages, search, &mut text, proof, read)
-}
-
-/// Whether these paths are those of a file that is read, of one that has one of these names, or of
-/// what is no regular file.
-fn are_named<R: Files>(
-    rt: &R,
-    paths: &WholePaths<'_>,
-    names: &[Option<&str>],
-    read: [FileId; 2],
-) -> bool {
-    let mut taken = paths.are_taken(rt, &read);
-    for name in names.iter().flatten() {
-        taken |= paths.meets(name);
-        if let Some(there) = find_path_id(rt, name) {
-            taken |= paths.are_taken(rt, &[there]);
-        }
-    }
-    taken
-}
-
-/// The lower bound that an earlier run left for this text: 0 where the text is faulty, which the
-/// search tells; none where it proves nothing.
-fn judge_bound(alloc: Global, text: &[u8], left: &[u8]) -> Result<Option<u64>, RunFault> {
-    match check_lower(alloc, text, left) {
-        Ok(LowerVerdict::AtLeast(lower)) => Ok(Some(lower)),
-        Ok(LowerVerdict::NoSolution) => Ok(Some(u64::MAX)),
-        Ok(LowerVerdict::No(Cause::Text, _)) => Ok(Some(0)),
-        Ok(LowerVerdict::No(..)) => Ok(None),
-        Err(_) => Err(RunFault::Memory),
+    let mut inputs = Inputs::of_file(file);
+    match prepare(rt, request, &mut inputs) {
+        Ok(read) => solve_into(rt, messages, request, profile, inputs, read),
+        Err(refused) => tell(rt, messages, refused),
     }
 }
 
-/// Solves, where `--best` may name none of the files that are read and not the certificate. Where
-/// that has something already, it is judged by FILE first, all of which is in memory then. Nothing
-/// is emptied before.
-fn solve_proved<'a, R: Files + AllocGlobal + Print + Clock, E: Write, T: Read>(
+/// Solves, with the certificate in its file, which may be none of those that are read.
+fn solve_into<'a, R: Files + AllocGlobal + Print + Clock, E: Write>(
     rt: &'a R,
     messages: &'a mut Messages<'_, E>,
-    mut search: Settings<'a>,
-    text: &mut T,
-    proof: Option<&str>,
+    request: SolveRequest<'a>,
+    profile: Profile,
+    mut inputs: Inputs<'a, R::File>,
     read: [FileId; 2],
 ) -> Result<u8, RunFault> {
-    let Some(path) = search.best else {
-        return solve_into(rt, messages, search, text, proof, read, None);
-    };
-    let [here, result] = read;
-    let mut kept = Kept::new(rt.alloc(), path)?;
-    let is_named = are_named(rt, &kept.paths, &[proof], [here, here]);
-    if is_named || kept.paths.is_part_taken(rt, &[result]) {
-        return Ok(refuse(messages, Refused::Best(KeptFileFault::Taken)));
-    }
-    let left = match kept.paths.read_earlier(rt) {
-        Ok(left) => left,
-        Err(RunFault::Read(_)) => return Ok(refuse_file(messages, "--best", path)),
-        Err(fault) => return Err(fault),
-    };
-    if left.is_empty() {
-        return solve_into(rt, messages, search, text, proof, read, Some(kept));
-    }
-    let text = read_file(rt, text)?;
-    if !take_earlier(rt.alloc(), &mut search, &mut kept, &text, &left)? {
-        return Ok(refuse(messages, Refused::Best(KeptFileFault::Other)));
-    }
-    let mut text = text.as_slice();
-    solve_into(rt, messages, search, &mut text, proof, read, Some(kept))
-}
-
-/// Takes note of the solution that an earlier run left, which this text of FILE judges: the search
-/// begins with it, unless it has a cheaper one. False where something else would be lost.
-fn take_earlier(
-    alloc: Global,
-    search: &mut Settings<'_>,
-    kept: &mut Kept<'_>,
-    text: &[u8],
-    left: &[u8],
-) -> Result<bool, RunFault> {
-    match judge_left(alloc, text, left)? {
-        Judgement::Unknown | Judgement::Unsatisfiable => Ok(true),
-        Judgement::Right(cost) => {
-            kept.earlier = Some(cost);
-            if is_cheaper(cost, &search.start) {
-                search.start = read_start(alloc, left, cost)?;
+    let Some(path) = request.proof else {
+        let [here, _] = read;
+        return match start_keepers(rt, request, &mut inputs, [here, here]) {
+            Ok(keepers) => {
+                solve_over(
+                    rt,
+                    messages,
+                    request,
+                    profile,
+                    inputs,
+                    &mut io::sink(),
+                    keepers,
+                )
             }
-            Ok(true)
+            Err(refused) => tell(rt, messages, refused),
+        };
+    };
+    match open_outputs(rt, request, path, &mut inputs, read) {
+        Ok(Outputs { mut proof, keepers }) => {
+            solve_over(rt, messages, request, profile, inputs, &mut proof, keepers)
         }
-        Judgement::Wrong => Ok(false),
+        Err(refused) => tell(rt, messages, refused),
     }
 }
 
-/// Where the best solution is kept.
+/// What is written.
 #[derive(Drop)]
-struct Kept<'a> {
-    /// The files.
-    paths: WholePaths<'a>,
-    /// What the solution of an earlier run costs that stands there, below 2^62; none where none
-    /// does.
-    earlier: Option<u64>,
-}
-
-impl<'a> Kept<'a> {
-    /// The files of this path, of which nothing is known yet.
-    fn new(alloc: Global, path: &'a str) -> Result<Self, RunFault> {
-        let Ok(paths) = WholePaths::new(alloc, path) else {
-            return Err(RunFault::Memory);
-        };
-        Ok(Kept {
-            paths,
-            earlier: None,
-        })
-    }
-}
-
-/// Solves, with the certificate in the file of this name, which may be none of those that are read.
-/// It is emptied once all else that is to be written can be.
-fn solve_into<'a, R: Files + AllocGlobal + Print + Clock, E: Write, T: Read>(
-    rt: &'a R,
-    messages: &'a mut Messages<'_, E>,
-    mut search: Settings<'a>,
-    text: &mut T,
-    proof: Option<&str>,
-    read: [FileId; 2],
-    kept: Option<Kept<'a>>,
-) -> Result<u8, RunFault> {
-    let [here, _] = read;
-    let bounds = search.bounds.take();
-    let Some(proof) = proof else {
-        let keepers = match start_keepers(rt, kept, search.best, bounds, [here, here]) {
-            Ok(keepers) => keepers,
-            Err(refused) => return Ok(refuse(messages, refused)),
-        };
-        return solve_over(rt, messages, search, text, &mut io::sink(), keepers);
-    };
-    let mut proof = open_proof(rt, proof, read)?;
-    let Some(there) = find_file_id(&proof) else {
-        return Err(RunFault::ProofOutput);
-    };
-    let keepers = match start_keepers(rt, kept, search.best, bounds, [here, there]) {
-        Ok(keepers) => keepers,
-        Err(refused) => return Ok(refuse(messages, refused)),
-    };
-    if !empty(&proof) {
-        return Err(RunFault::ProofOutput);
-    }
-    solve_over(rt, messages, search, text, &mut proof, keepers)
+struct Outputs<'a, R: Files> {
+    /// The certificate.
+    proof: R::File,
+    /// What keeps the best solution and the best lower bound.
+    keepers: Keepers<'a, R>,
 }
 
 /// What keeps the best solution, and the best lower bound.
@@ -349,58 +105,40 @@ struct Keepers<'a, R: Files> {
     bounder: Bounder<'a, R>,
 }
 
-/// Which option there is no run with, and why.
-#[derive(Clone, Copy, Drop)]
-enum Refused {
-    /// `--best`.
-    Best(KeptFileFault),
-    /// `--lower`.
-    Lower(KeptFileFault),
-}
-
-/// Tells why there is no run with this option; the exit status.
-fn refuse<E: Write>(messages: &mut Messages<'_, E>, refused: Refused) -> u8 {
-    let (option, wanted, why) = match refused {
-        Refused::Best(why) => ("--best", "correct result", why),
-        Refused::Lower(why) => ("--lower", "certificate of a lower bound", why),
-    };
-    let out = messages.below();
-    let _ = match why {
-        KeptFileFault::Taken => writeln!(
-            out,
-            "error: {option} names another file of the run, or something other than a regular file"
-        ),
-        KeptFileFault::Other => writeln!(
-            out,
-            "error: {option} names a file that is not a {wanted} for FILE"
-        ),
-        KeptFileFault::Unwritable => writeln!(out, "error: {option} cannot be written"),
-    };
-    match why {
-        KeptFileFault::Taken | KeptFileFault::Other => 2,
-        KeptFileFault::Unwritable => 3,
+/// Opens the file of the certificate, which is emptied once all else that is to be written can be.
+fn open_outputs<'a, R: Files>(
+    rt: &'a R,
+    request: SolveRequest<'a>,
+    path: &str,
+    inputs: &mut Inputs<'a, R::File>,
+    read: [FileId; 2],
+) -> Result<Outputs<'a, R>, Refused<'a>> {
+    let [here, _] = read;
+    let proof = open_proof(rt, path, read)?;
+    let there = find_file_id(&proof).ok_or(RunFault::ProofOutput)?;
+    let keepers = start_keepers(rt, request, inputs, [here, there])?;
+    if !empty(&proof) {
+        return Err(Refused::Fault(RunFault::ProofOutput));
     }
+    Ok(Outputs { proof, keepers })
 }
 
 /// What keeps the best solution and the best lower bound, each of which can be written. Once that
 /// of the best solution is there, whatever its name is, the other one cannot be the same file.
 fn start_keepers<'a, R: Files>(
     rt: &'a R,
-    kept: Option<Kept<'a>>,
-    best: Option<&str>,
-    bounds: Option<LowerPaths<'a>>,
+    request: SolveRequest<'a>,
+    inputs: &mut Inputs<'a, R::File>,
     others: [FileId; 2],
-) -> Result<Keepers<'a, R>, Refused> {
-    let keeper = start_keeper(rt, kept, others).map_err(Refused::Best)?;
-    if let Some(bounds) = &bounds {
-        if are_named(rt, &bounds.paths, &[best], others) {
-            return Err(Refused::Lower(KeptFileFault::Taken));
-        }
-    }
-    let Some(bounder) = Bounder::start(rt, bounds, others) else {
-        return Err(Refused::Lower(KeptFileFault::Unwritable));
+) -> Result<Keepers<'a, R>, Refused<'a>> {
+    let keeper = match start_keeper(rt, inputs.kept.take(), others) {
+        Ok(keeper) => keeper,
+        Err(why) => return Err(Refused::Best(why)),
     };
-    Ok(Keepers { keeper, bounder })
+    match start_bounder(rt, inputs.bounds.take(), request.best, others) {
+        Ok(bounder) => Ok(Keepers { keeper, bounder }),
+        Err(why) => Err(Refused::Lower(why)),
+    }
 }
 
 /// What keeps the best solution. That its files are none of the others is looked at once more, now
@@ -422,36 +160,35 @@ fn start_keeper<'a, R: Files>(
     started.ok_or(KeptFileFault::Unwritable)
 }
 
-/// Why there is no run with an option whose file is kept whole.
-#[derive(Clone, Copy, Drop)]
-enum KeptFileFault {
-    /// The run uses the file otherwise, or it is no regular file.
-    Taken,
-    /// It has what would be lost.
-    Other,
-    /// It cannot be written.
-    Unwritable,
+/// What keeps the best lower bound, now that the best solution has a file, of this name.
+fn start_bounder<'a, R: Files>(
+    rt: &'a R,
+    bounds: Option<LowerPaths<'a>>,
+    best: Option<&str>,
+    others: [FileId; 2],
+) -> Result<Bounder<'a, R>, KeptFileFault> {
+    if let Some(bounds) = &bounds {
+        if are_named(rt, &bounds.paths, &[best], others) {
+            return Err(KeptFileFault::Taken);
+        }
+    }
+    Bounder::start(rt, bounds, others).ok_or(KeptFileFault::Unwritable)
 }
 
 /// Solves, with what is to be written at hand.
-fn solve_over<'a, R: Files + AllocGlobal + Print + Clock, E: Write, T: Read, P: Write>(
+fn solve_over<'a, R: Files + AllocGlobal + Print + Clock, E: Write, P: Write>(
     rt: &'a R,
     messages: &'a mut Messages<'_, E>,
-    search: Settings<'_>,
-    text: &mut T,
+    request: SolveRequest<'_>,
+    profile: Profile,
+    inputs: Inputs<'_, R::File>,
     proof: &mut P,
     keepers: Keepers<'a, R>,
 ) -> Result<u8, RunFault> {
-    let Settings {
-        profile,
-        mut budget,
-        start,
-        is_told,
-        has_proof,
-        ..
-    } = search;
-    let meter = if is_told {
-        Meter::start(rt, budget.left(), has_proof)
+    // `clap` lets no greater one pass; said again, since nothing is known of that here.
+    let mut budget = Budget::new(request.limit.min(MOST_CONFLICTS));
+    let meter = if request.is_told {
+        Meter::start(rt, budget.left(), request.proof.is_some())
     } else {
         None
     };
@@ -462,16 +199,50 @@ fn solve_over<'a, R: Files + AllocGlobal + Print + Clock, E: Write, T: Read, P: 
         meter,
         messages,
     };
+    let bits = inputs.start.map(|start| start.bits);
+    let Source { mut file, whole } = inputs.source;
+    match whole {
+        Some(text) => search(
+            rt,
+            &mut text.as_slice(),
+            bits,
+            profile,
+            &mut budget,
+            proof,
+            &mut onlooker,
+        ),
+        None => search(
+            rt,
+            &mut file,
+            bits,
+            profile,
+            &mut budget,
+            proof,
+            &mut onlooker,
+        ),
+    }
+}
+
+/// Solves this text, from these bits if there are any; the exit status.
+fn search<R: AllocGlobal + Print, T: Read, P: Write, K: RunWatch>(
+    rt: &R,
+    text: &mut T,
+    bits: Option<Vec<bool>>,
+    profile: Profile,
+    budget: &mut Budget,
+    proof: &mut P,
+    watch: &mut K,
+) -> Result<u8, RunFault> {
     let mut out = io::writer(rt);
     let status = run_from(
         rt.alloc(),
         text,
-        bits_of(start),
-        &mut budget,
+        bits,
+        budget,
         &mut out,
         proof,
         profile,
-        &mut onlooker,
+        watch,
     )?;
     Ok(status.code())
 }

@@ -1,0 +1,268 @@
+//! What is at hand before a search begins: FILE, the solution with which it begins, and the files of
+//! earlier runs that it replaces.
+use crate::arguments::SolveRequest;
+use crate::refusals::{BEST, FROM, KeptFileFault, LOWER, Refused};
+use adder::profiles::Profile;
+use explain::judging::{Judgement, read_bits};
+use lrat_check::checking::check_as;
+use lrat_check::lower::{LowerVerdict, check_lower};
+use lrat_check::verdicts::Cause;
+use report::fault::RunFault;
+use std::alloc::Global;
+use std::fs::File;
+use std::io::Read;
+use std::rt::Files;
+use wmax_onlooker::bounding::LowerPaths;
+use wmax_onlooker::file_id::{FileId, find_file_id, find_path_id};
+use wmax_onlooker::files::{UNREADABLE, read_file};
+use wmax_onlooker::keeper::judge_left;
+use wmax_onlooker::whole_file::WholePaths;
+
+/// What is at hand before a search begins.
+#[derive(Drop)]
+pub(crate) struct Inputs<'a, F> {
+    /// FILE.
+    pub(crate) source: Source<F>,
+    /// Where the search begins, if it has such a solution.
+    pub(crate) start: Option<FirstSolution>,
+    /// Where the best lower bound is kept, if it is to be kept.
+    pub(crate) bounds: Option<LowerPaths<'a>>,
+    /// Where the best solution is kept, if it is to be kept.
+    pub(crate) kept: Option<Kept<'a>>,
+}
+
+/// FILE, which may be a pipe.
+#[derive(Drop)]
+pub(crate) struct Source<F> {
+    /// What is left of it.
+    pub(crate) file: F,
+    /// All of it, once something had to be judged by it.
+    pub(crate) whole: Option<Vec<u8>>,
+}
+
+impl<F: Read> Source<F> {
+    /// All of it, which is in memory from now on.
+    ///
+    /// # Errors
+    ///
+    /// As `read_file`.
+    fn read_whole<R: AllocGlobal>(&mut self, rt: &R) -> Result<&[u8], RunFault> {
+        let bytes = match self.whole.take() {
+            Some(bytes) => bytes,
+            None => read_file(rt, &mut self.file)?,
+        };
+        Ok(self.whole.insert(bytes))
+    }
+}
+
+/// A solution with which a search begins.
+#[derive(Drop)]
+pub(crate) struct FirstSolution {
+    /// What it costs.
+    cost: u64,
+    /// Its bits.
+    pub(crate) bits: Vec<bool>,
+}
+
+/// Where the best solution is kept.
+#[derive(Drop)]
+pub(crate) struct Kept<'a> {
+    /// The files.
+    pub(crate) paths: WholePaths<'a>,
+    /// What the solution of an earlier run costs that stands there, below 2^62; none where none
+    /// does.
+    pub(crate) earlier: Option<u64>,
+}
+
+impl<'a, F> Inputs<'a, F> {
+    /// FILE alone, of which nothing is read yet.
+    pub(crate) fn of_file(file: F) -> Self {
+        Inputs {
+            source: Source { file, whole: None },
+            start: None,
+            bounds: None,
+            kept: None,
+        }
+    }
+}
+
+/// Takes what stands in the files that the options name. Nothing is written yet. The files that are
+/// read: FILE, and RESULT or FILE again.
+pub(crate) fn prepare<'a, R: Files + AllocGlobal>(
+    rt: &R,
+    request: SolveRequest<'a>,
+    inputs: &mut Inputs<'a, R::File>,
+) -> Result<[FileId; 2], Refused<'a>> {
+    let here = find_file_id(&inputs.source.file).ok_or(UNREADABLE)?;
+    let read = match request.from {
+        Some(path) => [here, take_start(rt, path, inputs)?],
+        None => [here, here],
+    };
+    if let Some(path) = request.lower {
+        take_bounds(rt, request, path, read, inputs)?;
+    }
+    if let Some(path) = request.best {
+        take_best(rt, request, path, read, inputs)?;
+    }
+    Ok(read)
+}
+
+/// Takes the solution of a result, if it has one, which FILE judges; the file that was read.
+fn take_start<'a, R: Files + AllocGlobal>(
+    rt: &R,
+    path: &'a str,
+    inputs: &mut Inputs<'a, R::File>,
+) -> Result<FileId, Refused<'a>> {
+    let mut result = File::open(rt, path).map_err(|_| Refused::of_file(UNREADABLE, FROM, path))?;
+    let there = find_file_id(&result).ok_or(UNREADABLE)?;
+    let text = inputs.source.read_whole(rt)?;
+    let said = read_file(rt, &mut result).map_err(|fault| Refused::of_file(fault, FROM, path))?;
+    match judge_left(rt.alloc(), text, &said)? {
+        Judgement::Unknown | Judgement::Unsatisfiable => {}
+        Judgement::Right(cost) => inputs.start = read_start(rt.alloc(), &said, cost)?,
+        Judgement::Wrong => {
+            let verdict = check_as(rt.alloc(), text, &said, &[], Profile::One);
+            return Err(Refused::Wrong(verdict.map_err(|_| RunFault::Memory)?));
+        }
+    }
+    Ok(there)
+}
+
+/// The solution of a result, with which a search begins; it costs this.
+fn read_start(alloc: Global, said: &[u8], cost: u64) -> Result<Option<FirstSolution>, RunFault> {
+    match read_bits(alloc, said) {
+        Ok(Some(bits)) => Ok(Some(FirstSolution { cost, bits })),
+        Ok(None) => Ok(None),
+        Err(_) => Err(RunFault::Memory),
+    }
+}
+
+/// Takes the file of `--lower`, which may be none of the others. Where it has something already,
+/// that is judged by FILE, all of which is in memory then.
+fn take_bounds<'a, R: Files + AllocGlobal>(
+    rt: &R,
+    request: SolveRequest<'a>,
+    path: &'a str,
+    read: [FileId; 2],
+    inputs: &mut Inputs<'a, R::File>,
+) -> Result<(), Refused<'a>> {
+    let paths = WholePaths::new(rt.alloc(), path).map_err(|_| RunFault::Memory)?;
+    if are_named(rt, &paths, &[request.proof, request.best], read) {
+        return Err(Refused::Lower(KeptFileFault::Taken));
+    }
+    let left = read_left(rt, &paths, LOWER, path)?;
+    let is_free = left.is_empty();
+    let lower = if is_free {
+        0
+    } else {
+        judge_bound(rt.alloc(), inputs.source.read_whole(rt)?, &left)?
+    };
+    inputs.bounds = Some(LowerPaths {
+        paths,
+        lower,
+        is_free,
+    });
+    Ok(())
+}
+
+/// What an earlier run left in the file of an option.
+fn read_left<'a, R: Files + AllocGlobal>(
+    rt: &R,
+    paths: &WholePaths<'_>,
+    option: &'a str,
+    path: &'a str,
+) -> Result<Vec<u8>, Refused<'a>> {
+    paths
+        .read_earlier(rt)
+        .map_err(|fault| Refused::of_file(fault, option, path))
+}
+
+/// Whether these paths are those of a file that is read, of one that has one of these names, or of
+/// what is no regular file.
+pub(crate) fn are_named<R: Files>(
+    rt: &R,
+    paths: &WholePaths<'_>,
+    names: &[Option<&str>],
+    read: [FileId; 2],
+) -> bool {
+    let mut taken = paths.are_taken(rt, &read);
+    for name in names.iter().flatten() {
+        taken |= paths.meets(name);
+        if let Some(there) = find_path_id(rt, name) {
+            taken |= paths.are_taken(rt, &[there]);
+        }
+    }
+    taken
+}
+
+/// The lower bound that an earlier run left for this text: 0 where the text is faulty, which the
+/// search tells.
+///
+/// # Errors
+///
+/// `Lower` where it proves nothing; `Memory`.
+fn judge_bound<'a>(alloc: Global, text: &[u8], left: &[u8]) -> Result<u64, Refused<'a>> {
+    match check_lower(alloc, text, left) {
+        Ok(LowerVerdict::AtLeast(lower)) => Ok(lower),
+        Ok(LowerVerdict::NoSolution) => Ok(u64::MAX),
+        Ok(LowerVerdict::No(Cause::Text, _)) => Ok(0),
+        Ok(LowerVerdict::No(..)) => Err(Refused::Lower(KeptFileFault::Other)),
+        Err(_) => Err(Refused::Fault(RunFault::Memory)),
+    }
+}
+
+/// Takes the file of `--best`, which may be none that are read and not that of the certificate.
+/// Where it has something already, that is judged by FILE, all of which is in memory then.
+fn take_best<'a, R: Files + AllocGlobal>(
+    rt: &R,
+    request: SolveRequest<'a>,
+    path: &'a str,
+    read: [FileId; 2],
+    inputs: &mut Inputs<'a, R::File>,
+) -> Result<(), Refused<'a>> {
+    let [here, result] = read;
+    let paths = WholePaths::new(rt.alloc(), path).map_err(|_| RunFault::Memory)?;
+    let is_named = are_named(rt, &paths, &[request.proof], [here, here]);
+    if is_named || paths.is_part_taken(rt, &[result]) {
+        return Err(Refused::Best(KeptFileFault::Taken));
+    }
+    let left = read_left(rt, &paths, BEST, path)?;
+    let earlier = if left.is_empty() {
+        None
+    } else {
+        take_earlier(rt, inputs, &left)?
+    };
+    inputs.kept = Some(Kept { paths, earlier });
+    Ok(())
+}
+
+/// Takes the solution that an earlier run left, which FILE judges; what it costs. The search begins
+/// with it, unless it has a cheaper one.
+///
+/// # Errors
+///
+/// `Best` where something else would be lost; `Read` with the first fault of FILE; `Memory`.
+fn take_earlier<'a, R: AllocGlobal, F: Read>(
+    rt: &R,
+    inputs: &mut Inputs<'_, F>,
+    left: &[u8],
+) -> Result<Option<u64>, Refused<'a>> {
+    match judge_left(rt.alloc(), inputs.source.read_whole(rt)?, left)? {
+        Judgement::Unknown | Judgement::Unsatisfiable => Ok(None),
+        Judgement::Right(cost) => {
+            if is_cheaper(cost, &inputs.start) {
+                inputs.start = read_start(rt.alloc(), left, cost)?;
+            }
+            Ok(Some(cost))
+        }
+        Judgement::Wrong => Err(Refused::Best(KeptFileFault::Other)),
+    }
+}
+
+/// Whether this cost is less than that of the solution with which the search begins, if it has one.
+fn is_cheaper(cost: u64, start: &Option<FirstSolution>) -> bool {
+    match start {
+        Some(start) => cost < start.cost,
+        None => true,
+    }
+}

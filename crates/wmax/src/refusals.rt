@@ -1,0 +1,102 @@
+//! Why there is no run of `wmax solve`, beside the faults that every command has, and what is said
+//! of it.
+use crate::checking::show;
+use lrat_check::verdicts::Verdict;
+use report::fault::RunFault;
+use std::io::Write;
+use wmax_onlooker::files::refuse_file;
+use wmax_onlooker::standard_error::Messages;
+
+/// The options that name files beside that of the certificate.
+pub(crate) const FROM: &str = "--from";
+
+pub(crate) const BEST: &str = "--best";
+
+pub(crate) const LOWER: &str = "--lower";
+
+/// Why there is no run.
+#[derive(Clone, Copy, Drop)]
+pub(crate) enum Refused<'a> {
+    /// A fault that any command may meet.
+    Fault(RunFault),
+    /// The result with which the search was to begin is wrong: what `check` says of it.
+    Wrong(Verdict),
+    /// The file of an option cannot be opened or read.
+    Unreadable {
+        /// The option.
+        option: &'a str,
+        /// The file.
+        path: &'a str,
+    },
+    /// The file of `--best` is of no use.
+    Best(KeptFileFault),
+    /// The file of `--lower` is of no use.
+    Lower(KeptFileFault),
+}
+
+impl From<RunFault> for Refused<'_> {
+    fn from(fault: RunFault) -> Self {
+        Refused::Fault(fault)
+    }
+}
+
+impl<'a> Refused<'a> {
+    /// Why there is no run where this file of an option cannot be read whole.
+    pub(crate) fn of_file(fault: RunFault, option: &'a str, path: &'a str) -> Self {
+        match fault {
+            RunFault::Read(_) => Refused::Unreadable { option, path },
+            _ => Refused::Fault(fault),
+        }
+    }
+}
+
+/// Why there is no run with an option whose file is kept whole.
+#[derive(Clone, Copy, Drop)]
+pub(crate) enum KeptFileFault {
+    /// The run uses the file otherwise, or it is no regular file.
+    Taken,
+    /// It has what would be lost.
+    Other,
+    /// It cannot be written.
+    Unwritable,
+}
+
+/// Tells why there is no run; the exit status.
+pub(crate) fn tell<R: Print, E: Write>(
+    rt: &R,
+    messages: &mut Messages<'_, E>,
+    refused: Refused<'_>,
+) -> Result<u8, RunFault> {
+    match refused {
+        Refused::Fault(fault) => Err(fault),
+        Refused::Wrong(verdict) => show(rt, &verdict),
+        Refused::Unreadable { option, path } => Ok(refuse_file(messages, option, path)),
+        Refused::Best(why) => Ok(refuse(messages, BEST, "correct result", why)),
+        Refused::Lower(why) => Ok(refuse(messages, LOWER, "certificate of a lower bound", why)),
+    }
+}
+
+/// Tells why the file of an option cannot be kept, which wants this in it; the exit status.
+fn refuse<E: Write>(
+    messages: &mut Messages<'_, E>,
+    option: &str,
+    wanted: &str,
+    why: KeptFileFault,
+) -> u8 {
+    let out = messages.below();
+    let _ = match why {
+        KeptFileFault::Taken => writeln!(
+            out,
+            "error: {option} names another file of the run, or something other than a regular file"
+        ),
+        KeptFileFault::Other => writeln!(
+            out,
+            "error: {option} names a file that is not a {wanted} for FILE"
+        ),
+        KeptFileFault::Unwritable => writeln!(out, "error: {option} cannot be written"),
+    };
+    match why {
+        KeptFileFault::Taken | KeptFileFault::Other => 2,
+        KeptFileFault::Unwritable => 3,
+    }
+}
