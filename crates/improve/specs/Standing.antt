@@ -1,12 +1,13 @@
 -- What stands between the first solution and the last one.
 use Rattle.std.specs.Prelude.{◌≡◌, ℕ, ◌+◌, List, [], ◌∷◌, ◌++◌, length, All}
-use Rattle.std.specs.Prelude.{Option, Some, None, Result, Err, IfSome}
+use Rattle.std.specs.Prelude.{Option, Some, None, Result, Err, IfOk, IfErr, IfSome}
 use Rattle.std.specs.declared.vec.Vec.{Vec}
 use Rattle.std.specs.declared.alloc.Global.{Global}
 use Rattle.cnf.specs.Problem.{Problem}
 use Rattle.lrat_log.specs.Log.{LogLine}
 use Rattle.lrat_log.specs.Steps.{learned_count}
 use Rattle.adder.specs.declared.profiles.Profile.{Profile}
+use Rattle.adder.specs.declared.profiles.Profile.TheVariants.{Five}
 use Rattle.cdcl_order.specs.Budgets.{BudgetState}
 use Rattle.improve_cores.specs.Work.{IsSearchWork}
 use Rattle.improve_trials.specs.declared.found.ByCores.{ByCores}
@@ -104,3 +105,14 @@ Fails p e old new had left s =
 abbrev pub by_cores_count : Option ByCores → ℕ
 by_cores_count None = 0
 by_cores_count (Some r) = learned_count r.log
+
+-- On the way from one standing to the other cores were tried. A refutation by them shows what the
+-- best solution costs, and is given in the profile of cores alone. Without a fault the search goes
+-- on; there were so many learned lines before, and so many after beside those of the refutation.
+pub record TriesCores (profile : Profile) (p : Problem)
+    (result : Result (Option ByCores) ImproveFault) (old new : Telling) (had left : BudgetState)
+    (s t : Standing) (was now : ℕ) : Type 0 where
+  pub proof : IfOk result (λ f. IfSome f (IsCoreProof p (t.best).cost))
+  pub profile_is : IfOk result (λ f. IfSome f (λ r. profile ≡ Five))
+  pub goes_on : IfOk result (λ f. GoesOn p old new had left s t was (now + by_cores_count f))
+  pub fault : IfErr result (λ e. Fails p e old new had left s)

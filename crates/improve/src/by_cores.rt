@@ -12,7 +12,7 @@ ghost use Rattle.improve.specs.declared.by_cores.TheConstants.{MOST_RESERVED};
 ghost use Rattle.improve.specs.Improving.{work_count};
 ghost use Rattle.improve.specs.Progress.{CanFail};
 ghost use Rattle.improve.specs.Standing.{IsStanding, IsEarlyWork, HasNoCores, GoesOn, Fails};
-ghost use Rattle.improve.specs.Standing.{IsCoreProof, AreFeasible, by_cores_count};
+ghost use Rattle.improve.specs.Standing.{IsCoreProof, AreFeasible, TriesCores, by_cores_count};
 ghost use Rattle.improve.specs.Watch.{AreShown};
 ghost use Rattle.improve_trials.specs.Trials.{IsShown};
 
@@ -61,16 +61,10 @@ pub fn refute_by_cores<T: Progress, W: Watch>(
     ensures shown { AreShown instance.now (T.state progress.old) (T.state progress.new)
         (W.seen watch.old) (W.seen watch.new) }
     ensures work { OnOk result (IsEarlyWork instance.now work.new) }
-    ensures proof { IfOk result
-        (λ f. IfSome f (IsCoreProof instance.now standing.new.best.cost)) }
-    ensures profile { IfOk result (λ f. IfSome f (λ _. profile ≡ Profile.Five)) }
-    ensures goes_on { IfOk result (λ f. GoesOn instance.now
+    ensures tries { TriesCores profile instance.now result
         (T.state progress.old) (T.state progress.new)
         budget.old budget.new standing.old standing.new
-        (work_count work.old) (work_count work.new + by_cores_count f)) }
-    ensures fault { IfErr result (λ e. Fails instance.now e
-        (T.state progress.old) (T.state progress.new)
-        budget.old budget.new standing.old) }
+        (work_count work.old) (work_count work.new) }
 {
     let plan = if watch.wants_bounds() {
         FOR_BOUNDS
@@ -257,16 +251,10 @@ pub(crate) fn refute<T: Progress, W: Watch>(
         (W.seen watch.old) (W.seen watch.new) }
     ensures work { OnOk result (IsEarlyWork instance.now work.new) }
     ensures search { OnOk result (work.new.search ≡ work.old.search) }
-    ensures proof { IfOk result
-        (λ f. IfSome f (IsCoreProof instance.now standing.new.best.cost)) }
-    ensures profile { IfOk result (λ f. IfSome f (λ _. profile ≡ Profile.Five)) }
-    ensures goes_on { IfOk result (λ f. GoesOn instance.now
+    ensures tries { TriesCores profile instance.now result
         (T.state progress.old) (T.state progress.new)
         budget.old budget.new standing.old standing.new
-        (work_count work.old) (work_count work.new + by_cores_count f)) }
-    ensures fault { IfErr result (λ e. Fails instance.now e
-        (T.state progress.old) (T.state progress.new)
-        budget.old budget.new standing.old) }
+        (work_count work.old) (work_count work.new) }
 {
     let aim = Aim {
         best: standing.best.cost,

@@ -2,15 +2,13 @@
 //! refutation by its cores is tried. For the optimum there is one stage, and its cores have to be
 //! worth what the best solution costs. Where lower bounds are wanted there are more, and any cores
 //! are tried. So a bound is there soon, and better ones come later.
-ghost use Rattle.std.specs.Prelude.{◌≡◌, ◌+◌, ◌<◌};
-ghost use Rattle.std.specs.Prelude.{IfOk, IfErr, IfSome, OnOk};
+ghost use Rattle.std.specs.Prelude.{◌≡◌, ◌+◌, ◌<◌, IfSome, OnOk};
 ghost use Rattle.lrat_log.specs.Steps.{learned_count};
 ghost use Rattle.improve_cores.specs.CoreWork.{IsSearchFor};
 ghost use Rattle.improve_cores.specs.Events.{AreRightCores};
 ghost use Rattle.improve.specs.Improving.{work_count};
 ghost use Rattle.improve.specs.Progress.{CanFail};
-ghost use Rattle.improve.specs.Standing.{IsStanding, IsEarlyWork, GoesOn, Fails};
-ghost use Rattle.improve.specs.Standing.{IsCoreProof, by_cores_count};
+ghost use Rattle.improve.specs.Standing.{IsStanding, IsEarlyWork, TriesCores};
 ghost use Rattle.improve.specs.Watch.{AreShown};
 
 use crate::by_cores::{close_gap, refute, take_cores};
@@ -93,17 +91,11 @@ pub(crate) fn run_stages<T: Progress, W: Watch>(
     ensures work { OnOk result (IsEarlyWork instance.now work.new) }
     ensures same { OnOk result (work.new.search ≡ work.old.search) }
     ensures search { IsSearchFor instance.now search.new }
-    ensures proof { IfOk result
-        (λ f. IfSome f (IsCoreProof instance.now standing.new.best.cost)) }
-    ensures profile { IfOk result (λ f. IfSome f (λ _. profile ≡ Profile.Five)) }
-    ensures goes_on { IfOk result (λ f. GoesOn instance.now
+    ensures tries { TriesCores profile instance.now result
         (T.state progress.old) (T.state progress.new)
         budget.old budget.new standing.old standing.new
         (work_count work.old + learned_count search.old.lines)
-        (work_count work.new + learned_count search.new.lines + by_cores_count f)) }
-    ensures fault { IfErr result (λ e. Fails instance.now e
-        (T.state progress.old) (T.state progress.new)
-        budget.old budget.new standing.old) }
+        (work_count work.new + learned_count search.new.lines) }
 {
     let mut stage = StageState {
         plan,
@@ -145,17 +137,11 @@ fn run_stage<T: Progress, W: Watch>(
     ensures work { OnOk result (IsEarlyWork instance.now work.new) }
     ensures same { OnOk result (work.new.search ≡ work.old.search) }
     ensures search { IsSearchFor instance.now search.new }
-    ensures proof { IfOk result
-        (λ f. IfSome f (IsCoreProof instance.now standing.new.best.cost)) }
-    ensures profile { IfOk result (λ f. IfSome f (λ _. profile ≡ Profile.Five)) }
-    ensures goes_on { IfOk result (λ f. GoesOn instance.now
+    ensures tries { TriesCores profile instance.now result
         (T.state progress.old) (T.state progress.new)
         budget.old budget.new standing.old standing.new
         (work_count work.old + learned_count search.old.lines)
-        (work_count work.new + learned_count search.new.lines + by_cores_count f)) }
-    ensures fault { IfErr result (λ e. Fails instance.now e
-        (T.state progress.old) (T.state progress.new)
-        budget.old budget.new standing.old) }
+        (work_count work.new + learned_count search.new.lines) }
 {
     let plan = stage.plan;
     search.allow(stage.more.min(budget.left() / 2), plan.patience);

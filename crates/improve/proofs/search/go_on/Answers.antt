@@ -18,17 +18,17 @@ returns-in_err-by_cores-clause-ends g c =
     (ends_failing c.args.profile c.args.instance.now _ (g.T.Progress.state c.args.progress.now)
     (g.T.Progress.state c.refute_by_cores.new.progress) c.args.budget.now
     c.refute_by_cores.new.budget c.args.standing (work_count c.args.work)
-    c.in_err-by_cores.ensures.fault)
+    c.in_err-by_cores.ensures.tries.fault)
 
 pub returns-in-Some-clause-ends : goal.returns-in-Some-clause-ends
 returns-in-Some-clause-ends g c =
     let p = c.args.instance.now in
-    let a = rw c.in-Some.is at c.in_ok-by_cores.ensures.goes_on in
+    let a = rw c.in-Some.is at c.in_ok-by_cores.ensures.tries.goes_on in
     let s = c.refute_by_cores.new.standing in
     let r = c.conclude_cores in
     let lines = learned_count c.in-Some.by_cores.log in
     let n = work_count c.refute_by_cores.new.work + lines in
-    let five = rw c.in-Some.is at c.in_ok-by_cores.ensures.profile in
+    let five = rw c.in-Some.is at c.in_ok-by_cores.ensures.tries.profile_is in
     ends_after p _ _ _ _ _ _ _ _ _ _ a c.args.profile (Ok r.result) (work_count c.args.work) n
     (omega arith)
     (ends_found c.args.profile Five p (Ok r.result)
@@ -40,14 +40,22 @@ returns-in-Some-clause-ends g c =
     (on_work_weaker (Ok r.result) (λ w. ⊥) (λ w. left_of c.refute_by_cores.new.budget ≡ 0)
     (λ w x. absurd x) r.ensures.work))
 
+pub conclude_cores-requires-clause-proof : goal.conclude_cores-requires-clause-proof
+conclude_cores-requires-clause-proof g c =
+    rw c.in-Some.is at c.in_ok-by_cores.ensures.tries.proof
+
+pub conclude_cores-requires-clause-solution : goal.conclude_cores-requires-clause-solution
+conclude_cores-requires-clause-solution g c =
+    let a = rw c.in-Some.is at c.in_ok-by_cores.ensures.tries.goes_on in a.standing.solution
+
 pub lower_by_bounds-requires-clause-failures : goal.lower_by_bounds-requires-clause-failures
 lower_by_bounds-requires-clause-failures g c =
-    let a = rw c.in-None.is at c.in_ok-by_cores.ensures.goes_on in
+    let a = rw c.in-None.is at c.in_ok-by_cores.ensures.tries.goes_on in
     omega (arith, c.requires.failures, a.failures)
 
 pub lower_by_bounds-requires-clause-standing : goal.lower_by_bounds-requires-clause-standing
 lower_by_bounds-requires-clause-standing g c =
-    let a = rw c.in-None.is at c.in_ok-by_cores.ensures.goes_on in a.standing
+    let a = rw c.in-None.is at c.in_ok-by_cores.ensures.tries.goes_on in a.standing
 
 pub returns-in-None-clause-follows : goal.returns-in-None-clause-follows
 returns-in-None-clause-follows g c =
@@ -56,13 +64,13 @@ returns-in-None-clause-follows g c =
 pub returns-in-None-clause-ends : goal.returns-in-None-clause-ends
 returns-in-None-clause-ends g c =
     let p = c.args.instance.now in
-    let a = rw c.in-None.is at c.in_ok-by_cores.ensures.goes_on in
+    let a = rw c.in-None.is at c.in_ok-by_cores.ensures.tries.goes_on in
     ends_after p _ _ _ _ _ _ _ _ _ _ a c.args.profile c.lower_by_bounds.result
     (work_count c.args.work) (work_count c.refute_by_cores.new.work) (omega arith)
     c.lower_by_bounds.ensures.ends
 
 pub returns-in-None-clause-shown : goal.returns-in-None-clause-shown
 returns-in-None-clause-shown g c =
-    let a = rw c.in-None.is at c.in_ok-by_cores.ensures.goes_on in
+    let a = rw c.in-None.is at c.in_ok-by_cores.ensures.tries.goes_on in
     shown_more c.args.instance.now _ _ _ _ _ _ c.refute_by_cores.ensures.shown a.failures
     c.lower_by_bounds.ensures.shown

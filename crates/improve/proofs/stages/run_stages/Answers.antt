@@ -4,6 +4,7 @@ use Rattle.std.proofs.lemmas.Result.{err_from_is_err_and}
 use Rattle.lrat_log.specs.Steps.{learned_count}
 use Rattle.improve.specs.Improving.{work_count}
 use Rattle.improve.proofs.Standings.{goes_nowhere, goes_further, goes_same, fails_after}
+use Rattle.improve.proofs.StageEnds.{tries_failing, tries_none, tries_after}
 use Rattle.improve.proofs.Shown.{shown_none, shown_more}
 use Rattle.improve.proofs.stages.run_stages.Goals as goal
 
@@ -33,12 +34,13 @@ pub returns-in_err-proof-clause-follows : goal.returns-in_err-proof-clause-follo
 returns-in_err-proof-clause-follows g c =
     λ first h. c.run_stage.ensures.follows first (c.stages.invariant.follows first h)
 
-pub returns-in_err-proof-clause-fault : goal.returns-in_err-proof-clause-fault
-returns-in_err-proof-clause-fault g c =
+pub returns-in_err-proof-clause-tries : goal.returns-in_err-proof-clause-tries
+returns-in_err-proof-clause-tries g c =
     let q = err_from_is_err_and c.from_residual.result c.from_residual.ensures.1 in
     rw (q.1, q.2)
+    (tries_failing c.args.profile c.args.instance.now _ _ _ _ _ _ _ _ _
     (fails_after c.args.instance.now _ _ _ _ _ _ _ _ _ _ c.stages.invariant.goes_on _
-    c.in_err-proof.ensures.fault)
+    c.in_err-proof.ensures.tries.fault))
 
 pub returns-in-Some-clause-follows : goal.returns-in-Some-clause-follows
 returns-in-Some-clause-follows g c =
@@ -47,15 +49,15 @@ returns-in-Some-clause-follows g c =
 pub returns-in-Some-clause-same : goal.returns-in-Some-clause-same
 returns-in-Some-clause-same g c = c.in_ok-proof.ensures.same ∙ c.stages.invariant.same
 
-pub returns-in-Some-clause-goes_on : goal.returns-in-Some-clause-goes_on
-returns-in-Some-clause-goes_on g c =
-    goes_further c.args.instance.now _ _ _ _ _ _ _ _ _ _ _ _ c.stages.invariant.goes_on
-    (rw c.in-Some.is at c.in_ok-proof.ensures.goes_on)
+pub returns-in-Some-clause-tries : goal.returns-in-Some-clause-tries
+returns-in-Some-clause-tries g c =
+    tries_after c.args.profile c.args.instance.now _ _ _ _ _ _ _ _ _ _ _ _ _ _ _ _
+    c.stages.invariant.goes_on (rw c.in-Some.is at c.in_ok-proof.ensures.tries) (omega arith)
 
 pub stages-preserved : goal.stages-preserved
 stages-preserved g c =
     let i = c.stages.invariant in
-    let b = rw c.in-None.is at c.in_ok-proof.ensures.goes_on in
+    let b = rw c.in-None.is at c.in_ok-proof.ensures.tries.goes_on in
     let a = goes_further c.args.instance.now _ _ _ _ _ _ _ _ _ _ _ _ i.goes_on b in
     record {
       work = c.in_ok-proof.ensures.work;
@@ -68,10 +70,9 @@ stages-preserved g c =
           c.run_stage.ensures.shown;
     }
 
-pub returns-clause-goes_on : goal.returns-clause-goes_on
-returns-clause-goes_on g c =
-    let a = c.stages.invariant.goes_on in
-    goes_same c.args.instance.now _ _ _ _ _ _ _ _ _ _ a (omega (arith, a.learned))
+pub returns-clause-tries : goal.returns-clause-tries
+returns-clause-tries g c =
+    tries_none c.args.profile c.args.instance.now _ _ _ _ _ _ _ _ c.stages.invariant.goes_on
 
 pub returns-in_err-proof-clause-shown : goal.returns-in_err-proof-clause-shown
 returns-in_err-proof-clause-shown g c =
