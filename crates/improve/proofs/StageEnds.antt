@@ -1,7 +1,7 @@
 -- How cores were tried, and what a stage has learned: lines of the search for cores, and lines of
 -- the trials.
 use Rattle.std.proofs.Common.{◌≡◌, ℕ, ◌+◌, ◌∙◌, Result, Ok, Err, subst, arith}
-use Rattle.std.specs.Prelude.{Option, Some, None}
+use Rattle.std.specs.Prelude.{Option, None}
 use Rattle.cnf.specs.Problem.{Problem}
 use Rattle.adder.specs.declared.profiles.Profile.{Profile}
 use Rattle.cdcl_order.specs.Budgets.{BudgetState}

@@ -214,21 +214,24 @@ ends_found profile used p result now had left s costs n x y h limit answers lear
 
 -- the solver answered that nothing is below the best solution, or that the budget is spent
 pub descends_last : (p : Problem) (old now : Telling) (had between left : BudgetState)
-    (s : Standing) (best : Solution) (costs : Vec ℕ Global) (b : Bounds) (was : ℕ)
+    (s : Standing) (best : Solution) (costs : Vec ℕ Global) (was : ℕ) (given b : Bounds)
     → GoesOn p old now had between s (record { best = best; earlier = costs }) 0 was
-    → HasLast b costs.items best.cost → left.limit ≡ between.limit
-    → left.answers ≡ between.answers
-    → left.learned + was ≡ between.learned + learned_count (b.solver).sink
+    → HasLast given costs.items best.cost → learned_count (given.solver).sink ≡ was
+    → b.costs ≡ given.costs → left.limit ≡ between.limit → left.answers ≡ between.answers
+    → left.learned + learned_count (given.solver).sink
+    ≡ between.learned + learned_count (b.solver).sink
     → Descends p old now had left s best b
-descends_last p old now had between left s best costs b was a last limit answers learned =
+descends_last p old now had between left s best costs was given b a last none same limit answers
+    learned =
     let t : Standing = record { best = best; earlier = costs } in
     let more = learned_count (b.solver).sink in
     record {
       earlier = costs;
-      last = last;
+      last = ap (λ (v : Vec ℕ Global). v.items) same ∙ last;
       goes_on =
           goes_further p old now now had between left s t t 0 was more a
-          (goes_spent p now between left t was more a.standing limit answers learned);
+          (goes_spent p now between left t was more a.standing limit answers
+          (omega (arith, learned, none)));
     }
 
 -- and what was found then

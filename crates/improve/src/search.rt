@@ -213,9 +213,14 @@ fn lower<T: Progress, W: Watch>(
         before budget.new }
 {
     if tell(instance, progress, watch, &first).is_err() {
+        // Here and below: a call of `drop` is proved once for each type, and the end of a scope
+        // field by field.
+        drop(hard);
+        drop(first);
         return Err(ImproveFault::Progress);
     }
     if first.cost == 0 {
+        drop(hard);
         return conclude_zero(instance, profile, first.bits);
     }
     let standing = Standing {
@@ -253,12 +258,21 @@ fn go_on<T: Progress, W: Watch>(
 {
     let mut standing = standing;
     let mut work = work;
-    let (best, rest) = (&mut standing, &mut work);
-    match refute_by_cores(instance, budget, progress, profile, watch, best, rest)? {
-        Some(by_cores) => Ok(conclude_cores(instance, standing.best, by_cores)),
-        None => lower_by_bounds(
+    let best = &mut standing;
+    let rest = &mut work;
+    match refute_by_cores(instance, budget, progress, profile, watch, best, rest) {
+        Ok(Some(by_cores)) => {
+            drop(work);
+            Ok(conclude_cores(instance, standing.best, by_cores))
+        }
+        Ok(None) => lower_by_bounds(
             instance, budget, progress, profile, watch, standing, work, is_given,
         ),
+        Err(fault) => {
+            drop(work);
+            drop(standing);
+            Err(fault)
+        }
     }
 }
 
@@ -286,12 +300,14 @@ fn lower_by_bounds<T: Progress, W: Watch>(
         budget.old budget.new standing (work_count work) }
 {
     let Ok(mut bounds) = make_bounds(instance, profile, &standing.earlier) else {
+        drop(work);
+        drop(standing);
         return Err(ImproveFault::Memory);
     };
     suggest_given(&mut bounds, &standing.best, is_given);
-    let (best, bound) = (standing.best, &mut bounds);
+    let best = standing.best;
+    let bound = &mut bounds;
     let found = tighten(instance, budget, progress, watch, bound, best, work);
-    // A call of `drop` is proved once for each type, and the end of a scope field by field.
     drop(bounds);
     found
 }
@@ -352,9 +368,16 @@ fn tighten<T: Progress, W: Watch>(
 {
     let mut best = first;
     match descend(instance, budget, progress, watch, bounds, &mut best) {
-        Ok(BoundsEnd::Refuted) => conclude_optimum(instance, bounds, best),
+        Ok(BoundsEnd::Refuted) => {
+            drop(work);
+            conclude_optimum(instance, bounds, best)
+        }
         Ok(BoundsEnd::Spent) => conclude_spent(instance, bounds, best, work),
-        Err(fault) => Err(fault),
+        Err(fault) => {
+            drop(work);
+            drop(best);
+            Err(fault)
+        }
     }
 }
 

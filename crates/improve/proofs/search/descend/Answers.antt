@@ -177,16 +177,11 @@ pub returns-in-Ok-Refuted-clause-descends : goal.returns-in-Ok-Refuted-clause-de
 returns-in-Ok-Refuted-clause-descends g c =
     let next = rw c.in-Ok-Refuted.field-0-is at c.in-Ok-Refuted.ensures.next in
     descends_last c.args.instance.now _ _ _ _ _ _ _ c.loop-bounds.bounds.costs
-    c.solve.new.self (learned_count c.loop-bounds.bounds.solver.sink)
+    (learned_count c.loop-bounds.bounds.solver.sink) c.add.new.self c.solve.new.self
     c.loop-bounds.invariant.goes_on
-    (ap (λ (v : Vec ℕ Global). v.items) c.solve.ensures.costs
-    ∙ on_ok_at c.add.result c.if-is_err.ensures.value c.add.ensures.costs)
-    c.solve.ensures.limit next.answers
-    (omega (
-      arith,
-      c.solve.ensures.learned,
-      on_ok_at c.add.result c.if-is_err.ensures.value c.add.ensures.learned,
-    ))
+    (on_ok_at c.add.result c.if-is_err.ensures.value c.add.ensures.costs)
+    (on_ok_at c.add.result c.if-is_err.ensures.value c.add.ensures.learned)
+    c.solve.ensures.costs c.solve.ensures.limit next.answers c.solve.ensures.learned
 
 pub returns-in-Ok-Spent-clause-profile : goal.returns-in-Ok-Spent-clause-profile
 returns-in-Ok-Spent-clause-profile g c =
@@ -198,16 +193,11 @@ pub returns-in-Ok-Spent-clause-descends : goal.returns-in-Ok-Spent-clause-descen
 returns-in-Ok-Spent-clause-descends g c =
     let next = rw c.in-Ok-Spent.field-0-is at c.in-Ok-Spent.ensures.next in
     descends_last c.args.instance.now _ _ _ _ _ _ _ c.loop-bounds.bounds.costs
-    c.solve.new.self (learned_count c.loop-bounds.bounds.solver.sink)
+    (learned_count c.loop-bounds.bounds.solver.sink) c.add.new.self c.solve.new.self
     c.loop-bounds.invariant.goes_on
-    (ap (λ (v : Vec ℕ Global). v.items) c.solve.ensures.costs
-    ∙ on_ok_at c.add.result c.if-is_err.ensures.value c.add.ensures.costs)
-    c.solve.ensures.limit next.answers
-    (omega (
-      arith,
-      c.solve.ensures.learned,
-      on_ok_at c.add.result c.if-is_err.ensures.value c.add.ensures.learned,
-    ))
+    (on_ok_at c.add.result c.if-is_err.ensures.value c.add.ensures.costs)
+    (on_ok_at c.add.result c.if-is_err.ensures.value c.add.ensures.learned)
+    c.solve.ensures.costs c.solve.ensures.limit next.answers c.solve.ensures.learned
 
 pub returns-in-Ok-Refuted-clause-end : goal.returns-in-Ok-Refuted-clause-end
 returns-in-Ok-Refuted-clause-end g c =

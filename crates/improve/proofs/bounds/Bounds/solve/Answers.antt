@@ -3,7 +3,7 @@ use Rattle.std.proofs.Common.{subst, arith}
 use Rattle.std.proofs.lemmas.Bool.{false≢true}
 use Rattle.lrat_log.specs.Steps.{IsAcceptedLog}
 use Rattle.improve.proofs.CheaperBits.{bits_cheaper, cost_cheaper, bits_long, zero_refuted}
-use Rattle.improve.proofs.CheaperBits.{above_zero, same_given, solved_over}
+use Rattle.improve.proofs.CheaperBits.{above_zero, same_given, solved_over, learned_more}
 use Rattle.improve.proofs.bounds.Bounds.solve.Goals as goal
 
 pub price-requires-clause-long : goal.price-requires-clause-long
@@ -79,3 +79,27 @@ returns-in-Limit-clause-over g c =
     let s = c.solve_watched.ensures.solves in
     solved_over c.args.instance.now c.args.self.now c.solve_watched.new.self c.requires.over
     s.given (λ f. false≢true (c.in-Ok.ensures.solves.fails.1 f)) s.lines s.grows s.new
+
+pub returns-in_default-clause-learned : goal.returns-in_default-clause-learned
+returns-in_default-clause-learned g c =
+    let s = c.solve_watched.ensures.solves in
+    learned_more c.args.self.now.solver.sink c.solve_watched.new.self.sink
+    c.args.budget.now.learned c.solve_watched.new.budget.learned s.grows s.learned
+
+pub returns-in-Sat-clause-learned : goal.returns-in-Sat-clause-learned
+returns-in-Sat-clause-learned g c =
+    let s = c.solve_watched.ensures.solves in
+    learned_more c.args.self.now.solver.sink c.solve_watched.new.self.sink
+    c.args.budget.now.learned c.solve_watched.new.budget.learned s.grows s.learned
+
+pub returns-in-Unsat-clause-learned : goal.returns-in-Unsat-clause-learned
+returns-in-Unsat-clause-learned g c =
+    let s = c.solve_watched.ensures.solves in
+    learned_more c.args.self.now.solver.sink c.solve_watched.new.self.sink
+    c.args.budget.now.learned c.solve_watched.new.budget.learned s.grows s.learned
+
+pub returns-in-Limit-clause-learned : goal.returns-in-Limit-clause-learned
+returns-in-Limit-clause-learned g c =
+    let s = c.solve_watched.ensures.solves in
+    learned_more c.args.self.now.solver.sink c.solve_watched.new.self.sink
+    c.args.budget.now.learned c.solve_watched.new.budget.learned s.grows s.learned
