@@ -557,16 +557,23 @@ fn conclude_spent(
     ensures fault { IfErr result (λ e. e ≡ ImproveFault.Memory) }
 {
     match bounds.rebase_log(instance) {
-        Ok(bound) => Ok(Found::Best {
-            cost: best.cost,
-            bits: best.bits,
-            work: Work {
-                hard: work.hard,
-                bound,
-                search: work.search,
-                tried: work.tried,
-            },
-        }),
-        Err(AllocError) => Err(ImproveFault::Memory),
+        Ok(bound) => {
+            drop(work.bound);
+            Ok(Found::Best {
+                cost: best.cost,
+                bits: best.bits,
+                work: Work {
+                    hard: work.hard,
+                    bound,
+                    search: work.search,
+                    tried: work.tried,
+                },
+            })
+        }
+        Err(AllocError) => {
+            drop(work);
+            drop(best);
+            Err(ImproveFault::Memory)
+        }
     }
 }

@@ -68,6 +68,17 @@ returns-in_ok-note_model-in-Model-clause-tries g c =
     c.refute.ensures.answers (omega (arith, c.in-Ok.ensures.spends, lines)))
     c.in_ok-note_model-in-Model.ensures.goes_on)
 
+pub end_refutation-requires : goal.end_refutation-requires
+end_refutation-requires g c = record {
+  work = record {
+    hard = c.requires.work.hard;
+    no_bound = c.requires.work.no_bound;
+    search = c.requires.work.search;
+    tried = c.in-Ok.ensures.tried;
+  };
+  shown = rw c.in-Refuted.is at c.in-Ok.ensures.attempt;
+}
+
 pub returns-in_default-end_refutation-clause-tries :
     goal.returns-in_default-end_refutation-clause-tries
 returns-in_default-end_refutation-clause-tries g c =

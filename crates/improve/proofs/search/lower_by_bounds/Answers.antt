@@ -39,3 +39,9 @@ pub returns-in_default-clause-shown : goal.returns-in_default-clause-shown
 returns-in_default-clause-shown g c =
     shown_none c.args.instance.now (g.T.Progress.state c.args.progress.now)
     (g.W.SearchWatch.seen c.args.watch.now)
+
+pub tighten-found-requires-clause-over : goal.tighten-found-requires-clause-over
+tighten-found-requires-clause-over g c = rw c.suggest_given.ensures c.in-Ok.ensures.over
+
+pub tighten-found-requires-clause-learned : goal.tighten-found-requires-clause-learned
+tighten-found-requires-clause-learned g c = rw c.suggest_given.ensures c.in-Ok.ensures.learned

@@ -63,3 +63,24 @@ returns-in-Err-clause-ends g c =
     c.args.budget.now c.descend.new.budget
     (record { best = c.args.first; earlier = c.args.bounds.now.costs }) (work_count c.args.work)
     c.in-Err.ensures.fails
+
+pub conclude_optimum-requires-clause-over : goal.conclude_optimum-requires-clause-over
+conclude_optimum-requires-clause-over g c = c.in-Ok-Refuted.ensures.over
+
+pub conclude_optimum-requires-clause-refuted : goal.conclude_optimum-requires-clause-refuted
+conclude_optimum-requires-clause-refuted g c =
+    rw c.in-Ok-Refuted.field-0-is at c.in-Ok-Refuted.ensures.end
+
+pub conclude_spent-requires-clause-over : goal.conclude_spent-requires-clause-over
+conclude_spent-requires-clause-over g c = c.in-Ok-Spent.ensures.over
+
+pub conclude_spent-requires-clause-open : goal.conclude_spent-requires-clause-open
+conclude_spent-requires-clause-open g c =
+    let end = rw c.in-Ok-Spent.field-0-is at c.in-Ok-Spent.ensures.end in end.open_end
+
+pub conclude_spent-requires-clause-above : goal.conclude_spent-requires-clause-above
+conclude_spent-requires-clause-above g c =
+    let end = rw c.in-Ok-Spent.field-0-is at c.in-Ok-Spent.ensures.end in end.above_zero
+
+pub conclude_spent-requires-clause-work : goal.conclude_spent-requires-clause-work
+conclude_spent-requires-clause-work g c = c.requires.work
