@@ -6,7 +6,7 @@ use adder::profiles::Profile;
 use clap::builder::ValueParser;
 use clap::{Arg, ArgAction, Command, Error};
 use cnf::limits::NUMBER_LIMIT;
-use std::alloc::Global;
+use std::alloc::{AllocError, Global};
 
 /// The greatest cost: weights of an instance sum to less than 2^62.
 pub const MOST_COST: u64 = NUMBER_LIMIT - 1;
@@ -271,6 +271,8 @@ With --profile 5: prints the formula that the lines of CERTIFICATE
 after its core lines refute, if they show that nothing costs less than
 COST";
 
+const RESULT_HELP: &str = "The result, as a solver printed it: o, s and v lines";
+
 /// The command that solves an instance.
 pub const SOLVE: &str = "solve";
 
@@ -319,14 +321,6 @@ pub const PROGRESS_OPTION: &str = "progress";
 /// The profile, which says which clauses stand for 'cheaper'.
 pub const PROFILE_OPTION: &str = "profile";
 
-/// A word that has to be there.
-fn make_positional<'a>(alloc: Global, id: &'a str, help: &'a str) -> Arg<'a> {
-    Arg::new(alloc, id)
-        .required(true)
-        .action(ArgAction::Set)
-        .help(help)
-}
-
 /// The names of the profiles.
 const PROFILES: [&str; 5] = ["1", "2", "3", "4", "5"];
 
@@ -335,26 +329,6 @@ pub const ANY: &str = "any";
 
 /// The names that `check` takes.
 const PROFILES_OR_ANY: [&str; 6] = ["1", "2", "3", "4", "5", ANY];
-
-/// Which clauses say 'cheaper': `check` wants the profile that the certificate was made in.
-fn make_profile<'a>(alloc: Global) -> Arg<'a> {
-    Arg::new(alloc, PROFILE_OPTION)
-        .long(PROFILE_OPTION)
-        .value_name("1|2|3|4|5")
-        .value_parser(ValueParser::Names(&PROFILES))
-        .hide_possible_values(true)
-        .help(PROFILE_HELP)
-}
-
-/// As `make_profile`, or each in turn.
-fn make_profile_or_any<'a>(alloc: Global) -> Arg<'a> {
-    Arg::new(alloc, PROFILE_OPTION)
-        .long(PROFILE_OPTION)
-        .value_name("1|2|3|4|5|any")
-        .value_parser(ValueParser::Names(&PROFILES_OR_ANY))
-        .hide_possible_values(true)
-        .help(PROFILE_OR_ANY_HELP)
-}
 
 /// The profile of this name, a digit from 1 to 5.
 pub fn pick_profile(name: &str) -> Option<Profile>
@@ -370,145 +344,293 @@ pub fn pick_profile(name: &str) -> Option<Profile>
     }
 }
 
-/// An option with a value.
-fn make_option<'a>(alloc: Global, id: &'a str, value: &'a str, help: &'a str) -> Arg<'a> {
-    Arg::new(alloc, id).long(id).value_name(value).help(help)
+/// What a command takes.
+#[derive(Clone, Copy)]
+struct Parameter<'a> {
+    /// Its name.
+    id: &'a str,
+    /// How it is given.
+    form: Form<'a>,
+    /// What its value has to be.
+    values: ValueParser<'a>,
+    /// Its value if it is not given: one, or none.
+    default: &'a [&'a str],
+    /// What help says of it.
+    help: &'a str,
 }
 
-/// The effort.
-fn make_conflicts<'a>(alloc: Global) -> Arg<'a> {
-    make_option(alloc, CONFLICTS_OPTION, "N", CONFLICTS_HELP)
-        .value_parser(ValueParser::unsigned(0, MOST_CONFLICTS))
-        .default_value("1000000000")
+/// How a parameter is given.
+#[derive(Clone, Copy)]
+enum Form<'a> {
+    /// As a word at its place.
+    Word {
+        /// Whether it has to be there.
+        required: bool,
+    },
+    /// By `--`, its name and a value, which help calls so.
+    Option(&'a str),
+    /// By `--` and its name.
+    Flag,
 }
 
-/// Whether the search tells how far it is.
-fn make_progress<'a>(alloc: Global) -> Arg<'a> {
-    Arg::new(alloc, PROGRESS_OPTION)
-        .long(PROGRESS_OPTION)
-        .action(ArgAction::SetTrue)
-        .help(PROGRESS_HELP)
+/// What the program can be asked for.
+#[derive(Clone, Copy)]
+struct Subcommand<'a> {
+    /// Its name.
+    name: &'a str,
+    /// What it does.
+    about: &'a str,
+    /// What it takes.
+    parameters: &'a [Parameter<'a>],
+    /// Whether the help of a parameter stands on lines of its own.
+    next_line_help: bool,
+    /// How its help ends.
+    notes: &'a str,
 }
 
-/// The bound of `wmax encode`.
-fn make_cost<'a>(alloc: Global) -> Arg<'a> {
-    make_positional(
-        alloc,
-        COST,
-        "The bound: the formula says 'cheaper than COST'",
-    )
-    .value_parser(ValueParser::unsigned(0, MOST_COST))
+/// The instance.
+const INSTANCE: Parameter<'static> = Parameter {
+    id: FILE,
+    form: Form::Word { required: true },
+    values: ValueParser::String,
+    default: &[],
+    help: "The instance, a WCNF text",
+};
+
+/// The certificate.
+const CERTIFICATE: Parameter<'static> = Parameter {
+    id: PROOF,
+    form: Form::Word { required: true },
+    values: ValueParser::String,
+    default: &[],
+    help: "The certificate, LRAT as text",
+};
+
+/// Which clauses say 'cheaper': `check` wants the profile that the certificate was made in.
+const PROFILE: Parameter<'static> = Parameter {
+    id: PROFILE_OPTION,
+    form: Form::Option("1|2|3|4|5"),
+    values: ValueParser::Names(&PROFILES),
+    default: &[],
+    help: PROFILE_HELP,
+};
+
+/// What `wmax solve` takes.
+const SOLVE_PARAMETERS: [Parameter<'static>; 8] = [
+    Parameter {
+        id: CONFLICTS_OPTION,
+        form: Form::Option("N"),
+        values: ValueParser::Unsigned(0, MOST_CONFLICTS),
+        default: &["1000000000"],
+        help: CONFLICTS_HELP,
+    },
+    Parameter {
+        id: PROOF_OPTION,
+        form: Form::Option("PATH"),
+        values: ValueParser::String,
+        default: &[],
+        help: PROOF_HELP,
+    },
+    Parameter {
+        id: BEST_OPTION,
+        form: Form::Option("PATH"),
+        values: ValueParser::String,
+        default: &[],
+        help: BEST_HELP,
+    },
+    Parameter {
+        id: LOWER_OPTION,
+        form: Form::Option("PATH"),
+        values: ValueParser::String,
+        default: &[],
+        help: LOWER_HELP,
+    },
+    Parameter {
+        id: FROM_OPTION,
+        form: Form::Option("RESULT"),
+        values: ValueParser::String,
+        default: &[],
+        help: FROM_HELP,
+    },
+    Parameter {
+        id: PROGRESS_OPTION,
+        form: Form::Flag,
+        values: ValueParser::Bool,
+        default: &[],
+        help: PROGRESS_HELP,
+    },
+    PROFILE,
+    INSTANCE,
+];
+
+/// What `wmax check` takes.
+const CHECK_PARAMETERS: [Parameter<'static>; 4] = [
+    INSTANCE,
+    Parameter {
+        id: RESULT,
+        form: Form::Word { required: true },
+        values: ValueParser::String,
+        default: &[],
+        help: RESULT_HELP,
+    },
+    CERTIFICATE,
+    Parameter {
+        id: PROFILE_OPTION,
+        form: Form::Option("1|2|3|4|5|any"),
+        values: ValueParser::Names(&PROFILES_OR_ANY),
+        default: &[],
+        help: PROFILE_OR_ANY_HELP,
+    },
+];
+
+/// What `wmax lower` takes.
+const LOWER_PARAMETERS: [Parameter<'static>; 2] = [INSTANCE, CERTIFICATE];
+
+/// What `wmax explain` takes.
+const EXPLAIN_PARAMETERS: [Parameter<'static>; 3] = [
+    INSTANCE,
+    Parameter {
+        id: RESULT,
+        form: Form::Word { required: false },
+        values: ValueParser::String,
+        default: &[],
+        help: RESULT_HELP,
+    },
+    Parameter {
+        id: PROOF,
+        form: Form::Word { required: false },
+        values: ValueParser::String,
+        default: &[],
+        help: "A certificate of a lower bound, as solve --lower keeps it",
+    },
+];
+
+/// What `wmax encode` takes.
+const ENCODE_PARAMETERS: [Parameter<'static>; 4] = [
+    INSTANCE,
+    Parameter {
+        id: COST,
+        form: Form::Word { required: true },
+        values: ValueParser::Unsigned(0, MOST_COST),
+        default: &[],
+        help: "The bound: the formula says 'cheaper than COST'",
+    },
+    Parameter {
+        id: PROOF_OPTION,
+        form: Form::Option("CERTIFICATE"),
+        values: ValueParser::String,
+        default: &[],
+        help: CERTIFICATE_HELP,
+    },
+    PROFILE,
+];
+
+/// The commands, in the order of the help.
+const SUBCOMMANDS: [Subcommand<'static>; 5] = [
+    Subcommand {
+        name: SOLVE,
+        about: "Finds a solution of least cost, and proves that nothing is cheaper",
+        parameters: &SOLVE_PARAMETERS,
+        next_line_help: true,
+        notes: SOLVE_NOTES,
+    },
+    Subcommand {
+        name: CHECK,
+        about: "Checks a result and the certificate that proves it",
+        parameters: &CHECK_PARAMETERS,
+        next_line_help: true,
+        notes: CHECK_NOTES,
+    },
+    Subcommand {
+        name: LOWER,
+        about: "Prints the lower bound that an LRAT certificate proves by itself",
+        parameters: &LOWER_PARAMETERS,
+        next_line_help: false,
+        notes: LOWER_NOTES,
+    },
+    Subcommand {
+        name: EXPLAIN,
+        about: "Says what a result gives up and breaks, or how large an instance is",
+        parameters: &EXPLAIN_PARAMETERS,
+        next_line_help: false,
+        notes: EXPLAIN_NOTES,
+    },
+    Subcommand {
+        name: ENCODE,
+        about: "Prints the formula that a certificate refutes, as DIMACS CNF",
+        parameters: &ENCODE_PARAMETERS,
+        next_line_help: true,
+        notes: ENCODE_NOTES,
+    },
+];
+
+/// A parameter as `clap` has it.
+fn make_arg<'a>(alloc: Global, parameter: &Parameter<'a>) -> Arg<'a> {
+    let arg = Arg::new(alloc, parameter.id)
+        .value_parser(parameter.values)
+        .hide_possible_values(true)
+        .default_values(parameter.default)
+        .help(parameter.help);
+    match parameter.form {
+        Form::Word { required } => arg.required(required),
+        Form::Option(value) => arg.long(parameter.id).value_name(value),
+        Form::Flag => arg.long(parameter.id).action(ArgAction::SetTrue),
+    }
 }
 
-/// `wmax solve`. The error, here and below, is want of memory.
-fn make_solve<'a>(alloc: Global) -> Result<Command<'a>, Error> {
-    let args = vec![in alloc;
-        make_conflicts(alloc),
-        make_option(alloc, PROOF_OPTION, "PATH", PROOF_HELP),
-        make_option(alloc, BEST_OPTION, "PATH", BEST_HELP),
-        make_option(alloc, LOWER_OPTION, "PATH", LOWER_HELP),
-        make_option(alloc, FROM_OPTION, "RESULT", FROM_HELP),
-        make_progress(alloc),
-        make_profile(alloc),
-        make_positional(alloc, FILE, "The instance, a WCNF text"),
-    ]?;
-    let command = Command::new(alloc, SOLVE)
-        .about("Finds a solution of least cost, and proves that nothing is cheaper")
-        .after_help(SOLVE_NOTES)
-        .next_line_help(true);
-    Ok(command.args(args)?)
-}
-
-/// `wmax check`.
-fn make_check<'a>(alloc: Global) -> Result<Command<'a>, Error> {
-    let args = vec![in alloc;
-        make_positional(alloc, FILE, "The instance, a WCNF text"),
-        make_positional(
-            alloc,
-            RESULT,
-            "The result, as a solver printed it: o, s and v lines",
-        ),
-        make_positional(alloc, PROOF, "The certificate, LRAT as text"),
-        make_profile_or_any(alloc),
-    ]?;
-    let command = Command::new(alloc, CHECK)
-        .about("Checks a result and the certificate that proves it")
-        .after_help(CHECK_NOTES)
-        .next_line_help(true);
-    Ok(command.args(args)?)
-}
-
-/// `wmax lower`.
-fn make_lower<'a>(alloc: Global) -> Result<Command<'a>, Error> {
-    let args = vec![in alloc;
-        make_positional(alloc, FILE, "The instance, a WCNF text"),
-        make_positional(alloc, PROOF, "The certificate, LRAT as text"),
-    ]?;
-    let command = Command::new(alloc, LOWER)
-        .about("Prints the lower bound that an LRAT certificate proves by itself")
-        .after_help(LOWER_NOTES);
-    Ok(command.args(args)?)
-}
-
-/// `wmax explain`.
-fn make_explain<'a>(alloc: Global) -> Result<Command<'a>, Error> {
-    let args = vec![in alloc;
-        make_positional(alloc, FILE, "The instance, a WCNF text"),
-        Arg::new(alloc, RESULT)
-            .action(ArgAction::Set)
-            .help("The result, as a solver printed it: o, s and v lines"),
-        Arg::new(alloc, PROOF).action(ArgAction::Set).help(
-            "A certificate of a lower bound, as solve --lower keeps it"
-        ),
-    ]?;
-    let command = Command::new(alloc, EXPLAIN)
-        .about("Says what a result gives up and breaks, or how large an instance is")
-        .after_help(EXPLAIN_NOTES);
-    Ok(command.args(args)?)
-}
-
-/// `wmax encode`.
-fn make_encode<'a>(alloc: Global) -> Result<Command<'a>, Error> {
-    let args = vec![in alloc;
-        make_positional(alloc, FILE, "The instance, a WCNF text"),
-        make_cost(alloc),
-        make_option(alloc, PROOF_OPTION, "CERTIFICATE", CERTIFICATE_HELP),
-        make_profile(alloc),
-    ]?;
-    let command = Command::new(alloc, ENCODE)
-        .about("Prints the formula that a certificate refutes, as DIMACS CNF")
-        .after_help(ENCODE_NOTES)
-        .next_line_help(true);
-    Ok(command.args(args)?)
-}
-
-/// Adds a command to the list, if there was memory for it.
-fn add_command<'a>(
-    commands: &mut Vec<Command<'a>>,
-    command: Result<Command<'a>, Error>,
-) -> Result<(), Error> {
-    commands.push(command?)?;
+/// Adds parameters to a list. The error, here and below, is want of memory.
+fn add_args<'a>(
+    alloc: Global,
+    parameters: &[Parameter<'a>],
+    args: &mut Vec<Arg<'a>>,
+) -> Result<(), AllocError> {
+    for parameter in parameters {
+        args.push(make_arg(alloc, parameter))?;
+    }
     Ok(())
 }
 
-/// Fills the list of what the program can be asked for.
-fn add_commands<'a>(alloc: Global, commands: &mut Vec<Command<'a>>) -> Result<(), Error> {
-    add_command(commands, make_solve(alloc))?;
-    add_command(commands, make_check(alloc))?;
-    add_command(commands, make_lower(alloc))?;
-    add_command(commands, make_explain(alloc))?;
-    add_command(commands, make_encode(alloc))
+/// A command as `clap` has it.
+fn make_subcommand<'a>(
+    alloc: Global,
+    subcommand: &Subcommand<'a>,
+) -> Result<Command<'a>, AllocError> {
+    let mut args = Vec::new(alloc);
+    add_args(alloc, subcommand.parameters, &mut args)?;
+    Command::new(alloc, subcommand.name)
+        .about(subcommand.about)
+        .after_help(subcommand.notes)
+        .next_line_help(subcommand.next_line_help)
+        .args(args)
+}
+
+/// Adds a command to a list.
+fn add_subcommand<'a>(
+    alloc: Global,
+    subcommand: &Subcommand<'a>,
+    commands: &mut Vec<Command<'a>>,
+) -> Result<(), AllocError> {
+    let command = make_subcommand(alloc, subcommand)?;
+    commands.push(command).map_err(AllocError::from)
+}
+
+/// Adds each command to a list.
+fn add_subcommands<'a>(alloc: Global, commands: &mut Vec<Command<'a>>) -> Result<(), AllocError> {
+    for subcommand in &SUBCOMMANDS {
+        add_subcommand(alloc, subcommand, commands)?;
+    }
+    Ok(())
 }
 
 /// The whole command line.
 pub fn make_command<'a>(alloc: Global) -> Result<Command<'a>, Error> {
     let mut commands = Vec::new(alloc);
-    add_commands(alloc, &mut commands)?;
+    add_subcommands(alloc, &mut commands)?;
     let all = Command::new(alloc, "wmax")
         .about("Certified weighted partial MaxSAT")
         .version(VERSION)
         .after_help(NOTES)
         .subcommand_required(true)
         .disable_help_subcommand(true);
-    Ok(all.subcommands(commands)?)
+    all.subcommands(commands).map_err(Error::from)
 }
