@@ -133,6 +133,12 @@ pub record EndsAs (profile : Profile) (text out out' proof proof' : Option (List
   pub proof_grows : Appends proof proof' proved
   pub run : IsRun profile text status written proved old new
 
+-- the text reads as this instance, and as no other
+abbrev pub IsReadAs : Option (List ℕ) → Problem → Type 0
+IsReadAs text p =
+    IfSome text (λ bytes. Reads bytes p)
+    × IfSome text (λ bytes. (q : Problem) → Reads bytes q → q ≡ p)
+
 -- a fault of the reader, or the first one of the text
 abbrev pub IsReadFault : Option (List ℕ) → ReadFault → Type 0
 IsReadFault text f =

@@ -1,10 +1,10 @@
 // The run: a text in, a result and its certificate out.
-ghost use Rattle.std.specs.Prelude.{◌≡◌, ◌<◌, IfOk, IfErr, IsTrue};
+ghost use Rattle.std.specs.Prelude.{◌≡◌, ◌<◌, ℕ, List, Option, IfOk, IfErr, IsTrue};
 ghost use Rattle.improve.specs.Improving.{Improves};
 ghost use Rattle.improve.specs.Progress.{CanFail};
 ghost use Rattle.improve.specs.Standing.{AreFeasible};
 ghost use Rattle.improve.specs.Watch.{AreShown};
-ghost use Rattle.report.specs.Running.{EndsAs, Leaves, Searches, outcome_of};
+ghost use Rattle.report.specs.Running.{EndsAs, IsReadAs, Leaves, Searches, outcome_of};
 ghost use Rattle.report.specs.Seen.{IsSeenAs, IsShownFor};
 
 use crate::answering::write_answer;
@@ -150,11 +150,40 @@ pub fn run_from<R: Read, O: Write, P: Write, K: RunWatch>(
         (K.seen keeper.old) (K.seen keeper.new)) }
 {
     let instance = read_from(alloc, input)?;
+    run_on(alloc, &instance, start, budget, out, proof, profile, keeper)
+}
+
+/// As `run_from`, of an instance that was read.
+fn run_on<O: Write, P: Write, K: RunWatch>(
+    alloc: Global,
+    instance: &Instance,
+    start: Option<Vec<bool>>,
+    budget: &mut Budget,
+    out: &mut O,
+    proof: &mut P,
+    profile: Profile,
+    keeper: &mut K,
+) -> Result<Status, RunFault>
+    ensures ok { (text : Option (List ℕ)) → IsReadAs text instance.now
+        → IfOk result (λ status. EndsAs profile text (O.contents out.old) (O.contents out.new)
+        (P.contents proof.old) (P.contents proof.new) status budget.old budget.new) }
+    ensures fault { (text : Option (List ℕ)) → IsReadAs text instance.now
+        → IfErr result (λ fault. Leaves profile fault text (O.contents out.old)
+        (O.contents out.new) (P.contents proof.old) (P.contents proof.new) budget.new) }
+    ensures same_limit { budget.new.limit ≡ budget.old.limit }
+    ensures seen { (text : Option (List ℕ)) → IsReadAs text instance.now
+        → IfOk result (λ status. IsSeenAs profile text (O.contents out.old) (O.contents out.new)
+        status (K.seen keeper.old) (K.seen keeper.new)) }
+{
     instance.limits();
-    let found = find_best(alloc, &instance, start, budget, out, profile, keeper)?;
+    let found = find_best(alloc, instance, start, budget, out, profile, keeper)?;
     keeper.searched(&found);
-    write_answer(&found, out, proof)?;
-    keeper.ended(&instance, &found);
+    if let Err(fault) = write_answer(&found, out, proof) {
+        // By a call: that is proved once, and not field by field among all that is borrowed here.
+        drop(found);
+        return Err(fault);
+    }
+    keeper.ended(instance, &found);
     Ok(Status::of(found))
 }
 

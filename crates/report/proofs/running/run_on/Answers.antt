@@ -5,17 +5,16 @@ use Rattle.cdcl_order.specs.Watch.{with_seen}
 use Rattle.report.specs.Best.{end_of}
 use Rattle.report.proofs.Ends.{proof_room, ends, answer_leaves, search_leaves}
 use Rattle.report.proofs.SeenAs.{seen_as}
-use Rattle.report.proofs.running.run_from.Goals as goal
+use Rattle.report.proofs.running.run_on.Goals as goal
 
 pub returns-in_err-found-clause-fault : goal.returns-in_err-found-clause-fault
-returns-in_err-found-clause-fault g c =
+returns-in_err-found-clause-fault g c text r =
     let held = g.O.Write.contents in
     let p =
-    err_from_is_err_and c.from_residual-in_err-found.result c.from_residual-in_err-found.ensures.1
+    err_from_is_err_and c.from_residual.result c.from_residual.ensures.1
     in
-    let i = c.in_ok-instance in
-    rw (p.1, p.2) (search_leaves c.args.profile (g.R.Read.remaining c.args.input.now) i.instance
-    i.ensures.instance i.ensures.only_one c.args.budget.now c.find_best.new.budget
+    rw (p.1, p.2) (search_leaves c.args.profile text c.args.instance.now
+    r.0 r.1 c.args.budget.now c.find_best.new.budget
     (held c.args.out.now) (held c.find_best.new.out) (g.P.Write.contents c.args.proof.now)
     c.in_err-found.field-0.0 c.in_err-found.ensures.searches)
 
@@ -23,38 +22,32 @@ pub write_answer-requires : goal.write_answer-requires
 write_answer-requires g c =
     let held = g.O.Write.contents in
     let f = c.in_ok-found in
-    proof_room c.args.profile c.in_ok-instance.instance (held c.args.out.now)
+    proof_room c.args.profile c.args.instance.now (held c.args.out.now)
     (held c.find_best.new.out) c.args.budget.now c.find_best.new.budget f.found c.limits.ensures
     f.ensures.searches
 
-pub returns-in_err-write_answer-clause-fault : goal.returns-in_err-write_answer-clause-fault
-returns-in_err-write_answer-clause-fault g c =
+pub returns-in-Err-clause-fault : goal.returns-in-Err-clause-fault
+returns-in-Err-clause-fault g c text r =
     let held = g.O.Write.contents in
     let certified = g.P.Write.contents in
-    let p =
-    err_from_is_err_and c.from_residual-in_err-write_answer.result
-    c.from_residual-in_err-write_answer.ensures.1 in
-    let i = c.in_ok-instance in
     let f = c.in_ok-found in
     let w = c.write_answer in
-    rw (p.1, p.2) (answer_leaves c.args.profile (g.R.Read.remaining c.args.input.now)
-    i.instance i.ensures.instance i.ensures.only_one c.args.budget.now c.find_best.new.budget
-    (held c.args.out.now) (held c.find_best.new.out) (held w.new.out) (certified c.args.proof.now)
-    (certified w.new.proof) f.found f.ensures.searches c.in_err-write_answer.field-0.0
-    c.in_err-write_answer.ensures.fault)
+    answer_leaves c.args.profile text c.args.instance.now r.0 r.1 c.args.budget.now
+    c.find_best.new.budget (held c.args.out.now) (held c.find_best.new.out) (held w.new.out)
+    (certified c.args.proof.now) (certified w.new.proof) f.found f.ensures.searches
+    c.in-Err.fault c.in-Err.ensures.fault
 
 pub returns-clause-ok : goal.returns-clause-ok
-returns-clause-ok g c =
+returns-clause-ok g c text r =
     let held = g.O.Write.contents in
     let certified = g.P.Write.contents in
-    let i = c.in_ok-instance in
     let f = c.in_ok-found in
     let w = c.write_answer in
-    ends c.args.profile (g.R.Read.remaining c.args.input.now) i.instance
-    i.ensures.instance i.ensures.only_one c.args.budget.now c.find_best.new.budget
+    ends c.args.profile text c.args.instance.now
+    r.0 r.1 c.args.budget.now c.find_best.new.budget
     (held c.args.out.now) (held c.find_best.new.out) (held w.new.out) (certified c.args.proof.now)
     (certified w.new.proof) f.found f.ensures.searches c.of.result c.of.ensures
-    c.in_ok-write_answer.ensures.ok
+    c.in_default.ensures.ok
 
 pub ended-requires : goal.ended-requires
 ended-requires g c =
@@ -62,17 +55,16 @@ ended-requires g c =
     (c.args.profile, s.tried, s.found)
 
 pub returns-clause-seen : goal.returns-clause-seen
-returns-clause-seen g c =
+returns-clause-seen g c text r =
     let held = g.O.Write.contents in
     let certified = g.P.Write.contents in
     let seen = g.K.SearchWatch.seen in
-    let i = c.in_ok-instance in
     let f = c.in_ok-found in
     let w = c.write_answer in
-    seen_as c.args.profile (g.R.Read.remaining c.args.input.now) i.instance i.ensures.instance
+    seen_as c.args.profile text c.args.instance.now r.0
     (held c.args.out.now) (held c.find_best.new.out) (held w.new.out) (certified c.args.proof.now)
     (certified w.new.proof) (seen c.args.keeper.now) (seen c.find_best.new.keeper) _ f.found
-    f.ensures.shown c.in_ok-write_answer.ensures.ok
+    f.ensures.shown c.in_default.ensures.ok
     (c.ended.ensures.shown
-    ∙ ap (with_seen (end_of i.instance f.found ∷ [])) c.searched.ensures.quiet) c.of.result
+    ∙ ap (with_seen (end_of c.args.instance.now f.found ∷ [])) c.searched.ensures.quiet) c.of.result
     c.of.ensures
