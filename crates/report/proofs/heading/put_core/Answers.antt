@@ -1,5 +1,5 @@
 -- Where a fault came, a beginning of the line was put.
-use Rattle.std.proofs.Common.{◌≡◌, get_or, append-nil, sym, ap, subst, rules}
+use Rattle.std.proofs.Common.{◌≡◌, ◌∙◌, ◌<◌, ◌≤◌, length, get_or, append-nil, sym, ap, subst}
 use Rattle.std.proofs.lemmas.Result.{err_from_is_err_and}
 use Rattle.std.proofs.lemmas.List.{get_or_default}
 use Rattle.cores.specs.Cores.{Core}
@@ -60,9 +60,11 @@ returns-in_err-put_word-3 g c =
     ap (λ (k : Core). k.inputs) c.core.view_is in
     let inputs = (c.args.core.now).inputs in
     let i = c.loop-input.input-index in
+    let is = c.deref-input-items.ensures.value ∙ x in
+    let lt = subst (λ z. i < length z) is c.loop-input-test.true in
     rw (p.1) (input_fault _ _ _ _ _ c.args.core.now i c.loop-input.invariant (get_or inputs i 0)
-    (search rules) (get_or_default inputs i 0 (get_or inputs i 0) (search rules))
-    (rw (c.deref-input-items.ensures.value, x) at c.in_err-put_word-3.ensures))
+    lt (get_or_default inputs i 0 (get_or inputs i 0) lt)
+    (rw is at c.in_err-put_word-3.ensures))
 
 pub loop-input-preserved : goal.loop-input-preserved
 loop-input-preserved g c =
@@ -70,11 +72,17 @@ loop-input-preserved g c =
     ap (λ (k : Core). k.inputs) c.core.view_is in
     let inputs = (c.args.core.now).inputs in
     let i = c.loop-input.input-index in
+    let is = c.deref-input-items.ensures.value ∙ x in
+    let lt = subst (λ z. i < length z) is c.loop-input-test.true in
     input_more _ _ _ _ _ c.args.core.now i c.loop-input.invariant _ (get_or inputs i 0)
-    (search rules) (get_or_default inputs i 0 (get_or inputs i 0) (search rules))
-    (rw (c.deref-input-items.ensures.value, x) at c.in_ok-put_word-3.ensures)
+    lt (get_or_default inputs i 0 (get_or inputs i 0) lt)
+    (rw is at c.in_ok-put_word-3.ensures)
 
 pub returns : goal.returns
 returns g c =
-    line_end _ _ _ _ _ c.args.core.now c.loop-input.input-index c.loop-input.invariant _
-    c.put-2.result (search rules) c.put-2.ensures.puts
+    let x : c.core.inside.inputs.items ≡ (c.args.core.now).inputs =
+    ap (λ (k : Core). k.inputs) c.core.view_is in
+    let i = c.loop-input.input-index in
+    let is = c.deref-input-items.ensures.value ∙ x in
+    line_end _ _ _ _ _ c.args.core.now i c.loop-input.invariant _ c.put-2.result
+    (subst (λ z. length z ≤ i) is c.loop-input-test.false) c.put-2.ensures.puts
