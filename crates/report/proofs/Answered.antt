@@ -1,5 +1,5 @@
 -- What was written of what was found.
-use Rattle.std.proofs.Common.{◌≡◌, ℕ, Bool, List, ◌++◌, Option, Result, Ok, Err, sym, ◌∙◌, ap}
+use Rattle.std.proofs.Common.{◌≡◌, ℕ, Bool, List, [], ◌++◌, Option, Result, Ok, Err, sym, ◌∙◌, ap}
 use Rattle.std.proofs.Common.{true, false, subst}
 use Rattle.std.proofs.lemmas.Bool.{false≢true}
 use Rattle.std.specs.Prelude.{IfErr, IsOk, OnOk, is_ok}
@@ -8,9 +8,9 @@ use Rattle.text.specs.Writing.{AppendsPart, Writes}
 use Rattle.text.proofs.Laws.{part-kept, writes_kept}
 use Rattle.improve.specs.declared.found.Found.{Found}
 use Rattle.report.specs.declared.fault.RunFault.{RunFault}
-use Rattle.report.specs.declared.fault.RunFault.TheVariants.{Output}
+use Rattle.report.specs.declared.fault.RunFault.TheVariants.{Output, ProofOutput}
 use Rattle.report.specs.Answering.{end_text, proof_text, bits_word, words_text}
-use Rattle.report.specs.Answering.{IsSpelledProof, LeavesAnswer, Answers}
+use Rattle.report.specs.Answering.{HasProof, IsSpelledProof, LeavesAnswer, Answers}
 
 -- the words and bits, by what they were told from
 pub end_is : (status words : List ℕ) (bits first last : List Bool)
@@ -58,6 +58,14 @@ module _ (found same : Found) (is : found ≡ same) (a b c d : Option (List ℕ)
       subst (λ f. LeavesAnswer f found a b c d) (sym e)
       (subst (λ f. LeavesAnswer Output f a b c d) (sym is)
       (record { out_part = p; proof_grows = q; spelled = s }))
+
+  pub certificate_left : (fault : RunFault) → fault ≡ ProofOutput → Appends a b []
+      → AppendsPart c d (proof_text same) → HasProof same → IsSpelledProof same
+      → LeavesAnswer fault found a b c d
+  certificate_left fault e k q h s =
+      subst (λ f. LeavesAnswer f found a b c d) (sym e)
+      (subst (λ f. LeavesAnswer ProofOutput f a b c d) (sym is)
+      (record { out_kept = k; proof_part = q; has_proof = h; spelled = s }))
 
   pub answers : Appends a b (end_text same)
       → Appends c d (proof_text same) → IsSpelledProof same → Answers found a b c d

@@ -2,10 +2,42 @@
 use Rattle.std.proofs.Common.{subst}
 use lib.Chars.{codes}
 use Rattle.std.proofs.KnownBytes.{Appends-nil}
+use Rattle.std.proofs.lemmas.Result.{err_from_is_err_and}
 use Rattle.std.specs.Io.KnownBytes.{Appends}
 use Rattle.text.specs.Writing.{AppendsPart}
+use Rattle.report.specs.Answering.{HasProofRoom}
 use Rattle.report.proofs.Answered.{end_is, ok_with, err_with, output_left, answers}
+use Rattle.report.proofs.Answered.{certificate_left}
 use Rattle.report.proofs.answering.write_answer.Goals as goal
+
+pub deliver_headed-requires : goal.deliver_headed-requires
+deliver_headed-requires g c =
+    let room = subst HasProofRoom c.in-Optimum.is c.requires in
+    record { few = room.0.0; ids = room.0.1; numbers = rw c.deref.ensures.value room.1 }
+
+pub deliver_proof-requires : goal.deliver_proof-requires
+deliver_proof-requires g c =
+    let room = subst HasProofRoom c.in-Unsat.is c.requires in
+    record { few = room.0; ids = room.1 }
+
+pub returns-in_err-deliver_headed-in-Optimum-clause-fault
+    : goal.returns-in_err-deliver_headed-in-Optimum-clause-fault
+returns-in_err-deliver_headed-in-Optimum-clause-fault g c =
+    let p = err_from_is_err_and c.from_residual.result c.from_residual.ensures.1 in
+    let k = c.in_err-deliver_headed-in-Optimum.ensures in
+    let part = rw c.deref.ensures.value at k.writes in
+    let spelled = rw c.deref.ensures.value at k.lines in
+    rw (p.1, p.2) (certificate_left c.args.found.now _ c.in-Optimum.is _ _ _ _ _ k.fault
+    (Appends-nil _) part tt spelled)
+
+pub returns-in_err-deliver_proof-in-Unsat-clause-fault
+    : goal.returns-in_err-deliver_proof-in-Unsat-clause-fault
+returns-in_err-deliver_proof-in-Unsat-clause-fault g c =
+    let r = c.from_residual-in_err-deliver_proof-in-Unsat in
+    let p = err_from_is_err_and r.result r.ensures.1 in
+    let k = c.in_err-deliver_proof-in-Unsat.ensures in
+    rw (p.1, p.2) (certificate_left c.args.found.now _ c.in-Unsat.is _ _ _ _ _ k.fault
+    (Appends-nil _) k.writes tt k.lines)
 
 pub returns-in_ok-deliver_headed-in-Optimum-clause-ok
     : goal.returns-in_ok-deliver_headed-in-Optimum-clause-ok
