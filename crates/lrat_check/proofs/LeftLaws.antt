@@ -5,7 +5,6 @@ use Rattle.cnf.specs.Formula.{Cnf, IsUnsatisfiable}
 use Rattle.lrat_check.specs.declared.checking.Left.{Left}
 use Rattle.lrat_check.specs.declared.checking.Left.TheVariants.{Nothing, Proof, Headed}
 use Rattle.lrat_machine.specs.declared.verdicts.Verdict.{Verdict}
-use Rattle.lrat_machine.specs.declared.verdicts.Verdict.TheVariants.{Yes}
 use Rattle.lrat_check.specs.Left.{verdict_left, Shows}
 use Rattle.lrat_check.specs.Checks.{CostsAtLeast}
 use Rattle.lrat_check.specs.Verdict.{headed_verdict, proof_verdict}
@@ -23,10 +22,6 @@ Gives left f = (proof : List ℕ) → verdict_left left proof ≡ f proof
 pub nothing_gives : (left : Left) (v : Verdict) (f : List ℕ → Verdict) → left ≡ Nothing v
     → Gives left f → (proof : List ℕ) → v ≡ f proof
 nothing_gives left v f e h proof = subst (λ l. verdict_left l proof ≡ f proof) e (h proof)
-
-pub nothing_shows : (left : Left) (v : Verdict) (P : Type 0) → left ≡ Nothing v → Shows left P
-    → v ≡ Yes → P
-nothing_shows left v P e h = subst (λ l. Shows l P) e h
 
 pub proof_gives : (left : Left) (g : Cnf) (f : List ℕ → Verdict) → left ≡ Proof g → Gives left f
     → (proof : List ℕ) → proof_verdict g.clauses proof ≡ f proof

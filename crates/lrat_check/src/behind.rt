@@ -1,23 +1,17 @@
 // What follows the head of a certificate: LRAT lines over a formula that the cores make, or over
 // that for a lower cost where there is no core.
-ghost use Rattle.std.specs.Prelude.{◌≡◌, ℕ, ◌+◌, ◌<◌, ◌≤◌, ◌^◌, ◌++◌, [], true, false, List};
-ghost use Rattle.std.specs.Prelude.{length, IfOk, OnOk, Ok};
+ghost use Rattle.std.specs.Prelude.{◌≡◌, ℕ, ◌+◌, ◌<◌, ◌≤◌, ◌^◌, true, false, length, IfOk, Ok};
 ghost use Rattle.cnf.specs.declared.limits.TheConstants.{NUMBER_LIMIT};
 ghost use Rattle.cnf.specs.Formula.{IsUnsatisfiable};
-ghost use Rattle.cnf.specs.Literal.{Literal};
-ghost use Rattle.text.specs.Text.{token_lines};
-ghost use Rattle.lrat_check.specs.CoreLines.{IsHeadOf, end_from};
+ghost use Rattle.lrat_check.specs.CoreLines.{IsHeadOf};
 ghost use Rattle.lrat_check.specs.Checks.{CostsAtLeast};
-ghost use Rattle.lrat_check.specs.Heads.{IsBehind, IsOpenHead, JudgesOver, head_reading};
-ghost use Rattle.lrat_check.specs.Heads.{verdict_ended};
-ghost use Rattle.lrat_check.specs.Pieces.{HasJudged};
-ghost use Rattle.lrat_check.specs.Verdict.{formula_behind, headed_verdict, verdict_at};
+ghost use Rattle.lrat_check.specs.Heads.{IsBehind, JudgesOver, head_reading};
+ghost use Rattle.lrat_check.specs.Verdict.{formula_behind};
 
-use crate::certificate::judge_whole;
-use crate::core_lines::{CoreLines, HeadStep};
+use crate::core_lines::CoreLines;
 use crate::heads::CertificateHead;
 use crate::pieces::Checker;
-use crate::verdicts::{Cause, Verdict};
+use crate::verdicts::CheckFault;
 use adder::profiles::Profile;
 use bound::formulas::{formula_as, formula_of_cores};
 use cnf::types::{Formula, Instance};
@@ -58,7 +52,7 @@ pub(crate) fn checker_behind(
     head: &CertificateHead,
     instance: &Instance,
     cost: u64,
-) -> Result<Option<Checker>, AllocError>
+) -> Result<Option<Checker>, CheckFault>
     requires small { cost ≤ NUMBER_LIMIT }
     requires is { IsHeadOf instance.now head.now.cores }
     requires room { head.now.cores.lines + length head.now.rest < 2 ^ 64 }
@@ -74,80 +68,16 @@ pub(crate) fn checker_behind(
 
 /// The checker over this formula, which has judged the lines of the head as lines without a token,
 /// and what is kept.
-pub(crate) fn checker_over(formula: Formula, head: &CertificateHead) -> Result<Checker, AllocError>
+pub(crate) fn checker_over(formula: Formula, head: &CertificateHead) -> Result<Checker, CheckFault>
     requires { head.now.cores.lines + length head.now.rest < 2 ^ 64 }
     ensures { IfOk result (λ c. JudgesOver formula.clauses (head_reading head.now) c) }
 {
     let mut checker = Checker::behind(formula, head.cores.lines())?;
-    feed_more(&mut checker, head.rest.bytes())?;
-    Ok(checker)
-}
-
-/// Hands the piece to the checker.
-fn feed_more(checker: &mut Checker, piece: &[u8]) -> Result<(), AllocError>
-    requires { checker.old.fed + length piece.now < 2 ^ 64 }
-    ensures judged { OnOk result ((formula : List (List Literal)) (bytes : List ℕ)
-        → HasJudged checker.old formula bytes
-        → HasJudged checker.new formula (bytes ++ piece.now)) }
-    ensures fed { checker.new.fed ≡ checker.old.fed + length piece.now }
-{
-    match checker.feed(piece) {
-        Ok(()) => Ok(()),
-        Err(_) => Err(AllocError),
-    }
-}
-
-/// The verdict, where the head has ended and nothing comes behind what is left.
-pub(crate) fn judge_behind(
-    head: &CertificateHead,
-    instance: &Instance,
-    cost: u64,
-    left: &[u8],
-) -> Result<Verdict, AllocError>
-    requires small { cost ≤ NUMBER_LIMIT }
-    requires is { IsHeadOf instance.now head.now.cores }
-    requires room { head.now.cores.lines + length head.now.rest + length left.now < 2 ^ 64 }
-    requires line { head.now.cores.lines + 1 < 2 ^ 64 }
-    ensures verdict { IfOk result (λ v. v
-        ≡ verdict_ended instance.now cost head.now.cores
-        (token_lines (head.now.rest ++ left.now))) }
-    ensures sound { IfOk result (λ v. v ≡ Verdict.Yes → CostsAtLeast instance.now cost) }
-{
-    match checker_behind(head, instance, cost)? {
-        None => Ok(Verdict::No(Cause::CoreSum, head.cores.lines() + 1)),
-        Some(checker) => judge_whole(checker, left),
-    }
-}
-
-/// The verdict, where the certificate ends with the head.
-fn verdict_at_end(cores: &CoreLines, instance: &Instance, cost: u64) -> Verdict
-    ensures verdict { result ≡ verdict_at instance.now cost (end_from cores.now []) }
-    ensures no { result ≡ Verdict.Yes → ⊥ }
-{
-    if falls_short(cores, cost) {
-        Verdict::No(Cause::CoreSum, 0)
-    } else {
-        Verdict::No(Cause::NoEmptyClause, 0)
-    }
-}
-
-/// The verdict, where nothing follows the pieces of the head.
-pub(crate) fn end_head(
-    head: &mut CertificateHead,
-    instance: &Instance,
-    cost: u64,
-) -> Result<Verdict, AllocError>
-    requires small { cost ≤ NUMBER_LIMIT }
-    requires is { IsHeadOf instance.now head.old.cores }
-    requires room { head.old.cores.lines + length head.old.rest < 2 ^ 64 }
-    ensures verdict { IfOk result (λ v. (bytes : List ℕ)
-        → IsOpenHead instance.now (head_reading head.old) bytes
-        → v ≡ headed_verdict instance.now cost bytes) }
-    ensures sound { IfOk result (λ v. v ≡ Verdict.Yes → CostsAtLeast instance.now cost) }
-{
-    match head.end()? {
-        HeadStep::GoesOn => Ok(verdict_at_end(&head.cores, instance, cost)),
-        HeadStep::Ended => judge_behind(head, instance, cost, &[]),
-        HeadStep::Fails(cause) => Ok(Verdict::No(cause, head.cores.lines() + 1)),
+    match checker.feed(head.rest.bytes()) {
+        Ok(()) => Ok(checker),
+        Err(_) => {
+            drop(checker);
+            Err(CheckFault::Memory)
+        }
     }
 }

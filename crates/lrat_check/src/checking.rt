@@ -9,8 +9,7 @@ ghost use Rattle.lrat_check.specs.Verdict.{verdict_as, said_verdict, bits_fault}
 ghost use Rattle.lrat_check.specs.Left.{verdict_left, Shows};
 ghost use Rattle.lrat_check.specs.Stopping.{StopsInTime};
 
-use crate::certificate::check_owned;
-use crate::headed::{check_headed, check_headed_stream};
+use crate::headed::check_headed_stream;
 use crate::streams::check_stream;
 use crate::verdicts::{Cause, CheckFault, Verdict};
 use adder::profiles::Profile;
@@ -88,11 +87,10 @@ pub fn check_as(
         (λ v. (v ≡ Verdict.Yes) ↔ ChecksAs profile text.now answer.now proof.now) }
     ensures sound { IfOk result (λ v. v ≡ Verdict.Yes → IsTrueResult text.now answer.now) }
 {
-    let left = read_texts(alloc, text, answer, profile)?;
-    match left {
-        Left::Nothing(verdict) => Ok(verdict),
-        Left::Proof(formula) => check_owned(formula, proof),
-        Left::Headed(instance, cost) => check_headed(&instance, cost.cost, proof),
+    let mut left = proof;
+    match check_from_as(alloc, text, answer, &mut left, profile) {
+        Ok(verdict) => Ok(verdict),
+        Err(_) => Err(AllocError),
     }
 }
 
@@ -140,9 +138,7 @@ pub fn check_from_as<R: Read>(
         (R.remaining proof.old) (R.remaining proof.new)) }
     ensures sound { IfOk result (λ v. v ≡ Verdict.Yes → IsTrueResult text.now answer.now) }
 {
-    let Ok(left) = read_texts(alloc, text, answer, profile) else {
-        return Err(CheckFault::Memory);
-    };
+    let left = read_texts(alloc, text, answer, profile)?;
     match left {
         Left::Nothing(verdict) => Ok(verdict),
         Left::Proof(formula) => check_stream(formula, proof),

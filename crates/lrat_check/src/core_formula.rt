@@ -1,5 +1,5 @@
 //! The formula that a certificate with core lines refutes.
-ghost use Rattle.std.specs.Prelude.{◌≡◌, ℕ, ◌+◌, ◌<◌, ◌≤◌, ◌^◌, List, length, IfOk};
+ghost use Rattle.std.specs.Prelude.{◌≡◌, ℕ, ◌+◌, ◌<◌, ◌≤◌, ◌^◌, List, [], length, IfOk};
 ghost use Rattle.cnf.specs.declared.limits.TheConstants.{NUMBER_LIMIT};
 ghost use Rattle.lrat_check.specs.CoreFormula.{refuted};
 ghost use Rattle.lrat_check.specs.CoreLines.{IsHeadOf};
@@ -44,8 +44,24 @@ pub fn core_formula(
         return Ok(RefutedFormula::Formula(formula_as(instance, cost, Profile::Five)?));
     }
     let mut head = CertificateHead::new(instance)?;
+    read_formula(&mut head, instance, cost, proof)
+}
+
+/// The formula, where nothing was read before. It borrows the head, so that none of its exits has
+/// to drop it.
+fn read_formula(
+    head: &mut CertificateHead,
+    instance: &Instance,
+    cost: u64,
+    proof: &[u8],
+) -> Result<RefutedFormula, AllocError>
+    requires small { cost ≤ NUMBER_LIMIT }
+    requires open { IsOpenHead instance.now (head_reading head.old) [] }
+    requires new { head.old.cores.lines + length head.old.rest ≡ 0 }
+    ensures { IfOk result (λ r. refuted r ≡ headed_formula instance.now cost proof.now) }
+{
     match head.take(proof)? {
-        Taken::All => end_formula(&mut head, instance, cost),
+        Taken::All => end_formula(head, instance, cost),
         Taken::Ended(_) => formula_of(&head.cores, instance, cost, head.cores.lines() + 1),
         Taken::Fails(cause) => Ok(RefutedFormula::Nothing(cause, head.cores.lines() + 1)),
     }

@@ -1,10 +1,10 @@
 // The head of a certificate that a reader gives.
-ghost use Rattle.std.specs.Prelude.{IfOk};
-ghost use Rattle.lrat_check.specs.Heads.{HasReadHead, HasRoom, head_reading};
+ghost use Rattle.std.specs.Prelude.{◌≡◌, ◌+◌, [], length, IfOk};
+ghost use Rattle.cnf.specs.Problem.{Problem};
+ghost use Rattle.lrat_check.specs.Heads.{HasReadHead, HasRoom, IsOpenHead, head_reading};
 
 use crate::heads::{CertificateHead, Taken};
 use crate::verdicts::{Cause, CheckFault};
-use cnf::types::Instance;
 use std::io::Read;
 use text::watched::READ_SIZE;
 
@@ -22,22 +22,20 @@ pub enum HeadRead {
 /// Reads the head, and a piece of what follows it. A certificate of 2^64 bytes or more counts as a
 /// failed read.
 pub(crate) fn read_head<R: Read>(
-    instance: &Instance,
+    head: &mut CertificateHead,
     proof: &mut R,
-) -> Result<(CertificateHead, HeadRead), CheckFault>
-    ensures read { IfOk result (λ r. HasReadHead instance.now r.1 (head_reading r.0)
-        (R.remaining proof.old) (R.remaining proof.new)) }
-    ensures room { IfOk result (λ r. HasRoom r.1 (head_reading r.0)) }
+) -> Result<HeadRead, CheckFault>
+    requires new { head.old.cores.lines + length head.old.rest ≡ 0 }
+    ensures read { IfOk result (λ how. (p : Problem) → IsOpenHead p (head_reading head.old) []
+        → HasReadHead p how (head_reading head.new) (R.remaining proof.old)
+        (R.remaining proof.new)) }
+    ensures room { IfOk result (λ how. HasRoom how (head_reading head.new)) }
 {
-    let Ok(new) = CertificateHead::new(instance) else {
-        return Err(CheckFault::Memory);
-    };
-    let mut head = new;
     let mut fed = 0u64;
     let mut chunk = [0u8; READ_SIZE];
     'pieces: loop {
         let count = match proof.read(&mut chunk) {
-            Ok(0) => return Ok((head, HeadRead::AtEnd)),
+            Ok(0) => return Ok(HeadRead::AtEnd),
             Ok(count) => count,
             Err(_) => return Err(CheckFault::Read),
         };
@@ -45,18 +43,13 @@ pub(crate) fn read_head<R: Read>(
             return Err(CheckFault::Read);
         }
         fed += count as u64;
-        let Ok(taken) = head.take(&chunk[..count]) else {
-            return Err(CheckFault::Memory);
-        };
-        match taken {
+        match head.take(&chunk[..count])? {
             Taken::All => {}
             Taken::Ended(left) => {
-                let Ok(()) = head.rest.keep(left) else {
-                    return Err(CheckFault::Memory);
-                };
-                return Ok((head, HeadRead::More));
+                head.rest.keep(left)?;
+                return Ok(HeadRead::More);
             }
-            Taken::Fails(cause) => return Ok((head, HeadRead::Fails(cause))),
+            Taken::Fails(cause) => return Ok(HeadRead::Fails(cause)),
         }
     }
 }

@@ -1,61 +1,26 @@
-// Certificates that may begin with core lines, whole or from a reader.
+// Certificates that may begin with core lines.
 ghost use Rattle.std.specs.Prelude.{◌≡◌, ℕ, ◌+◌, ◌<◌, ◌≤◌, ◌^◌, ◌++◌, List, length, IfOk, IfSome};
 ghost use Rattle.std.specs.Prelude.{[], OnOk};
 ghost use Rattle.cnf.specs.declared.limits.TheConstants.{NUMBER_LIMIT};
 ghost use Rattle.text.specs.declared.watched.TheConstants.{READ_SIZE};
 ghost use Rattle.text.specs.Text.{token_lines};
 ghost use Rattle.lrat_check.specs.Checks.{CostsAtLeast};
-ghost use Rattle.lrat_check.specs.CoreLines.{IsHeadOf};
+ghost use Rattle.lrat_check.specs.CoreLines.{IsHeadOf, end_from};
 ghost use Rattle.lrat_check.specs.Heads.{IsEndedHead, IsOpenHead, head_reading, verdict_ended};
 ghost use Rattle.lrat_check.specs.Stopping.{GoesOnFor, StopsBehind, StopsInTime};
-ghost use Rattle.lrat_check.specs.Verdict.{headed_verdict};
+ghost use Rattle.lrat_check.specs.Verdict.{headed_verdict, verdict_at};
 
-use crate::behind::{checker_behind, end_head, judge_behind};
+use crate::behind::{checker_behind, falls_short};
+use crate::core_lines::{CoreLines, HeadStep};
 use crate::head_streams::{HeadRead, read_head};
-use crate::heads::{CertificateHead, Taken};
+use crate::heads::CertificateHead;
 use crate::streams::judge_stream;
 use crate::verdicts::{Cause, CheckFault, Verdict};
 use cnf::types::Instance;
-use std::alloc::AllocError;
 use std::io::Read;
 
-/// The verdict on a certificate that nothing costs less, which may begin with core lines.
-pub(crate) fn check_headed(
-    instance: &Instance,
-    cost: u64,
-    proof: &[u8],
-) -> Result<Verdict, AllocError>
-    requires { cost ≤ NUMBER_LIMIT }
-    ensures verdict { IfOk result (λ v. v ≡ headed_verdict instance.now cost proof.now) }
-    ensures sound { IfOk result (λ v. v ≡ Verdict.Yes → CostsAtLeast instance.now cost) }
-{
-    let mut head = CertificateHead::new(instance)?;
-    judge_headed(&mut head, instance, cost, proof)
-}
-
-/// The verdict, where nothing was read before and nothing comes behind. It borrows the head, so
-/// that none of its exits has to drop it.
-fn judge_headed(
-    head: &mut CertificateHead,
-    instance: &Instance,
-    cost: u64,
-    proof: &[u8],
-) -> Result<Verdict, AllocError>
-    requires small { cost ≤ NUMBER_LIMIT }
-    requires open { IsOpenHead instance.now (head_reading head.old) [] }
-    requires new { head.old.cores.lines + length head.old.rest ≡ 0 }
-    ensures verdict { IfOk result (λ v. v ≡ headed_verdict instance.now cost proof.now) }
-    ensures sound { IfOk result (λ v. v ≡ Verdict.Yes → CostsAtLeast instance.now cost) }
-{
-    match head.take(proof)? {
-        Taken::All => end_head(head, instance, cost),
-        Taken::Ended(left) => judge_behind(head, instance, cost, left),
-        Taken::Fails(cause) => Ok(Verdict::No(cause, head.cores.lines() + 1)),
-    }
-}
-
-/// As `check_headed`, with the certificate from a reader, which is read up to the first faulty
-/// line. A certificate of 2^64 bytes or more counts as a failed read.
+/// The verdict on a certificate that nothing costs less, which may begin with core lines. The reader
+/// is read up to the first faulty line. A certificate of 2^64 bytes or more counts as a failed read.
 pub(crate) fn check_headed_stream<R: Read>(
     instance: &Instance,
     cost: u64,
@@ -68,17 +33,36 @@ pub(crate) fn check_headed_stream<R: Read>(
         (R.remaining proof.old) (R.remaining proof.new)) }
     ensures sound { IfOk result (λ v. v ≡ Verdict.Yes → CostsAtLeast instance.now cost) }
 {
-    let (head, how) = read_head(instance, proof)?;
-    let mut head = head;
-    match how {
-        HeadRead::AtEnd => conclude(&mut head, instance, cost),
-        HeadRead::More => judge_rest(&head, instance, cost, proof),
+    let mut head = CertificateHead::new(instance)?;
+    judge_headed(&mut head, instance, cost, proof)
+}
+
+/// The verdict, where nothing was read before. It borrows the head, so that none of its exits has
+/// to drop it.
+fn judge_headed<R: Read>(
+    head: &mut CertificateHead,
+    instance: &Instance,
+    cost: u64,
+    proof: &mut R,
+) -> Result<Verdict, CheckFault>
+    requires small { cost ≤ NUMBER_LIMIT }
+    requires open { IsOpenHead instance.now (head_reading head.old) [] }
+    requires new { head.old.cores.lines + length head.old.rest ≡ 0 }
+    ensures verdict { IfOk result (λ v. IfSome (R.remaining proof.old)
+        (λ bytes. v ≡ headed_verdict instance.now cost bytes)) }
+    ensures stops { OnOk result (StopsInTime (headed_verdict instance.now cost)
+        (R.remaining proof.old) (R.remaining proof.new)) }
+    ensures sound { IfOk result (λ v. v ≡ Verdict.Yes → CostsAtLeast instance.now cost) }
+{
+    match read_head(head, proof)? {
+        HeadRead::AtEnd => end_head(head, instance, cost),
+        HeadRead::More => judge_rest(head, instance, cost, proof),
         HeadRead::Fails(cause) => Ok(Verdict::No(cause, head.cores.lines() + 1)),
     }
 }
 
-/// The verdict, where the certificate ends with the pieces of the head.
-fn conclude(
+/// The verdict, where nothing follows the pieces of the head.
+fn end_head(
     head: &mut CertificateHead,
     instance: &Instance,
     cost: u64,
@@ -91,9 +75,23 @@ fn conclude(
         → v ≡ headed_verdict instance.now cost bytes) }
     ensures sound { IfOk result (λ v. v ≡ Verdict.Yes → CostsAtLeast instance.now cost) }
 {
-    match end_head(head, instance, cost) {
-        Ok(verdict) => Ok(verdict),
-        Err(_) => Err(CheckFault::Memory),
+    let mut nothing: &[u8] = &[];
+    match head.end()? {
+        HeadStep::GoesOn => Ok(verdict_at_end(&head.cores, instance, cost)),
+        HeadStep::Ended => judge_rest(head, instance, cost, &mut nothing),
+        HeadStep::Fails(cause) => Ok(Verdict::No(cause, head.cores.lines() + 1)),
+    }
+}
+
+/// The verdict, where the certificate ends with the head.
+fn verdict_at_end(cores: &CoreLines, instance: &Instance, cost: u64) -> Verdict
+    ensures verdict { result ≡ verdict_at instance.now cost (end_from cores.now []) }
+    ensures no { result ≡ Verdict.Yes → ⊥ }
+{
+    if falls_short(cores, cost) {
+        Verdict::No(Cause::CoreSum, 0)
+    } else {
+        Verdict::No(Cause::NoEmptyClause, 0)
     }
 }
 
@@ -117,10 +115,7 @@ fn judge_rest<R: Read>(
         (R.remaining proof.old) (R.remaining proof.new)) }
     ensures sound { IfOk result (λ v. v ≡ Verdict.Yes → CostsAtLeast instance.now cost) }
 {
-    let Ok(behind) = checker_behind(head, instance, cost) else {
-        return Err(CheckFault::Memory);
-    };
-    match behind {
+    match checker_behind(head, instance, cost)? {
         None => Ok(Verdict::No(Cause::CoreSum, head.cores.lines() + 1)),
         Some(checker) => judge_stream(checker, proof),
     }

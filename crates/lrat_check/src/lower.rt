@@ -1,7 +1,7 @@
 //! What a certificate proves by itself. One that begins with core lines proves a lower bound: if
 //! the LRAT lines behind them refute the formula of the cores, no solution costs less than they are
 //! worth together. One without core lines proves that there is no solution.
-ghost use Rattle.std.specs.Prelude.{◌≡◌, ℕ, ◌+◌, ◌<◌, ◌^◌, List, Option, length, IfOk, IfSome, ◌↔◌};
+ghost use Rattle.std.specs.Prelude.{◌≡◌, ℕ, ◌+◌, ◌<◌, ◌^◌, List, [], Option, length, IfOk, IfSome, ◌↔◌};
 ghost use Rattle.std.specs.Prelude.{OnOk};
 ghost use Rattle.std.specs.Io.KnownBytes.{Consumes};
 ghost use Rattle.text.specs.Text.{token_lines};
@@ -106,28 +106,41 @@ fn judge_own<R: Read>(instance: &Instance, proof: &mut R) -> Result<LowerVerdict
     ensures { IfOk result
         (λ v. IsLowerOf instance.now (R.remaining proof.old) (R.remaining proof.new) v) }
 {
-    let (head, how) = read_head(instance, proof)?;
-    match how {
+    let mut head = CertificateHead::new(instance)?;
+    judge_headed(&mut head, instance, proof)
+}
+
+// The verdict, where nothing was read before. It borrows the head, so that none of its exits has to
+// drop it.
+fn judge_headed<R: Read>(
+    head: &mut CertificateHead,
+    instance: &Instance,
+    proof: &mut R,
+) -> Result<LowerVerdict, CheckFault>
+    requires open { IsOpenHead instance.now (head_reading head.old) [] }
+    requires new { head.old.cores.lines + length head.old.rest ≡ 0 }
+    ensures { IfOk result
+        (λ v. IsLowerOf instance.now (R.remaining proof.old) (R.remaining proof.new) v) }
+{
+    match read_head(head, proof)? {
         HeadRead::AtEnd => end_own(head, instance),
-        HeadRead::More => judge_more(&head, instance, proof),
+        HeadRead::More => judge_more(head, instance, proof),
         HeadRead::Fails(cause) => Ok(LowerVerdict::No(cause, head.cores.lines() + 1)),
     }
 }
 
 // The verdict, where nothing follows the pieces of the head.
-fn end_own(head: CertificateHead, instance: &Instance) -> Result<LowerVerdict, CheckFault>
-    requires is { IsHeadOf instance.now head.cores }
-    requires room { head.cores.lines + length head.rest < 2 ^ 64 }
+fn end_own(head: &mut CertificateHead, instance: &Instance) -> Result<LowerVerdict, CheckFault>
+    requires is { IsHeadOf instance.now head.old.cores }
+    requires room { head.old.cores.lines + length head.old.rest < 2 ^ 64 }
     ensures { IfOk result (λ v. (bytes : List ℕ)
-        → IsOpenHead instance.now (head_reading head) bytes
+        → IsOpenHead instance.now (head_reading head.old) bytes
         → v ≡ lower_at instance.now (end_of_head instance.now bytes)) }
 {
-    let mut head = head;
-    match head.end() {
-        Ok(HeadStep::GoesOn) => Ok(LowerVerdict::No(Cause::NoEmptyClause, 0)),
-        Ok(HeadStep::Ended) => judge_kept(&head, instance),
-        Ok(HeadStep::Fails(cause)) => Ok(LowerVerdict::No(cause, head.cores.lines() + 1)),
-        Err(_) => Err(CheckFault::Memory),
+    match head.end()? {
+        HeadStep::GoesOn => Ok(LowerVerdict::No(Cause::NoEmptyClause, 0)),
+        HeadStep::Ended => judge_kept(head, instance),
+        HeadStep::Fails(cause) => Ok(LowerVerdict::No(cause, head.cores.lines() + 1)),
     }
 }
 
@@ -138,13 +151,8 @@ fn judge_kept(head: &CertificateHead, instance: &Instance) -> Result<LowerVerdic
     ensures { IfOk result (λ v. v
         ≡ lower_at instance.now (end_at head.now.cores (token_lines head.now.rest))) }
 {
-    let Ok(checker) = own_checker(head, instance) else {
-        return Err(CheckFault::Memory);
-    };
-    match checker.finish() {
-        Ok(verdict) => Ok(if_yes(shown(&head.cores), verdict)),
-        Err(_) => Err(CheckFault::Memory),
-    }
+    let verdict = own_checker(head, instance)?.finish()?;
+    Ok(if_yes(shown(&head.cores), verdict))
 }
 
 // The verdict, where the head has ended before what is kept and what the reader still gives.
@@ -161,15 +169,12 @@ fn judge_more<R: Read>(
         → EndsInPiece instance.now bytes
         → IsLowerOf instance.now first (R.remaining proof.new) v) }
 {
-    let Ok(checker) = own_checker(head, instance) else {
-        return Err(CheckFault::Memory);
-    };
-    let verdict = judge_stream(checker, proof)?;
+    let verdict = judge_stream(own_checker(head, instance)?, proof)?;
     Ok(if_yes(shown(&head.cores), verdict))
 }
 
 // The checker of what follows the head, which has judged what is kept already.
-fn own_checker(head: &CertificateHead, instance: &Instance) -> Result<Checker, AllocError>
+fn own_checker(head: &CertificateHead, instance: &Instance) -> Result<Checker, CheckFault>
     requires is { IsHeadOf instance.now head.now.cores }
     requires room { head.now.cores.lines + length head.now.rest < 2 ^ 64 }
     ensures { IfOk result (λ c. JudgesOver

@@ -1,6 +1,5 @@
 // A certificate that a reader gives.
-ghost use Rattle.std.specs.Prelude.{◌≡◌, ℕ, ◌+◌, ◌<◌, ◌^◌, ◌++◌, List, length, IfOk, IfErr};
-ghost use Rattle.std.specs.Prelude.{IfSome, OnOk, None};
+ghost use Rattle.std.specs.Prelude.{◌≡◌, ℕ, List, IfOk, IfSome, OnOk, None};
 ghost use Rattle.std.specs.Io.KnownBytes.{IsAtEnd};
 ghost use Rattle.cnf.specs.Literal.{Literal};
 ghost use Rattle.cnf.specs.Formula.{IsUnsatisfiable};
@@ -14,7 +13,7 @@ use cnf::types::Formula;
 use std::io::Read;
 use text::watched::READ_SIZE;
 
-/// As `check_owned`, with the certificate from a reader.
+/// The verdict on the certificate of a reader, over a formula whose memory the checker takes.
 pub(crate) fn check_stream<R: Read>(formula: Formula, proof: &mut R) -> Result<Verdict, CheckFault>
     ensures verdict { IfOk result (λ v.
         IfSome (R.remaining proof.old) (λ bytes. v ≡ proof_verdict formula.clauses bytes)) }
@@ -23,10 +22,7 @@ pub(crate) fn check_stream<R: Read>(formula: Formula, proof: &mut R) -> Result<V
     ensures sound { IfOk result (λ v. v ≡ Verdict.Yes → IsUnsatisfiable formula.clauses) }
 {
     formula.limits();
-    let Ok(checker) = Checker::over(formula) else {
-        return Err(CheckFault::Memory);
-    };
-    judge_stream(checker, proof)
+    judge_stream(Checker::over(formula)?, proof)
 }
 
 /// The verdict on what the checker has judged and the bytes of the reader, which is read up to the
@@ -37,8 +33,13 @@ pub(crate) fn judge_stream<R: Read>(checker: Checker, proof: &mut R) -> Result<V
         → IsJudged before (R.remaining proof.old) (R.remaining proof.new) formula v) }
 {
     let mut checker = checker;
-    judge_pieces(&mut checker, proof)?;
-    conclude(checker)
+    match judge_pieces(&mut checker, proof) {
+        Ok(()) => Ok(checker.finish()?),
+        Err(fault) => {
+            drop(checker);
+            Err(fault)
+        }
+    }
 }
 
 /// Hands the checker what the reader gives, up to the first faulty line. It borrows the checker, so
@@ -59,33 +60,7 @@ fn judge_pieces<R: Read>(checker: &mut Checker, proof: &mut R) -> Result<(), Che
         if checker.fed() > u64::MAX - count as u64 {
             return Err(CheckFault::Read);
         }
-        hand_on(checker, &chunk[..count])?;
+        checker.feed(&chunk[..count])?;
     }
     Ok(())
-}
-
-/// Hands the piece to the checker.
-fn hand_on(checker: &mut Checker, piece: &[u8]) -> Result<(), CheckFault>
-    requires { checker.old.fed + length piece.now < 2 ^ 64 }
-    ensures judged { OnOk result ((formula : List (List Literal)) (bytes : List ℕ)
-        → HasJudged checker.old formula bytes
-        → HasJudged checker.new formula (bytes ++ piece.now)) }
-    ensures fed { checker.new.fed ≡ checker.old.fed + length piece.now }
-{
-    match checker.feed(piece) {
-        Ok(()) => Ok(()),
-        Err(_) => Err(CheckFault::Memory),
-    }
-}
-
-/// The verdict, where nothing follows.
-fn conclude(checker: Checker) -> Result<Verdict, CheckFault>
-    ensures verdict { IfOk result (λ v. (formula : List (List Literal)) (bytes : List ℕ)
-        → HasJudged checker formula bytes → v ≡ proof_verdict formula bytes) }
-    ensures fault { IfErr result (λ fault. fault ≡ CheckFault.Memory) }
-{
-    match checker.finish() {
-        Ok(verdict) => Ok(verdict),
-        Err(_) => Err(CheckFault::Memory),
-    }
 }

@@ -1,5 +1,6 @@
 // What the checker answers.
 pub use lrat_machine::verdicts::{Cause, Verdict};
+use std::alloc::AllocError;
 
 /// Why a checker takes no more.
 #[derive(Clone, Copy, Debug, PartialEq, Eq, Drop)]
@@ -17,4 +18,26 @@ pub enum CheckFault {
     Memory,
     /// The reader failed.
     Read,
+}
+
+impl From<AllocError> for CheckFault {
+    ghost use Rattle.std.specs.Prelude.{◌≡◌};
+    ghost use Rattle.lrat_check.specs.declared.verdicts.CheckFault.TheVariants.{Memory};
+
+    ghost from_gives = { λ _ fault. fault ≡ Memory };
+
+    fn from(_error: AllocError) -> Self {
+        CheckFault::Memory
+    }
+}
+
+impl From<FeedFault> for CheckFault {
+    ghost use Rattle.std.specs.Prelude.{◌≡◌};
+    ghost use Rattle.lrat_check.specs.declared.verdicts.CheckFault.TheVariants.{Memory};
+
+    ghost from_gives = { λ _ fault. fault ≡ Memory };
+
+    fn from(_fault: FeedFault) -> Self {
+        CheckFault::Memory
+    }
 }

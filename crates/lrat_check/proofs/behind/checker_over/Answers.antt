@@ -5,11 +5,11 @@ use Rattle.lrat_check.specs.Heads.{head_reading}
 use Rattle.lrat_check.proofs.BehindLaws.{passed_over}
 use Rattle.lrat_check.proofs.behind.checker_over.Goals as goal
 
-pub returns : goal.returns
-returns c =
+pub returns-in-Ok : goal.returns-in-Ok
+returns-in-Ok c =
     let formula = c.args.formula.clauses in
     let feeds = replicate c.lines.result 10 in
-    let judged = c.in_ok-feed_more.ensures.judged formula feeds c.in_ok-checker.ensures.judged in
+    let judged = c.in-Ok.ensures.judged formula feeds c.in_ok-checker.ensures.judged in
     record {
       bytes = feeds ++ c.bytes.result.now;
       judged = judged;

@@ -13,26 +13,26 @@ use Rattle.lrat_check.proofs.checking.check_from_as.Goals as goal
 pub returns-in-Nothing-clause-verdict : goal.returns-in-Nothing-clause-verdict
 returns-in-Nothing-clause-verdict g c =
     if_some_all (g.R.Read.remaining c.args.proof.now) _
-    (nothing_gives c.in-Ok.left c.in-Nothing.verdict
+    (nothing_gives c.in_ok-left.left c.in-Nothing.verdict
     (verdict_as c.args.profile c.args.text.now c.args.answer.now) c.in-Nothing.is
-    c.in-Ok.ensures.verdict)
+    c.in_ok-left.ensures.verdict)
 
 pub returns-in-Nothing-clause-yes : goal.returns-in-Nothing-clause-yes
 returns-in-Nothing-clause-yes g c =
     if_some_all (g.R.Read.remaining c.args.proof.now) _
     (λ bytes. yes_by reading_is_right c.args.profile c.args.text.now c.args.answer.now bytes
     c.in-Nothing.verdict
-    (nothing_gives c.in-Ok.left c.in-Nothing.verdict
+    (nothing_gives c.in_ok-left.left c.in-Nothing.verdict
     (verdict_as c.args.profile c.args.text.now c.args.answer.now) c.in-Nothing.is
-    c.in-Ok.ensures.verdict bytes))
+    c.in_ok-left.ensures.verdict bytes))
 
 pub returns-in-Proof-clause-verdict : goal.returns-in-Proof-clause-verdict
 returns-in-Proof-clause-verdict g c =
     IfOk-weaker c.check_stream.result _ _
     (λ v h. if_some_more (g.R.Read.remaining c.args.proof.now) _ _ (λ bytes e. e
-    ∙ proof_gives c.in-Ok.left c.in-Proof.formula
+    ∙ proof_gives c.in_ok-left.left c.in-Proof.formula
     (verdict_as c.args.profile c.args.text.now c.args.answer.now) c.in-Proof.is
-    c.in-Ok.ensures.verdict bytes) h)
+    c.in_ok-left.ensures.verdict bytes) h)
     c.check_stream.ensures.verdict
 
 pub returns-in-Proof-clause-yes : goal.returns-in-Proof-clause-yes
@@ -40,24 +40,24 @@ returns-in-Proof-clause-yes g c =
     IfOk-weaker c.check_stream.result _ _
     (λ v h. if_some_more (g.R.Read.remaining c.args.proof.now) _ _
     (λ bytes e. yes_by reading_is_right c.args.profile c.args.text.now c.args.answer.now bytes v (e
-    ∙ proof_gives c.in-Ok.left c.in-Proof.formula
+    ∙ proof_gives c.in_ok-left.left c.in-Proof.formula
     (verdict_as c.args.profile c.args.text.now c.args.answer.now) c.in-Proof.is
-    c.in-Ok.ensures.verdict bytes)) h)
+    c.in_ok-left.ensures.verdict bytes)) h)
     c.check_stream.ensures.verdict
 
 pub returns-in-Proof-clause-sound : goal.returns-in-Proof-clause-sound
 returns-in-Proof-clause-sound g c =
     IfOk-weaker c.check_stream.result _ _
-    (λ v h y. proof_shows c.in-Ok.left c.in-Proof.formula _ c.in-Proof.is c.in-Ok.ensures.sound
+    (λ v h y. proof_shows c.in_ok-left.left c.in-Proof.formula _ c.in-Proof.is c.in_ok-left.ensures.sound
     (h y)) c.check_stream.ensures.sound
 
 pub returns-in-Headed-clause-verdict : goal.returns-in-Headed-clause-verdict
 returns-in-Headed-clause-verdict g c =
     IfOk-weaker c.check_headed_stream.result _ _
     (λ v h. if_some_more (g.R.Read.remaining c.args.proof.now) _ _ (λ bytes e. e
-    ∙ headed_gives c.in-Ok.left c.in-Headed.instance c.in-Headed.cost
+    ∙ headed_gives c.in_ok-left.left c.in-Headed.instance c.in-Headed.cost
     (verdict_as c.args.profile c.args.text.now c.args.answer.now) c.in-Headed.is
-    c.in-Ok.ensures.verdict bytes) h)
+    c.in_ok-left.ensures.verdict bytes) h)
     c.check_headed_stream.ensures.verdict
 
 pub returns-in-Headed-clause-yes : goal.returns-in-Headed-clause-yes
@@ -65,16 +65,16 @@ returns-in-Headed-clause-yes g c =
     IfOk-weaker c.check_headed_stream.result _ _
     (λ v h. if_some_more (g.R.Read.remaining c.args.proof.now) _ _
     (λ bytes e. yes_by reading_is_right c.args.profile c.args.text.now c.args.answer.now bytes v (e
-    ∙ headed_gives c.in-Ok.left c.in-Headed.instance c.in-Headed.cost
+    ∙ headed_gives c.in_ok-left.left c.in-Headed.instance c.in-Headed.cost
     (verdict_as c.args.profile c.args.text.now c.args.answer.now) c.in-Headed.is
-    c.in-Ok.ensures.verdict bytes)) h)
+    c.in_ok-left.ensures.verdict bytes)) h)
     c.check_headed_stream.ensures.verdict
 
 pub returns-in-Headed-clause-sound : goal.returns-in-Headed-clause-sound
 returns-in-Headed-clause-sound g c =
     IfOk-weaker c.check_headed_stream.result _ _
-    (λ v h y. headed_shows c.in-Ok.left c.in-Headed.instance c.in-Headed.cost _ c.in-Headed.is
-    c.in-Ok.ensures.sound (h y)) c.check_headed_stream.ensures.sound
+    (λ v h y. headed_shows c.in_ok-left.left c.in-Headed.instance c.in-Headed.cost _ c.in-Headed.is
+    c.in_ok-left.ensures.sound (h y)) c.check_headed_stream.ensures.sound
 
 pub returns-in-Nothing-clause-stops : goal.returns-in-Nothing-clause-stops
 returns-in-Nothing-clause-stops g c =
@@ -87,9 +87,9 @@ returns-in-Proof-clause-stops g c =
     (λ v h. stops_same (proof_verdict c.in-Proof.formula.clauses)
     (verdict_as c.args.profile c.args.text.now c.args.answer.now)
     (g.R.Read.remaining c.args.proof.now) _
-    (proof_gives c.in-Ok.left c.in-Proof.formula
+    (proof_gives c.in_ok-left.left c.in-Proof.formula
     (verdict_as c.args.profile c.args.text.now c.args.answer.now) c.in-Proof.is
-    c.in-Ok.ensures.verdict) h)
+    c.in_ok-left.ensures.verdict) h)
     c.check_stream.ensures.stops
 
 pub returns-in-Headed-clause-stops : goal.returns-in-Headed-clause-stops
@@ -98,7 +98,7 @@ returns-in-Headed-clause-stops g c =
     (λ v h. stops_same (headed_verdict c.in-Headed.instance c.in-Headed.cost.cost)
     (verdict_as c.args.profile c.args.text.now c.args.answer.now)
     (g.R.Read.remaining c.args.proof.now) _
-    (headed_gives c.in-Ok.left c.in-Headed.instance c.in-Headed.cost
+    (headed_gives c.in_ok-left.left c.in-Headed.instance c.in-Headed.cost
     (verdict_as c.args.profile c.args.text.now c.args.answer.now) c.in-Headed.is
-    c.in-Ok.ensures.verdict) h)
+    c.in_ok-left.ensures.verdict) h)
     c.check_headed_stream.ensures.stops

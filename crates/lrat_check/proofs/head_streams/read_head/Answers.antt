@@ -9,18 +9,16 @@ use Rattle.lrat_check.proofs.PieceLaws.{read_more}
 use Rattle.lrat_check.proofs.head_streams.read_head.Goals as goal
 
 pub pieces-init : goal.pieces-init
-pieces-init g c =
-    ([], c.in-Ok.ensures.open, search rules, omega (arith, c.in-Ok.ensures.lines))
+pieces-init g c = ([], λ p h. h, search rules, omega (arith, c.requires))
 
 pub pieces-preserved : goal.pieces-preserved
 pieces-preserved g c =
-    let p = c.args.instance.now in
     let i = c.pieces.invariant in (
       _,
-      rw c.in-All.is at (c.in-Ok-take.ensures.takes p i.0 i.1),
+      λ p h. rw c.in-All.is at (c.in_ok-take.ensures.takes p i.0 (i.1 p h)),
       read_more (g.R.Read.remaining c.args.proof.now) (g.R.Read.remaining c.pieces.proof)
-          (g.R.Read.remaining c.read.new.self) i.0 _ i.2 c.in-Ok-read.ensures.bytes.0,
-      omega (arith, c.in-Ok-take.ensures.lines, i.3, length-take {A = ℕ}),
+          (g.R.Read.remaining c.read.new.self) i.0 _ i.2 c.in-Ok.ensures.bytes.0,
+      omega (arith, c.in_ok-take.ensures.lines, i.3, length-take {A = ℕ}),
     )
 
 pub returns-in-Ok-eq0-clause-read : goal.returns-in-Ok-eq0-clause-read
@@ -28,53 +26,51 @@ returns-in-Ok-eq0-clause-read g c =
     let i = c.pieces.invariant in
     let zero : c.in-Ok-eq0.field-0 ≡ 0 = first_of (omega arith, search rules, cc) in
     let end : IsAtEnd (g.R.Read.remaining c.read.new.self) = search rules in
-    record {
+    λ p h. record {
       bytes = i.0;
       read = all_read (g.R.Read.remaining c.args.proof.now) (g.R.Read.remaining c.pieces.proof)
           (g.R.Read.remaining c.read.new.self) i.0 _ c.in-Ok-eq0.field-0 i.2
           c.in-Ok-eq0.ensures.bytes.0 zero;
-      leaves = (i.1, end);
+      leaves = (i.1 p h, end);
       in_time = record {
         before = i.0;
         piece = [];
         split = sym (append-nil i.0);
         small = omega arith;
         left = head_reading c.pieces.head;
-        is_open = i.1;
+        is_open = i.1 p h;
       };
     }
 
 pub returns-in-Ended-clause-read : goal.returns-in-Ended-clause-read
 returns-in-Ended-clause-read g c =
-    let p = c.args.instance.now in
     let i = c.pieces.invariant in
-    let t = rw c.in-Ended.is at (c.in-Ok-take.ensures.takes p i.0 i.1) in
+    λ p h. let t = rw c.in-Ended.is at (c.in_ok-take.ensures.takes p i.0 (i.1 p h)) in
     record {
       bytes = _;
       read =
           read_more (g.R.Read.remaining c.args.proof.now) (g.R.Read.remaining c.pieces.proof)
-          (g.R.Read.remaining c.read.new.self) i.0 _ i.2 c.in-Ok-read.ensures.bytes.0;
-      leaves = ended_kept p c.take.new.self.cores _ _ _ c.in-Ok-keep.ensures.kept t;
+          (g.R.Read.remaining c.read.new.self) i.0 _ i.2 c.in-Ok.ensures.bytes.0;
+      leaves = ended_kept p c.take.new.self.cores _ _ _ c.in_ok-keep-in-Ended.ensures.kept t;
       in_time = record {
         before = i.0;
         piece = _;
         split = refl;
         small = omega (arith, length-take {A = ℕ});
         left = head_reading c.pieces.head;
-        is_open = i.1;
+        is_open = i.1 p h;
       };
     }
 
 pub returns-in-Fails-clause-read : goal.returns-in-Fails-clause-read
 returns-in-Fails-clause-read g c =
-    let p = c.args.instance.now in
     let i = c.pieces.invariant in
-    let t = rw c.in-Fails.is at (c.in-Ok-take.ensures.takes p i.0 i.1) in
+    λ p h. let t = rw c.in-Fails.is at (c.in_ok-take.ensures.takes p i.0 (i.1 p h)) in
     record {
       bytes = _;
       read =
           read_more (g.R.Read.remaining c.args.proof.now) (g.R.Read.remaining c.pieces.proof)
-          (g.R.Read.remaining c.read.new.self) i.0 _ i.2 c.in-Ok-read.ensures.bytes.0;
+          (g.R.Read.remaining c.read.new.self) i.0 _ i.2 c.in-Ok.ensures.bytes.0;
       leaves = t;
       in_time = record {
         before = i.0;
@@ -82,6 +78,6 @@ returns-in-Fails-clause-read g c =
         split = refl;
         small = omega (arith, length-take {A = ℕ});
         left = head_reading c.pieces.head;
-        is_open = i.1;
+        is_open = i.1 p h;
       };
     }

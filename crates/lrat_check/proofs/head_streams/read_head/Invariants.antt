@@ -1,12 +1,15 @@
 -- The head is open behind the bytes that were read.
-use Rattle.std.proofs.Common.{ℕ, ◌+◌, ◌-◌, ◌≤◌, ◌^◌, List, length}
+use Rattle.std.proofs.Common.{ℕ, ◌+◌, ◌-◌, ◌≤◌, ◌^◌, List, [], length}
 use Rattle.std.specs.Io.KnownBytes.{Consumes}
+use Rattle.cnf.specs.Problem.{Problem}
 use Rattle.lrat_check.specs.Heads.{IsOpenHead, head_reading}
 use Rattle.lrat_check.proofs.head_streams.read_head.Given as goal
 
 abbrev pub invariant-pieces : goal.invariant-pieces
 invariant-pieces g l =
-    (done : List ℕ) × IsOpenHead l.instance (head_reading l.head) done
+    (done : List ℕ)
+    × ((p : Problem) → IsOpenHead p (head_reading l.fn.head) []
+    → IsOpenHead p (head_reading l.head) done)
     × Consumes (g.R.Read.remaining l.fn.proof) (g.R.Read.remaining l.proof) done
     × (((l.head).cores).lines + length (l.head).rest ≤ l.fed)
 

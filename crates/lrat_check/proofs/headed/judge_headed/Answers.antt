@@ -1,53 +1,94 @@
--- The certificate is one piece: the head goes on to its end, or ends before a line, or is faulty.
-use Rattle.std.proofs.Common.{◌+◌, [], ◌++◌, ◌∙◌, ap, append-nil, subst, sym}
+-- What was read of the head, and the rest where it has ended.
+use Rattle.std.proofs.Common.{◌+◌, ◌++◌, ◌∙◌, ap, refl, sym}
 use Rattle.std.proofs.lemmas.Result.{IfOk-weaker}
-use Rattle.lrat_check.specs.Heads.{Takes, head_reading}
+use Rattle.text.specs.Text.{token_lines}
+use Rattle.lrat_check.specs.Heads.{head_reading, verdict_ended}
 use Rattle.lrat_check.specs.Verdict.{headed_verdict, verdict_at}
 use Rattle.lrat_machine.specs.declared.verdicts.Verdict.TheVariants.{No}
-use Rattle.lrat_check.proofs.BehindLaws.{ended_whole}
+use Rattle.lrat_check.proofs.PieceLaws.{over_all, over_ended, over_rest}
+use Rattle.lrat_check.proofs.Stops.{head_on, head_stops, rest_stops}
 use Rattle.lrat_check.proofs.headed.judge_headed.Goals as goal
 
 pub end_head-requires-clause-is : goal.end_head-requires-clause-is
-end_head-requires-clause-is c =
-    let p = c.args.instance.now in
-    let t = subst (λ t. Takes p t (head_reading c.take.new.self) c.args.proof.now)
-    c.in-All.is (c.in_ok-take.ensures.takes p []
-    c.requires.open) in
-    t.is
+end_head-requires-clause-is g c =
+    let h = c.in_ok-read_head.ensures.read c.args.instance.now c.requires.open in
+    let leaves = rw c.in-AtEnd.is at h.leaves in
+    leaves.0.is
 
-pub returns-in-All-clause-verdict : goal.returns-in-All-clause-verdict
-returns-in-All-clause-verdict c =
-    let p = c.args.instance.now in
-    let t = subst (λ t. Takes p t (head_reading c.take.new.self) c.args.proof.now)
-    c.in-All.is (c.in_ok-take.ensures.takes p []
-    c.requires.open) in
-    IfOk-weaker c.end_head.result _ _ (λ v h. h c.args.proof.now t) c.end_head.ensures.verdict
+pub end_head-requires-clause-room : goal.end_head-requires-clause-room
+end_head-requires-clause-room g c = rw c.in-AtEnd.is at c.in_ok-read_head.ensures.room
 
-pub judge_behind-requires-clause-is : goal.judge_behind-requires-clause-is
-judge_behind-requires-clause-is c =
-    let p = c.args.instance.now in
-    let t = subst (λ t. Takes p t (head_reading c.take.new.self) c.args.proof.now)
-    c.in-Ended.is (c.in_ok-take.ensures.takes p []
-    c.requires.open) in
-    t.is
+pub returns-in-AtEnd-clause-verdict : goal.returns-in-AtEnd-clause-verdict
+returns-in-AtEnd-clause-verdict g c =
+    let h = c.in_ok-read_head.ensures.read c.args.instance.now c.requires.open in
+    let leaves = rw c.in-AtEnd.is at h.leaves in
+    IfOk-weaker c.end_head.result _ _
+    (λ v e. over_ended (g.R.Read.remaining c.args.proof.now)
+    (g.R.Read.remaining c.read_head.new.proof) h.bytes v
+    (headed_verdict c.args.instance.now c.args.cost) h.read leaves.1 (e h.bytes leaves.0))
+    c.end_head.ensures.verdict
 
-pub returns-in-Ended-clause-verdict : goal.returns-in-Ended-clause-verdict
-returns-in-Ended-clause-verdict c =
+pub returns-in-AtEnd-clause-stops : goal.returns-in-AtEnd-clause-stops
+returns-in-AtEnd-clause-stops g c =
     let p = c.args.instance.now in
-    let t = subst (λ t. Takes p t (head_reading c.take.new.self) c.args.proof.now)
-    c.in-Ended.is (c.in_ok-take.ensures.takes p []
-    c.requires.open) in
-    IfOk-weaker c.judge_behind.result _ _
-    (λ v e. e ∙ ap (verdict_at p c.args.cost) (ended_whole p c.take.new.self.cores
-    (c.take.new.self.rest ++ c.in-Ended.left.now) c.args.proof.now t))
-    c.judge_behind.ensures.verdict
+    let h = c.in_ok-read_head.ensures.read c.args.instance.now c.requires.open in
+    IfOk-weaker c.end_head.result _ _
+    (λ v e. head_stops p (verdict_at p c.args.cost) (λ cause line. refl) h.bytes
+    (g.R.Read.remaining c.args.proof.now) (g.R.Read.remaining c.read_head.new.proof) h.read
+    h.in_time)
+    c.end_head.ensures.verdict
+
+pub judge_rest-requires-clause-is : goal.judge_rest-requires-clause-is
+judge_rest-requires-clause-is g c =
+    let leaves = rw c.in-More.is at (c.in_ok-read_head.ensures.read c.args.instance.now c.requires.open).leaves in leaves.is
+
+pub judge_rest-requires-clause-room : goal.judge_rest-requires-clause-room
+judge_rest-requires-clause-room g c =
+    let room = rw c.in-More.is at c.in_ok-read_head.ensures.room in room.0
+
+pub judge_rest-requires-clause-line : goal.judge_rest-requires-clause-line
+judge_rest-requires-clause-line g c =
+    let room = rw c.in-More.is at c.in_ok-read_head.ensures.room in room.1
+
+pub returns-in-More-clause-verdict : goal.returns-in-More-clause-verdict
+returns-in-More-clause-verdict g c =
+    let p = c.args.instance.now in
+    let h = c.in_ok-read_head.ensures.read c.args.instance.now c.requires.open in
+    let leaves = rw c.in-More.is at h.leaves in
+    let r = head_reading c.read_head.new.head in
+    IfOk-weaker c.judge_rest.result _ _
+    (λ v e. over_rest (g.R.Read.remaining c.args.proof.now)
+    (g.R.Read.remaining c.read_head.new.proof) h.bytes v (headed_verdict p c.args.cost)
+    (λ more. verdict_ended p c.args.cost r.head (token_lines (r.rest ++ more))) h.read
+    (λ more. ap (verdict_at p c.args.cost) (leaves.resumes more)) e)
+    c.judge_rest.ensures.verdict
+
+pub returns-in-More-clause-stops : goal.returns-in-More-clause-stops
+returns-in-More-clause-stops g c =
+    let p = c.args.instance.now in
+    let h = c.in_ok-read_head.ensures.read c.args.instance.now c.requires.open in
+    let leaves = rw c.in-More.is at h.leaves in
+    IfOk-weaker c.judge_rest.result _ _
+    (λ v e. rest_stops p (verdict_at p c.args.cost) (λ cause line. refl) h.bytes
+    (g.R.Read.remaining c.args.proof.now) (g.R.Read.remaining c.read_head.new.proof) _ h.read
+    (e h.bytes leaves
+    (head_on p (verdict_at p c.args.cost) (λ cause line. refl) h.bytes h.in_time)))
+    c.judge_rest.ensures.stops
 
 pub returns-in-Fails-clause-verdict : goal.returns-in-Fails-clause-verdict
-returns-in-Fails-clause-verdict c =
+returns-in-Fails-clause-verdict g c =
     let p = c.args.instance.now in
-    let t = subst (λ t. Takes p t (head_reading c.take.new.self) c.args.proof.now)
-    c.in-Fails.is (c.in_ok-take.ensures.takes p []
-    c.requires.open) in
-    ap (λ n. No c.in-Fails.cause (n + 1)) c.lines.ensures
-    ∙ ap (verdict_at p c.args.cost) (sym (t []))
-    ∙ ap (headed_verdict p c.args.cost) (append-nil c.args.proof.now)
+    let h = c.in_ok-read_head.ensures.read c.args.instance.now c.requires.open in
+    let leaves = rw c.in-Fails.is at h.leaves in
+    over_all (g.R.Read.remaining c.args.proof.now) (g.R.Read.remaining c.read_head.new.proof)
+    h.bytes _ (headed_verdict p c.args.cost) h.read
+    (λ more. ap (λ n. No c.in-Fails.cause (n + 1)) c.lines.ensures
+    ∙ ap (verdict_at p c.args.cost) (sym (leaves more)))
+
+pub returns-in-Fails-clause-stops : goal.returns-in-Fails-clause-stops
+returns-in-Fails-clause-stops g c =
+    let p = c.args.instance.now in
+    let h = c.in_ok-read_head.ensures.read c.args.instance.now c.requires.open in
+    head_stops p (verdict_at p c.args.cost) (λ cause line. refl) h.bytes
+    (g.R.Read.remaining c.args.proof.now) (g.R.Read.remaining c.read_head.new.proof) h.read
+    h.in_time

@@ -12,7 +12,7 @@ pub returns-in-Some-clause-verdict : goal.returns-in-Some-clause-verdict
 returns-in-Some-clause-verdict g c =
     let r = head_reading c.args.head.now in
     let j = subst (λ o. IsBehind c.args.instance.now c.args.cost r o) c.in-Some.is
-    c.in-Ok.ensures in
+    c.in_ok-checker_behind.ensures in
     IfOk-weaker c.judge_stream.result _ _
     (λ v h. let k = h j.formula.clauses j.over.bytes j.over.judged in
     if_some_more (g.R.Read.remaining c.args.proof.now) _ _
@@ -23,7 +23,7 @@ pub returns-in-Some-clause-sound : goal.returns-in-Some-clause-sound
 returns-in-Some-clause-sound g c =
     let r = head_reading c.args.head.now in
     let j = subst (λ o. IsBehind c.args.instance.now c.args.cost r o) c.in-Some.is
-    c.in-Ok.ensures in
+    c.in_ok-checker_behind.ensures in
     IfOk-weaker c.judge_stream.result _ _
     (λ v h. let k = h j.formula.clauses j.over.bytes j.over.judged in
     behind_sound c.args.instance.now c.args.cost r c.in-Some.checker j v
@@ -33,7 +33,7 @@ pub returns-in-Some-clause-stops : goal.returns-in-Some-clause-stops
 returns-in-Some-clause-stops g c =
     let p = c.args.instance.now in
     let r = head_reading c.args.head.now in
-    let j = subst (λ o. IsBehind p c.args.cost r o) c.in-Some.is c.in-Ok.ensures in
+    let j = subst (λ o. IsBehind p c.args.cost r o) c.in-Some.is c.in_ok-checker_behind.ensures in
     IfOk-weaker c.judge_stream.result _ _
     (λ v h. λ bytes t open_end. let k = h j.formula.clauses j.over.bytes j.over.judged in
     stops_behind p (verdict_at p c.args.cost) (λ cause line. refl) r.head r.rest j.formula.clauses

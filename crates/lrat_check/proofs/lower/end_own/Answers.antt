@@ -6,34 +6,34 @@ use Rattle.lrat_check.specs.declared.lower.LowerVerdict.TheVariants.{No}
 use Rattle.lrat_check.proofs.LowerLaws.{ends_unproved}
 use Rattle.lrat_check.proofs.lower.end_own.Goals as goal
 
-pub returns-in-Ok-GoesOn : goal.returns-in-Ok-GoesOn
-returns-in-Ok-GoesOn c = λ bytes h.
+pub returns-in-GoesOn : goal.returns-in-GoesOn
+returns-in-GoesOn c = λ bytes h.
     let ends =
-    rw c.in-Ok-GoesOn.field-0-is at (c.in-Ok-GoesOn.ensures.ends c.args.instance.now bytes h) in
+    rw c.in-GoesOn.is at (c.in_ok-end.ensures.ends c.args.instance.now bytes h) in
     ends_unproved c.args.instance.now c.end.new.self.cores
     ∙ ap (lower_at c.args.instance.now) (sym ends)
 
 pub judge_kept-requires-clause-is : goal.judge_kept-requires-clause-is
 judge_kept-requires-clause-is c =
-    c.in-Ok-Ended.ensures.counts c.args.instance.now c.requires.is
+    c.in_ok-end.ensures.counts c.args.instance.now c.requires.is
 
 pub judge_kept-requires-clause-room : goal.judge_kept-requires-clause-room
 judge_kept-requires-clause-room c =
-    let left = rw c.in-Ok-Ended.field-0-is at c.in-Ok-Ended.ensures.left in
+    let left = rw c.in-Ended.is at c.in_ok-end.ensures.left in
     omega (arith, left.0, ap length left.1, c.requires.room)
 
-pub returns-in-Ok-Ended : goal.returns-in-Ok-Ended
-returns-in-Ok-Ended c =
+pub returns-in-Ended : goal.returns-in-Ended
+returns-in-Ended c =
     IfOk-weaker c.judge_kept.result _ _
     (λ v e. λ bytes h.
     let ends =
-    rw c.in-Ok-Ended.field-0-is at (c.in-Ok-Ended.ensures.ends c.args.instance.now bytes h) in
+    rw c.in-Ended.is at (c.in_ok-end.ensures.ends c.args.instance.now bytes h) in
     e ∙ ap (lower_at c.args.instance.now) (sym ends))
     c.judge_kept.ensures
 
-pub returns-in-Ok-Fails : goal.returns-in-Ok-Fails
-returns-in-Ok-Fails c = λ bytes h.
+pub returns-in-Fails : goal.returns-in-Fails
+returns-in-Fails c = λ bytes h.
     let ends =
-    rw c.in-Ok-Fails.field-0-is at (c.in-Ok-Fails.ensures.ends c.args.instance.now bytes h) in
-    ap (λ n. No c.in-Ok-Fails.cause (n + 1)) c.lines.ensures
+    rw c.in-Fails.is at (c.in_ok-end.ensures.ends c.args.instance.now bytes h) in
+    ap (λ n. No c.in-Fails.cause (n + 1)) c.lines.ensures
     ∙ ap (lower_at c.args.instance.now) (sym ends)

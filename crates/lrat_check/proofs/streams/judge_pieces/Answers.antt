@@ -46,8 +46,8 @@ pieces-preserved g c =
           read_more (g.R.Read.remaining c.args.proof.now) (g.R.Read.remaining c.pieces.proof)
           (g.R.Read.remaining c.read.new.self) i.bytes _ i.read c.in-Ok.ensures.bytes.0;
       judged = λ formula before s.
-          subst (HasJudged c.hand_on.new.checker formula) (append_assoc before i.bytes _)
-          (c.in_ok-hand_on.ensures.judged formula (before ++ i.bytes) (i.judged formula before s));
+          subst (HasJudged c.feed.new.self formula) (append_assoc before i.bytes _)
+          (c.in_ok-feed.ensures.judged formula (before ++ i.bytes) (i.judged formula before s));
       in_time = λ formula before s.
           inr (piece_on (c.pieces.checker).reading formula before i.bytes _
           (((i.judged formula before s).holds).open_end none)

@@ -1,15 +1,13 @@
 -- The verdict is that on all bytes of the reader, and no more of them were read than it takes.
 use Rattle.std.proofs.Common.{◌++◌}
-use Rattle.std.proofs.lemmas.Result.{IfOk-weaker}
 use Rattle.lrat_check.proofs.PieceLaws.{over_judged}
 use Rattle.lrat_check.proofs.streams.judge_stream.Goals as goal
 
-pub returns : goal.returns
-returns g c =
-    let m = c.in_ok-judge_pieces.ensures.judges in
-    IfOk-weaker c.conclude.result _ _
-    (λ v h. λ formula before s. let j = m.judged formula before s in
-    let verdict = h formula (before ++ m.bytes) j in
+pub returns-in_ok-finish-in-Ok : goal.returns-in_ok-finish-in-Ok
+returns-in_ok-finish-in-Ok g c = λ formula before s.
+    let m = c.in-Ok.ensures.judges in
+    let j = m.judged formula before s in
+    let verdict = c.in_ok-finish-in-Ok.ensures.verdict formula (before ++ m.bytes) j in
     record {
       bytes = m.bytes;
       read = m.read;
@@ -17,7 +15,6 @@ returns g c =
       verdict = verdict;
       all =
           over_judged c.judge_pieces.new.checker formula before m.bytes
-          (g.R.Read.remaining c.args.proof.now) (g.R.Read.remaining c.judge_pieces.new.proof) v j
-          m.read c.in_ok-judge_pieces.ensures.whole verdict;
-    })
-    c.conclude.ensures.verdict
+          (g.R.Read.remaining c.args.proof.now) (g.R.Read.remaining c.judge_pieces.new.proof)
+          _ j m.read c.in-Ok.ensures.whole verdict;
+    }

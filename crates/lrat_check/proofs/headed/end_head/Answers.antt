@@ -5,7 +5,7 @@ use Rattle.text.specs.Text.{token_lines}
 use Rattle.lrat_check.specs.Heads.{verdict_ended}
 use Rattle.lrat_check.specs.Verdict.{verdict_at}
 use Rattle.lrat_machine.specs.declared.verdicts.Verdict.TheVariants.{No}
-use Rattle.lrat_check.proofs.behind.end_head.Goals as goal
+use Rattle.lrat_check.proofs.headed.end_head.Goals as goal
 
 pub returns-in-GoesOn-clause-verdict : goal.returns-in-GoesOn-clause-verdict
 returns-in-GoesOn-clause-verdict c = λ bytes h.
@@ -13,29 +13,29 @@ returns-in-GoesOn-clause-verdict c = λ bytes h.
     c.verdict_at_end.ensures.verdict
     ∙ ap (verdict_at c.args.instance.now c.args.cost) (sym ends)
 
-pub judge_behind-requires-clause-is : goal.judge_behind-requires-clause-is
-judge_behind-requires-clause-is c = c.in_ok-end.ensures.counts c.args.instance.now c.requires.is
+pub judge_rest-requires-clause-is : goal.judge_rest-requires-clause-is
+judge_rest-requires-clause-is c = c.in_ok-end.ensures.counts c.args.instance.now c.requires.is
 
-pub judge_behind-requires-clause-room : goal.judge_behind-requires-clause-room
-judge_behind-requires-clause-room c =
+pub judge_rest-requires-clause-room : goal.judge_rest-requires-clause-room
+judge_rest-requires-clause-room c =
     let left = rw c.in-Ended.is at c.in_ok-end.ensures.left in
     omega (arith, left.0, ap length left.1, c.requires.room)
 
-pub judge_behind-requires-clause-line : goal.judge_behind-requires-clause-line
-judge_behind-requires-clause-line c =
+pub judge_rest-requires-clause-line : goal.judge_rest-requires-clause-line
+judge_rest-requires-clause-line c =
     let left = rw c.in-Ended.is at c.in_ok-end.ensures.left in
     omega (arith, left.0, ap length left.1, left.2, c.requires.room)
 
 pub returns-in-Ended-clause-verdict : goal.returns-in-Ended-clause-verdict
 returns-in-Ended-clause-verdict c =
-    IfOk-weaker c.judge_behind.result _ _
+    IfOk-weaker c.judge_rest.result _ _
     (λ v e. λ bytes h.
     let ends = rw c.in-Ended.is at (c.in_ok-end.ensures.ends c.args.instance.now bytes h) in
     e
     ∙ ap (λ x. verdict_ended c.args.instance.now c.args.cost c.end.new.self.cores (token_lines x))
     (append-nil c.end.new.self.rest)
     ∙ ap (verdict_at c.args.instance.now c.args.cost) (sym ends))
-    c.judge_behind.ensures.verdict
+    c.judge_rest.ensures.verdict
 
 pub returns-in-Fails-clause-verdict : goal.returns-in-Fails-clause-verdict
 returns-in-Fails-clause-verdict c = λ bytes h.
