@@ -249,46 +249,37 @@ impl Checker {
             → HasJudged self formula bytes → v ≡ proof_verdict formula bytes) }
         ensures failed { (result ≡ Err FeedFault.Failed) ↔ (self.failed ≡ true) }
     {
-        let Checker {
-            mut machine,
-            rest,
-            refused,
-            failed,
-            ..
-        } = self;
-        judge_end(&mut machine, &rest, refused, failed)
+        let mut checker = self;
+        checker.judge_end()
+    }
+
+    /// As `finish`. It borrows the checker, which is of no use afterwards, so that none of its exits
+    /// has to drop it.
+    fn judge_end(&mut self) -> Result<Verdict, FeedFault>
+        ensures verdict { IfOk result (λ v. (formula : List (List Literal)) (bytes : List ℕ)
+            → HasJudged self.old formula bytes → v ≡ proof_verdict formula bytes) }
+        ensures failed { (result ≡ Err FeedFault.Failed) ↔ (self.old.failed ≡ true) }
+    {
+        if self.failed {
+            return Err(FeedFault::Failed);
+        }
+        if let Some(refused) = self.refused {
+            return Ok(refused);
+        }
+        let judged = judge_rest(&mut self.machine, &self.rest);
+        // It was judged as a line.
+        self.rest.clear();
+        judged.map_err(|_| FeedFault::Memory)
     }
 }
 
-/// The verdict where nothing follows the rest. It borrows the machine, so that none of its exits
-/// has to drop it.
-fn judge_end(
-    machine: &mut Machine,
-    rest: &LineBuffer,
-    refused: Option<Verdict>,
-    failed: bool,
-) -> Result<Verdict, FeedFault>
-    requires { machine.old.lines + length rest.now < 2 ^ 64 }
-    ensures verdict { IfOk result (λ v. (formula : List (List Literal)) (bytes : List ℕ)
-        → Holds (record { machine = machine.old; rest = rest.now; refused = refused }) formula bytes
-        → v ≡ proof_verdict formula bytes) }
-    ensures failed { (result ≡ Err FeedFault.Failed) ↔ (failed ≡ true) }
-{
-    if failed {
-        return Err(FeedFault::Failed);
-    }
-    match refused {
-        Some(refused) => Ok(refused),
-        None => judge_rest(machine, rest).map_err(|_| FeedFault::Memory),
-    }
-}
-
-/// The same where no line before the rest is faulty, and no memory was refused.
+/// The verdict where nothing follows the rest, and no line before it is faulty.
 fn judge_rest(machine: &mut Machine, rest: &LineBuffer) -> Result<Verdict, AllocError>
     requires { machine.old.lines + length rest.now < 2 ^ 64 }
-    ensures { IfOk result (λ v. (formula : List (List Literal)) (bytes : List ℕ)
+    ensures verdict { IfOk result (λ v. (formula : List (List Literal)) (bytes : List ℕ)
         → Holds (record { machine = machine.old; rest = rest.now; refused = None }) formula bytes
         → v ≡ proof_verdict formula bytes) }
+    ensures lines { machine.new.lines ≤ machine.old.lines + length rest.now }
 {
     if rest.is_empty() {
         return Ok(machine.verdict());

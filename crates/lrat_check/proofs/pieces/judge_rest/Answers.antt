@@ -4,15 +4,15 @@ use Rattle.lrat_check.specs.Pieces.{Judges, ReadingState}
 use Rattle.lrat_check.proofs.PieceLaws.{ends_empty, ends_open, ends_fault}
 use Rattle.lrat_check.proofs.pieces.judge_rest.Goals as goal
 
-pub returns-then-is_empty : goal.returns-then-is_empty
-returns-then-is_empty c = λ formula bytes h.
+pub returns-then-is_empty-clause-verdict : goal.returns-then-is_empty-clause-verdict
+returns-then-is_empty-clause-verdict c = λ formula bytes h.
     let r : ReadingState =
     record { machine = c.args.machine.now; rest = c.args.rest.now; refused = None } in
     c.verdict.ensures
     ∙ ends_empty r refl (c.is_empty.ensures.empty c.if-is_empty.true) formula bytes h
 
-pub returns-in-Some : goal.returns-in-Some
-returns-in-Some c = λ formula bytes h.
+pub returns-in-Some-clause-verdict : goal.returns-in-Some-clause-verdict
+returns-in-Some-clause-verdict c = λ formula bytes h.
     let r : ReadingState =
     record { machine = c.args.machine.now; rest = c.args.rest.now; refused = None } in
     let judges = rw c.bytes.ensures at c.in_ok-refused.ensures.judges in
@@ -20,8 +20,8 @@ returns-in-Some c = λ formula bytes h.
     c.judge_line.new.machine c.in-Some.refused
     (subst (λ f. Judges r.machine r.rest c.judge_line.new.machine f) c.in-Some.is judges)
 
-pub returns-in-None : goal.returns-in-None
-returns-in-None c = λ formula bytes h.
+pub returns-in-None-clause-verdict : goal.returns-in-None-clause-verdict
+returns-in-None-clause-verdict c = λ formula bytes h.
     let r : ReadingState =
     record { machine = c.args.machine.now; rest = c.args.rest.now; refused = None } in
     let judges = rw c.bytes.ensures at c.in_ok-refused.ensures.judges in
