@@ -13,3 +13,8 @@ returns-in-None-clause-counts c =
     (λ (h : HeadState). count_core h.from h.counted c.read_head_line.new.core
     ≡ Ok c.count.new.self.counted) c.self.view_is
     (rw c.in-None.is at c.in_ok-fault.ensures.counted))
+
+pub returns-in-Other-clause-judges : goal.returns-in-Other-clause-judges
+returns-in-Other-clause-judges c =
+    let line = rw c.in-Other.is at c.in_ok-read_head_line.ensures in
+    (c.self.view_is, line)
