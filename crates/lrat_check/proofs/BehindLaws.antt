@@ -1,7 +1,7 @@
 -- What follows a head: the formula that it refutes, and the verdict where the certificate ends.
-use Rattle.std.proofs.Common.{◌≡◌, ℕ, ◌+◌, ◌≤◌, Bool, true, false, List, [], ◌++◌}
+use Rattle.std.proofs.Common.{◌≡◌, ℕ, ◌+◌, ◌≤◌, Bool, true, false, List, ◌++◌}
 use Rattle.std.proofs.Common.{replicate, Result, Ok, Err, refl, sym, ◌∙◌, ap, subst}
-use Rattle.std.proofs.Common.{arith, append_assoc, append-nil}
+use Rattle.std.proofs.Common.{arith, append_assoc}
 use Rattle.std.specs.Prelude.{IfOk, OnOk, zero, suc}
 use Rattle.std.proofs.lemmas.Bool.{le-leb}
 use Rattle.cnf.specs.Formula.{Cnf, IsUnsatisfiable}
@@ -12,10 +12,9 @@ use Rattle.text.specs.Text.{token_lines}
 use Rattle.adder.specs.declared.profiles.Profile.TheVariants.{Five}
 use Rattle.cores.specs.Cores.{Counted}
 use Rattle.bound.specs.Bound.{RefutesCheaper, SaysCheaper, bound_as, core_cnf}
-use Rattle.lrat_check.specs.CoreLines.{HeadState, end_at}
-use Rattle.lrat_check.specs.Ends.{end_of_head}
+use Rattle.lrat_check.specs.CoreLines.{HeadState}
 use Rattle.lrat_check.specs.Checks.{CostsAtLeast}
-use Rattle.lrat_check.specs.Heads.{HeadReading, IsEndedHead, JudgesBehind}
+use Rattle.lrat_check.specs.Heads.{HeadReading, JudgesBehind}
 use Rattle.lrat_check.specs.Heads.{verdict_ended}
 use Rattle.lrat_check.specs.Pieces.{CheckerState}
 use Rattle.lrat_machine.specs.declared.verdicts.Verdict.{Verdict}
@@ -87,14 +86,6 @@ passed_over r formula n lines rest is more =
     ∙ ap (λ k. verdict_on (start_of formula) false k (token_lines (rest ++ more))) count
     ∙ ap (λ x. verdict_on (start_of formula) false ((r.head).lines + 1) (token_lines (x ++ more)))
     is
-
--- where nothing comes behind what is left
-pub ended_whole : (p : Problem) (h : HeadState) (behind bytes : List ℕ)
-    → IsEndedHead p h behind bytes
-    → end_at h (token_lines behind) ≡ end_of_head p bytes
-ended_whole p h behind bytes e =
-    ap (λ x. end_at h (token_lines x)) (sym (append-nil behind))
-    ∙ sym (e.resumes []) ∙ ap (end_of_head p) (append-nil bytes)
 
 -- above 0 the certificate may begin with cores
 pub headed_refuted : (p : Problem) (cost : ℕ) (proof : List ℕ) → (cost ≡ 0 → ⊥)

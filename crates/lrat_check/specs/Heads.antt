@@ -1,5 +1,5 @@
 -- The head of a certificate, which comes in pieces, and the checker of what follows it.
-use Rattle.std.specs.Prelude.{◌≡◌, ℕ, ◌+◌, ◌<◌, ◌≤◌, ◌^◌, false, List, [], ⊤, ◌++◌, length, Option}
+use Rattle.std.specs.Prelude.{◌≡◌, ℕ, ◌+◌, ◌<◌, ◌≤◌, false, List, [], ⊤, ◌++◌, length, Option}
 use Rattle.std.specs.Prelude.{Some, None}
 use Rattle.std.specs.Io.KnownBytes.{Consumes, IsAtEnd}
 use Rattle.cnf.specs.Formula.{Cnf, IsFormula, IsUnsatisfiable}
@@ -14,13 +14,7 @@ use Rattle.lrat_check.specs.CoreLines.{HeadState, IsHeadOf, end_at, end_from}
 use Rattle.lrat_check.specs.Ends.{Faulty, end_of_head}
 use Rattle.lrat_check.specs.declared.core_lines.HeadStep.{HeadStep}
 use Rattle.lrat_check.specs.declared.core_lines.HeadStep.TheVariants.{GoesOn, Ended, Fails}
-use Rattle.lrat_check.specs.declared.head_streams.HeadRead.{HeadRead}
-use Rattle.lrat_check.specs.declared.head_streams.HeadRead.TheVariants.{AtEnd, More}
-use Rattle.lrat_check.specs.declared.head_streams.HeadRead.TheVariants.{Fails as HasFault}
 use Rattle.lrat_check.specs.declared.heads.CertificateHead.{CertificateHead}
-use Rattle.lrat_check.specs.declared.heads.Taken.{Taken}
-use Rattle.lrat_check.specs.declared.heads.Taken.TheVariants.{All, Ended as HasEnded}
-use Rattle.lrat_check.specs.declared.heads.Taken.TheVariants.{Fails as HasFailed}
 use Rattle.lrat_machine.specs.declared.verdicts.Cause.TheVariants.{CoreSum}
 use Rattle.lrat_machine.specs.declared.verdicts.Verdict.{Verdict}
 use Rattle.lrat_machine.specs.declared.verdicts.Verdict.TheVariants.{No}
@@ -53,23 +47,18 @@ pub record IsEndedHead (p : Problem) (h : HeadState) (behind bytes : List ℕ) :
       → end_of_head p (bytes ++ more) ≡ end_at h (token_lines (behind ++ more))
 
 -- what is known once these bytes were taken
-abbrev pub Takes : Problem → Taken → HeadReading → List ℕ → Type 0
-Takes p All r bytes = IsOpenHead p r bytes
-Takes p (HasEnded left) r bytes = IsEndedHead p r.head (r.rest ++ left.now) bytes
-Takes p (HasFailed cause) r bytes =
+abbrev pub Takes : Problem → HeadStep → HeadReading → List ℕ → Type 0
+Takes p GoesOn r bytes = IsOpenHead p r bytes
+Takes p Ended r bytes = IsEndedHead p r.head r.rest bytes
+Takes p (Fails cause) r bytes =
     (more : List ℕ) → end_of_head p (bytes ++ more) ≡ Faulty cause ((r.head).lines + 1)
 
--- at least so many bytes of the piece belong to no line that was counted
-abbrev pub left_length : Taken → ℕ
-left_length All = 0
-left_length (HasEnded left) = length left.now
-left_length (HasFailed cause) = 1
-
--- the line behind the head is not empty
-abbrev pub IsSomeLeft : Taken → Type 0
-IsSomeLeft All = ⊤
-IsSomeLeft (HasEnded left) = 0 < length left.now
-IsSomeLeft (HasFailed cause) = ⊤
+-- what is kept belongs to no line that was counted, nor does the line that is none of the head:
+-- there are at most so many bytes together
+abbrev pub IsWithin : HeadStep → HeadReading → ℕ → Type 0
+IsWithin GoesOn r most = (r.head).lines + length r.rest ≤ most
+IsWithin Ended r most = ((r.head).lines + length r.rest ≤ most) × ((r.head).lines + 1 ≤ most)
+IsWithin (Fails cause) r most = (r.head).lines + 1 ≤ most
 
 -- what the head comes to where nothing follows the bytes
 abbrev pub EndsWith : Problem → HeadStep → HeadReading → List ℕ → Type 0
@@ -85,13 +74,6 @@ IsLineLeft Ended old new =
 IsLineLeft (Fails cause) old new =
     ((new.head).lines ≡ (old.head).lines) × (new.rest ≡ old.rest) × (0 < length new.rest)
 
--- what is known once a reader has given these bytes, and has these left
-abbrev pub LeavesHead : Problem → HeadRead → HeadReading → List ℕ → Option (List ℕ) → Type 0
-LeavesHead p AtEnd r bytes new = IsOpenHead p r bytes × IsAtEnd new
-LeavesHead p More r bytes new = IsEndedHead p r.head r.rest bytes
-LeavesHead p (HasFault cause) r bytes new =
-    (more : List ℕ) → end_of_head p (bytes ++ more) ≡ Faulty cause ((r.head).lines + 1)
-
 -- all but the last piece of the bytes leaves a head that may go on
 pub record EndsInPiece (p : Problem) (bytes : List ℕ) : Type 0 where
   pub before : List ℕ
@@ -102,18 +84,13 @@ pub record EndsInPiece (p : Problem) (bytes : List ℕ) : Type 0 where
   pub is_open : IsOpenHead p left before
 
 -- the head was read from what a reader had left to what it has left
-pub record HasReadHead (p : Problem) (how : HeadRead) (r : HeadReading)
+pub record HasReadHead (p : Problem) (step : HeadStep) (r : HeadReading)
     (old new : Option (List ℕ)) : Type 0 where
   pub bytes : List ℕ
   pub read : Consumes old new bytes
-  pub leaves : LeavesHead p how r bytes new
+  pub leaves : Takes p step r bytes
+  pub at_end : step ≡ GoesOn → IsAtEnd new
   pub in_time : EndsInPiece p bytes
-
--- there is room for what is kept, and for the line that is none of the head
-abbrev pub HasRoom : HeadRead → HeadReading → Type 0
-HasRoom AtEnd r = (r.head).lines + length r.rest < 2 ^ 64
-HasRoom More r = ((r.head).lines + length r.rest < 2 ^ 64) × ((r.head).lines + 1 < 2 ^ 64)
-HasRoom (HasFault cause) r = (r.head).lines + 1 < 2 ^ 64
 
 -- the verdict where the head has ended before these lines, each as its tokens
 abbrev pub verdict_ended : Problem → ℕ → HeadState → List (List (List ℕ)) → Verdict

@@ -8,7 +8,8 @@ ghost use Rattle.lrat_check.specs.Verdict.{formula_behind, headed_formula, refut
 
 use crate::behind::{falls_short, formula_behind};
 use crate::core_lines::{CoreLines, HeadStep};
-use crate::heads::{CertificateHead, Taken};
+use crate::head_streams::read_head;
+use crate::heads::CertificateHead;
 use crate::verdicts::Cause;
 use adder::profiles::Profile;
 use bound::formulas::formula_as;
@@ -60,10 +61,12 @@ fn read_formula(
     requires new { head.old.cores.lines + length head.old.rest ≡ 0 }
     ensures { IfOk result (λ r. refuted r ≡ headed_formula instance.now cost proof.now) }
 {
-    match head.take(proof)? {
-        Taken::All => end_formula(head, instance, cost),
-        Taken::Ended(_) => formula_of(&head.cores, instance, cost, head.cores.lines() + 1),
-        Taken::Fails(cause) => Ok(RefutedFormula::Nothing(cause, head.cores.lines() + 1)),
+    let mut left = proof;
+    match read_head(head, &mut left) {
+        Ok(HeadStep::GoesOn) => end_formula(head, instance, cost),
+        Ok(HeadStep::Ended) => formula_of(&head.cores, instance, cost, head.cores.lines() + 1),
+        Ok(HeadStep::Fails(cause)) => Ok(RefutedFormula::Nothing(cause, head.cores.lines() + 1)),
+        Err(_) => Err(AllocError),
     }
 }
 

@@ -14,14 +14,14 @@ use lrat_cores::reader::{HeadLine, read_head_line};
 use std::alloc::AllocError;
 use std::marker::Model;
 
-/// What a line says of the head.
+/// What a line, a piece or a reader says of the head.
 #[derive(Clone, Copy, Drop)]
 pub enum HeadStep {
-    /// The head goes on behind the line.
+    /// The head may go on behind it.
     GoesOn,
-    /// The head has ended before the line, which is not counted.
+    /// The head has ended before a line, which is not counted.
     Ended,
-    /// The certificate fails at the line.
+    /// The certificate fails at the line behind those that were counted.
     Fails(Cause),
 }
 

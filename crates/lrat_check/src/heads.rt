@@ -7,11 +7,10 @@ ghost use Rattle.std.specs.Str.Lines.{strip_carriage_return};
 ghost use Rattle.text.specs.Text.{tokens_of};
 ghost use Rattle.cnf.specs.Problem.{Problem};
 ghost use Rattle.lrat_check.specs.CoreLines.{CountsOn, ReadsHead};
-ghost use Rattle.lrat_check.specs.Heads.{EndsWith, IsLineLeft, IsOpenHead, IsSomeLeft, Takes};
-ghost use Rattle.lrat_check.specs.Heads.{head_reading, left_length};
+ghost use Rattle.lrat_check.specs.Heads.{EndsWith, IsLineLeft, IsOpenHead, IsWithin, Takes};
+ghost use Rattle.lrat_check.specs.Heads.{head_reading};
 
 use crate::core_lines::{CoreLines, HeadStep};
-use crate::verdicts::Cause;
 use cnf::types::Instance;
 use std::alloc::AllocError;
 use text::buffer::LineBuffer;
@@ -22,20 +21,8 @@ use text::pieces::{split_line, without_return};
 pub struct CertificateHead {
     /// The lines that a line feed has ended.
     pub cores: CoreLines,
-    /// What follows the last line feed; once the head has ended, the front of the first line behind
-    /// it, or nothing.
+    /// What follows the last line feed; once the head has ended, what was read behind it.
     pub rest: LineBuffer,
-}
-
-/// What a piece does.
-#[derive(Clone, Copy, Drop)]
-pub enum Taken<'a> {
-    /// The head may go on behind the piece.
-    All,
-    /// The head has ended: what is kept and these bytes come behind it.
-    Ended(&'a [u8]),
-    /// The certificate fails at the line behind those that were counted.
-    Fails(Cause),
 }
 
 impl CertificateHead {
@@ -51,27 +38,29 @@ impl CertificateHead {
         })
     }
 
-    /// Reads the piece, up to the line behind the head or the first fault.
-    pub fn take<'a>(&mut self, piece: &'a [u8]) -> Result<Taken<'a>, AllocError>
+    /// Reads the piece, up to the line behind the head or the first fault. Of a line behind the head,
+    /// and of what follows it, all is kept.
+    pub fn take(&mut self, piece: &[u8]) -> Result<HeadStep, AllocError>
         requires { self.old.cores.lines + length self.old.rest + length piece.now < 2 ^ 64 }
-        ensures takes { IfOk result (λ taken. (p : Problem) (bytes : List ℕ)
+        ensures takes { IfOk result (λ step. (p : Problem) (bytes : List ℕ)
             → IsOpenHead p (head_reading self.old) bytes
-            → Takes p taken (head_reading self.new) (bytes ++ piece.now)) }
-        ensures lines { IfOk result (λ taken.
-            self.new.cores.lines + length self.new.rest + left_length taken
-            ≤ self.old.cores.lines + length self.old.rest + length piece.now) }
-        ensures some { IfOk result (λ taken. IsSomeLeft taken) }
+            → Takes p step (head_reading self.new) (bytes ++ piece.now)) }
+        ensures within { IfOk result (λ step. IsWithin step (head_reading self.new)
+            (self.old.cores.lines + length self.old.rest + length piece.now)) }
     {
         let mut left = piece;
         while let Some((end, after)) = split_line(left) {
             match self.end_line(end)? {
                 (HeadStep::GoesOn, _) => left = after,
-                (HeadStep::Ended, kept) => return Ok(Taken::Ended(&left[kept..])),
-                (HeadStep::Fails(cause), _) => return Ok(Taken::Fails(cause)),
+                (HeadStep::Ended, kept) => {
+                    self.rest.keep(&left[kept..])?;
+                    return Ok(HeadStep::Ended);
+                }
+                (HeadStep::Fails(cause), _) => return Ok(HeadStep::Fails(cause)),
             }
         }
         self.rest.keep(left)?;
-        Ok(Taken::All)
+        Ok(HeadStep::GoesOn)
     }
 
     /// Reads the last line, where nothing follows the pieces and no line feed ends it.

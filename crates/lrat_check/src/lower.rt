@@ -16,7 +16,7 @@ ghost use Rattle.lrat_check.specs.Stopping.{StopsInTime};
 
 use crate::behind::checker_over;
 use crate::core_lines::{CoreLines, HeadStep};
-use crate::head_streams::{HeadRead, read_head};
+use crate::head_streams::read_head;
 use crate::heads::CertificateHead;
 use crate::pieces::Checker;
 use crate::streams::judge_stream;
@@ -123,9 +123,9 @@ fn judge_headed<R: Read>(
         (λ v. IsLowerOf instance.now (R.remaining proof.old) (R.remaining proof.new) v) }
 {
     match read_head(head, proof)? {
-        HeadRead::AtEnd => end_own(head, instance),
-        HeadRead::More => judge_more(head, instance, proof),
-        HeadRead::Fails(cause) => Ok(LowerVerdict::No(cause, head.cores.lines() + 1)),
+        HeadStep::GoesOn => end_own(head, instance),
+        HeadStep::Ended => judge_more(head, instance, proof),
+        HeadStep::Fails(cause) => Ok(LowerVerdict::No(cause, head.cores.lines() + 1)),
     }
 }
 

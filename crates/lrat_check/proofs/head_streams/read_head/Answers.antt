@@ -4,7 +4,6 @@ use Rattle.std.proofs.Common.{refl, sym}
 use Rattle.std.specs.Io.KnownBytes.{IsAtEnd}
 use Rattle.wcnf.proofs.Laws.{all_read}
 use Rattle.lrat_check.specs.Heads.{head_reading}
-use Rattle.lrat_check.proofs.HeadLaws.{ended_kept}
 use Rattle.lrat_check.proofs.PieceLaws.{read_more}
 use Rattle.lrat_check.proofs.head_streams.read_head.Goals as goal
 
@@ -15,10 +14,10 @@ pub pieces-preserved : goal.pieces-preserved
 pieces-preserved g c =
     let i = c.pieces.invariant in (
       _,
-      λ p h. rw c.in-All.is at (c.in_ok-take.ensures.takes p i.0 (i.1 p h)),
+      λ p h. rw c.in-GoesOn.is at (c.in_ok-take.ensures.takes p i.0 (i.1 p h)),
       read_more (g.R.Read.remaining c.args.proof.now) (g.R.Read.remaining c.pieces.proof)
           (g.R.Read.remaining c.read.new.self) i.0 _ i.2 c.in-Ok.ensures.bytes.0,
-      omega (arith, c.in_ok-take.ensures.lines, i.3, length-take {A = ℕ}),
+      omega (arith, (rw c.in-GoesOn.is at c.in_ok-take.ensures.within), i.3, length-take {A = ℕ}),
     )
 
 pub returns-in-Ok-eq0-clause-read : goal.returns-in-Ok-eq0-clause-read
@@ -31,7 +30,8 @@ returns-in-Ok-eq0-clause-read g c =
       read = all_read (g.R.Read.remaining c.args.proof.now) (g.R.Read.remaining c.pieces.proof)
           (g.R.Read.remaining c.read.new.self) i.0 _ c.in-Ok-eq0.field-0 i.2
           c.in-Ok-eq0.ensures.bytes.0 zero;
-      leaves = (i.1 p h, end);
+      leaves = i.1 p h;
+      at_end = λ e. end;
       in_time = record {
         before = i.0;
         piece = [];
@@ -51,7 +51,8 @@ returns-in-Ended-clause-read g c =
       read =
           read_more (g.R.Read.remaining c.args.proof.now) (g.R.Read.remaining c.pieces.proof)
           (g.R.Read.remaining c.read.new.self) i.0 _ i.2 c.in-Ok.ensures.bytes.0;
-      leaves = ended_kept p c.take.new.self.cores _ _ _ c.in_ok-keep-in-Ended.ensures.kept t;
+      leaves = t;
+      at_end = λ e. absurd (cc);
       in_time = record {
         before = i.0;
         piece = _;
@@ -72,6 +73,7 @@ returns-in-Fails-clause-read g c =
           read_more (g.R.Read.remaining c.args.proof.now) (g.R.Read.remaining c.pieces.proof)
           (g.R.Read.remaining c.read.new.self) i.0 _ i.2 c.in-Ok.ensures.bytes.0;
       leaves = t;
+      at_end = λ e. absurd (cc);
       in_time = record {
         before = i.0;
         piece = _;

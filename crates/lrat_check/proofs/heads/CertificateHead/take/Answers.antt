@@ -1,13 +1,13 @@
 -- What the piece leaves: after a line of it, behind the head, after a fault, and after its last
 -- bytes.
-use Rattle.std.proofs.Common.{◌++◌, ap, arith, length, refl, subst, sym}
+use Rattle.std.proofs.Common.{ℕ, length-append, ◌++◌, ap, arith, length, refl, subst, sym}
 use Rattle.std.proofs.lemmas.List.{length-drop, take_rest}
 use Rattle.std.specs.Str.Lines.{strip_carriage_return}
 use Rattle.text.specs.Text.{tokens_of}
 use Rattle.text.proofs.Laws.{line_lengths}
-use Rattle.lrat_check.specs.CoreLines.{ReadsHead}
+use Rattle.lrat_check.specs.CoreLines.{HeadState, ReadsHead}
 use Rattle.lrat_check.specs.Heads.{IsEndedHead, head_reading}
-use Rattle.lrat_check.proofs.HeadLaws.{taken_ended, taken_failed, taken_line, taken_rest}
+use Rattle.lrat_check.proofs.HeadLaws.{ended_kept, taken_ended, taken_failed, taken_line, taken_rest}
 use Rattle.lrat_check.proofs.heads.CertificateHead.take.Goals as goal
 
 pub loop-end-preserved : goal.loop-end-preserved
@@ -34,13 +34,14 @@ returns-in-Ended-default-clause-takes c = λ p bytes h.
     let judged = subst (λ s. ReadsHead c.loop-end.self.cores
     (tokens_of (strip_carriage_return (c.loop-end.self.rest ++ c.in-Some.end.now))) s
     c.end_line.new.self.cores) ended e.judges in
-    subst (λ x. IsEndedHead p c.end_line.new.self.cores (c.end_line.new.self.rest ++ x)
+    ended_kept p c.end_line.new.self.cores _ _ _ c.in_ok-keep-in-Ended-default.ensures.kept
+    (subst (λ x. IsEndedHead p c.end_line.new.self.cores (c.end_line.new.self.rest ++ x)
     (bytes ++ c.args.piece.now))
     (sym (take_rest c.loop-end.left.now c.in_ok-end_line.field-0.1))
     (taken_ended (head_reading c.args.self.now) (head_reading c.loop-end.self)
     (head_reading c.end_line.new.self) c.args.piece.now c.loop-end.left.now c.in-Some.end.now
     c.in-Some.after.now c.loop-end.invariant.taken c.in-Some.ensures p bytes h
-    c.in_ok-end_line.field-0.1 e.within (e.kept ended) judged.0 judged.1 e.counts)
+    c.in_ok-end_line.field-0.1 e.within (e.kept ended) judged.0 judged.1 e.counts))
 
 pub returns-in-Fails-default-clause-takes : goal.returns-in-Fails-default-clause-takes
 returns-in-Fails-default-clause-takes c = λ p bytes h.
@@ -53,22 +54,42 @@ returns-in-Fails-default-clause-takes c = λ p bytes h.
     c.in-Some.after.now c.loop-end.invariant.taken c.in-Some.ensures p bytes h
     c.in-Fails-default.cause judged
 
-pub returns-in-Fails-default-clause-lines : goal.returns-in-Fails-default-clause-lines
-returns-in-Fails-default-clause-lines c =
+pub returns-in-Fails-default-clause-within : goal.returns-in-Fails-default-clause-within
+returns-in-Fails-default-clause-within c =
     let e = c.in_ok-end_line.ensures in
     let n = line_lengths c.loop-end.left.now c.in-Some.end.now c.in-Some.after.now
     c.in-Some.ensures in
     let judged = subst (λ s. ReadsHead c.loop-end.self.cores
     (tokens_of (strip_carriage_return (c.loop-end.self.rest ++ c.in-Some.end.now))) s
     c.end_line.new.self.cores) c.in-Fails-default.is-0 e.judges in
-    omega (arith, n, e.short, judged.0, c.loop-end.invariant.room)
+    omega (arith, n, judged.0, c.loop-end.invariant.room)
 
-pub returns-in-Ended-default-clause-some : goal.returns-in-Ended-default-clause-some
-returns-in-Ended-default-clause-some c =
+pub returns-in-Ended-default-clause-within : goal.returns-in-Ended-default-clause-within
+returns-in-Ended-default-clause-within c =
+    let e = c.in_ok-end_line.ensures in
     let n = line_lengths c.loop-end.left.now c.in-Some.end.now c.in-Some.after.now
     c.in-Some.ensures in
-    rw (take_rest c.loop-end.left.now c.in_ok-end_line.field-0.1)
-    (simp length-drop (omega (arith, n, c.in_ok-end_line.ensures.within)))
+    let judged = subst (λ s. ReadsHead c.loop-end.self.cores
+    (tokens_of (strip_carriage_return (c.loop-end.self.rest ++ c.in-Some.end.now))) s
+    c.end_line.new.self.cores) c.in-Ended-default.is-0 e.judges in
+    let lines = ap (λ (h : HeadState). h.lines) judged.0 in
+    let kept = ap length (e.kept c.in-Ended-default.is-0) in
+    let all = ap length c.in_ok-keep-in-Ended-default.ensures.kept in
+    let size = ap length (take_rest c.loop-end.left.now c.in_ok-end_line.field-0.1) in (
+      omega (
+        arith,
+        n,
+        e.within,
+        lines,
+        kept,
+        all,
+        size,
+        length-append {A = ℕ},
+        length-drop {A = ℕ},
+        c.loop-end.invariant.room,
+      ),
+      omega (arith, n, lines, c.loop-end.invariant.room),
+    )
 
 pub returns-clause-takes : goal.returns-clause-takes
 returns-clause-takes c = λ p bytes h.

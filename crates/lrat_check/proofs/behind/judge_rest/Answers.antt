@@ -6,7 +6,7 @@ use Rattle.lrat_check.specs.Verdict.{verdict_at}
 use Rattle.lrat_check.proofs.BehindLaws.{behind_same, behind_sound}
 use Rattle.lrat_check.proofs.LeftLaws.{if_some_more}
 use Rattle.lrat_check.proofs.Stops.{nothing_behind, stops_behind}
-use Rattle.lrat_check.proofs.headed.judge_rest.Goals as goal
+use Rattle.lrat_check.proofs.behind.judge_rest.Goals as goal
 
 pub returns-in-Some-clause-verdict : goal.returns-in-Some-clause-verdict
 returns-in-Some-clause-verdict g c =

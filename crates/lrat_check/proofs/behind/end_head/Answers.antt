@@ -5,7 +5,7 @@ use Rattle.text.specs.Text.{token_lines}
 use Rattle.lrat_check.specs.Heads.{verdict_ended}
 use Rattle.lrat_check.specs.Verdict.{verdict_at}
 use Rattle.lrat_machine.specs.declared.verdicts.Verdict.TheVariants.{No}
-use Rattle.lrat_check.proofs.headed.end_head.Goals as goal
+use Rattle.lrat_check.proofs.behind.end_head.Goals as goal
 
 pub returns-in-GoesOn-clause-verdict : goal.returns-in-GoesOn-clause-verdict
 returns-in-GoesOn-clause-verdict c = λ bytes h.
