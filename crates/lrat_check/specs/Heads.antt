@@ -53,12 +53,12 @@ Takes p Ended r bytes = IsEndedHead p r.head r.rest bytes
 Takes p (Fails cause) r bytes =
     (more : List ℕ) → end_of_head p (bytes ++ more) ≡ Faulty cause ((r.head).lines + 1)
 
--- what is kept belongs to no line that was counted, nor does the line that is none of the head:
--- there are at most so many bytes together
+-- there is at most so much: a byte for each line that was counted, what is kept, and the line that
+-- is faulty. The line behind the head is not empty
 abbrev pub IsWithin : HeadStep → HeadReading → ℕ → Type 0
 IsWithin GoesOn r most = (r.head).lines + length r.rest ≤ most
-IsWithin Ended r most = ((r.head).lines + length r.rest ≤ most) × ((r.head).lines + 1 ≤ most)
-IsWithin (Fails cause) r most = (r.head).lines + 1 ≤ most
+IsWithin Ended r most = ((r.head).lines + length r.rest ≤ most) × (0 < length r.rest)
+IsWithin (Fails cause) r most = (r.head).lines + length r.rest + 1 ≤ most
 
 -- what the head comes to where nothing follows the bytes
 abbrev pub EndsWith : Problem → HeadStep → HeadReading → List ℕ → Type 0

@@ -48,7 +48,7 @@ judge_rest-requires-clause-room g c =
 
 pub judge_rest-requires-clause-line : goal.judge_rest-requires-clause-line
 judge_rest-requires-clause-line g c =
-    let room = rw c.in-Ended.is at c.in_ok-read_head.ensures.room in omega (arith, room.1)
+    let room = rw c.in-Ended.is at c.in_ok-read_head.ensures.room in omega (arith, room.0, room.1)
 
 pub returns-in-Ended-clause-verdict : goal.returns-in-Ended-clause-verdict
 returns-in-Ended-clause-verdict g c =

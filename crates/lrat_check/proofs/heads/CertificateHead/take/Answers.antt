@@ -62,7 +62,7 @@ returns-in-Fails-default-clause-within c =
     let judged = subst (λ s. ReadsHead c.loop-end.self.cores
     (tokens_of (strip_carriage_return (c.loop-end.self.rest ++ c.in-Some.end.now))) s
     c.end_line.new.self.cores) c.in-Fails-default.is-0 e.judges in
-    omega (arith, n, judged.0, c.loop-end.invariant.room)
+    omega (arith, n, e.short, judged.0, c.loop-end.invariant.room)
 
 pub returns-in-Ended-default-clause-within : goal.returns-in-Ended-default-clause-within
 returns-in-Ended-default-clause-within c =
@@ -88,7 +88,7 @@ returns-in-Ended-default-clause-within c =
         length-drop {A = ℕ},
         c.loop-end.invariant.room,
       ),
-      omega (arith, n, lines, c.loop-end.invariant.room),
+      omega (arith, n, e.within, all, size, length-append {A = ℕ}, length-drop {A = ℕ}),
     )
 
 pub returns-clause-takes : goal.returns-clause-takes
