@@ -42,8 +42,8 @@ IsRefutedBy slots trail c hints =
     Refutes (clause_at slots) (map negation c ++ literals_of (kept_to 0 trail)) hints
 
 -- no live clause is false or unit
-abbrev pub IsQuiet : Slots → List Literal → Type 0
-IsQuiet slots A = (r : ℕ) (c : List Literal) → clause_at slots r ≡ Some c
+abbrev pub IsFixpoint : Slots → List Literal → Type 0
+IsFixpoint slots A = (r : ℕ) (c : List Literal) → clause_at slots r ≡ Some c
     → (IsFalseUnder c A → ⊥) × ((l : Literal) → IsUnit c A l → ⊥)
 
 -- What an analysis has marked: the variables that stay in the clause, and those that were resolved.

@@ -8,7 +8,7 @@ use Rattle.std.proofs.lemmas.List.Elements.{All-nil}
 use Rattle.cnf.specs.Literal.{Literal}
 use Rattle.cnf.specs.Clause.{greatest_variable}
 use Rattle.cnf.specs.Refute.{IsRefutedByHints}
-use Rattle.analyze.specs.Analyzer.{IsQuiet}
+use Rattle.analyze.specs.Analyzer.{IsFixpoint}
 use Rattle.lrat_log.specs.Log.{LogLine, Given}
 use Rattle.lrat_log.specs.Steps.{IsLogOver, IsAcceptedLog, StaysLogOver}
 use Rattle.lrat_log.specs.Steps.{AddsNoEmptyClause, adds_empty_clause}
@@ -64,12 +64,12 @@ pub ended_log : (p : Input) (ls : List LogLine) → IsInput p → IsEnded p ls
 ended_log p ls i e = accepted_log (seen_given p) ls (log_now p ls i e.stays) e.refuted
 
 pub not_plain : (s : Search) (p : Input) (ls : List LogLine) (A : List Literal) → IsInput p
-    → Runs s p ls → IsQuiet (s.store).slots A
+    → Runs s p ls → IsFixpoint (s.store).slots A
     → IsRefutedByHints (map (λ g. g.1) (take p.first p.given))
     ⊎ Contains (map (λ g. g.1) (seen_given p)) []
     → ⊥
-not_plain s p ls A i r quiet h =
-    plain_open (s.store).slots A p.first p.given r.running.recorded.plain quiet
+not_plain s p ls A i r fixpoint h =
+    plain_open (s.store).slots A p.first p.given r.running.recorded.plain fixpoint
     (subst (λ g. IsRefutedByHints (map (λ x. x.1) (take p.first p.given))
     ⊎ Contains (map (λ x. x.1) g) []) (given_seen p i) h)
 
@@ -112,9 +112,10 @@ pub plain_unsat : (s : Search) (p : Input) (ls : List LogLine) (b : BudgetState)
     → IsRefutedByHints (map (λ g. g.1) (take p.first p.given))
     ⊎ Contains (map (λ g. g.1) (seen_given p)) []
     → o ≡ Unsat
-plain_unsat s p ls b (Sat bits) i a h = absurd (not_plain s p ls a.quiet.0 i a.runs a.quiet.1 h)
+plain_unsat s p ls b (Sat bits) i a h =
+    absurd (not_plain s p ls a.fixpoint.0 i a.runs a.fixpoint.1 h)
 plain_unsat s p ls b Unsat i a h = refl
-plain_unsat s p ls b Limit i a h = absurd (not_plain s p ls a.quiet.0 i a.runs a.quiet.1 h)
+plain_unsat s p ls b Limit i a h = absurd (not_plain s p ls a.fixpoint.0 i a.runs a.fixpoint.1 h)
 
 pub is_satisfied : (s : Search) (p : Input) (ls : List LogLine) (b : BudgetState) (end : End)
     → end ≡ Satisfied → IsEndOf s p ls b end → IsSatisfied s p ls b

@@ -290,7 +290,7 @@ first_runs s p ls cs slots additions n unnamed t h given firsts stays open_log c
         works = t.works;
         fits = t.fits;
         all_attached = all_attached cs slots n ls h s t.attached;
-        quiet = λ level below. (let flat : depth_of (s.engine).trail ≡ 0 = ap depth_of t.trail in
+        fixpoint = λ level below. (let flat : depth_of (s.engine).trail ≡ 0 = ap depth_of t.trail in
             absurd (omega arith));
       };
       variables = t.variables;

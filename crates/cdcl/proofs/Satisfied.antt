@@ -15,7 +15,7 @@ use Rattle.cnf.specs.Refute.{IsFalseUnder, IsRefutedByHints}
 use Rattle.clauses.specs.Slots.{Slots, clause_at}
 use Rattle.propagate.specs.Trail.{Assigned, literals_of, value_in}
 use Rattle.propagate.specs.Fits.{IsWithin}
-use Rattle.analyze.specs.Analyzer.{IsQuiet}
+use Rattle.analyze.specs.Analyzer.{IsFixpoint}
 use Rattle.cdcl.specs.Outcomes.{AreValues}
 use Rattle.cdcl_order.specs.Orders.{positive}
 use Rattle.cnf.specs.Formula.{IsFormulaClause}
@@ -98,15 +98,15 @@ satisfied_or_false T bits (l ∷ c) values ones small =
     ]
 
 pub live_satisfied : (slots : Slots) (T : List Assigned) (bits : List Bool) → AreValues T bits
-    → IsQuiet slots (literals_of T)
+    → IsFixpoint slots (literals_of T)
     → ((r : ℕ) (c : List Literal) → clause_at slots r ≡ Some c → IsWithin (length bits) c)
     → (r : ℕ) (c : List Literal) → clause_at slots r ≡ Some c → Satisfies (assignment_of bits) c
-live_satisfied slots T bits values quiet small r c e =
+live_satisfied slots T bits values fixpoint small r c e =
     let w = small r c e in
     elim (satisfied_or_false T bits c values w.0 w.1) [
       | inl s ↦ s
       | inr f ↦
-          absurd ((quiet r c e).0 f)
+          absurd ((fixpoint r c e).0 f)
     ]
 
 -- only the bits of a clause's variables matter
@@ -139,17 +139,17 @@ extends_agrees n bits t within ext (suc v) one low =
 
 -- The answers.
 
--- the bits of a quiet trail without open variables, after reconstruction, satisfy all that was
+-- the bits of a trail at a fixpoint without open variables, after reconstruction, satisfy all that was
 -- given
 pub answer_sat : (e : EngineState) (slots : Slots) (stack : StackState) (t : Tables)
     (frozen : List Bool) (first : ℕ) (given : Given) (ls : List LogLine) (bits : List Bool)
-    → IsRunning e slots stack t frozen first given ls → IsQuiet slots (literals_of e.trail)
+    → IsRunning e slots stack t frozen first given ls → IsFixpoint slots (literals_of e.trail)
     → length bits ≡ stack.variables → AreValues e.trail bits
     → All (λ g. IsFormulaClause (length frozen) g.1) given
     → length frozen ≤ length (extended stack.removed bits)
     → SatisfyGiven (take (length frozen) (extended stack.removed bits)) given
-answer_sat e slots stack t frozen first given ls bits r quiet long values small wide u ext =
-    let live = live_satisfied slots e.trail bits values quiet (λ q c at.
+answer_sat e slots stack t frozen first given ls bits r fixpoint long values small wide u ext =
+    let live = live_satisfied slots e.trail bits values fixpoint (λ q c at.
     let w = r.searches.fits.attached q (r.searches.all_attached q (c, at)) in
     let same : w.0 ≡ c = same_Some w.0 c (sym w.1 ∙ at) in
     let size : e.variables ≡ length bits = r.variables ∙ sym long in
@@ -163,14 +163,14 @@ answer_sat e slots stack t frozen first given ls bits r quiet long values small 
 
 -- hints refute nothing where no clause is false or unit
 pub answer_open : (e : EngineState) (slots : Slots) (names : List Name) (given : Given)
-    (ls : List LogLine) → NamesStore slots names given ls → IsQuiet slots (literals_of e.trail)
+    (ls : List LogLine) → NamesStore slots names given ls → IsFixpoint slots (literals_of e.trail)
     → IsLiveRefuted given ls → ⊥
-answer_open e slots names given ls n quiet w =
+answer_open e slots names given ls n fixpoint w =
     not_refuted (log_live given w.0 ls) (literals_of e.trail)
-    (λ i c at. let z = (n.live w.0 w.1).only i c at in quiet z.0 c z.1) w.2 w.3
+    (λ i c at. let z = (n.live w.0 w.1).only i c at in fixpoint z.0 c z.1) w.2 w.3
 
 -- nor is the empty clause live there
 pub plain_open : (slots : Slots) (A : List Literal) (first : ℕ) (given : Given)
-    → KeepsPlain slots first given → IsQuiet slots A
+    → KeepsPlain slots first given → IsFixpoint slots A
     → IsRefutedByHints (map (λ g. g.1) (take first given)) ⊎ Contains (map (λ g. g.1) given) [] → ⊥
-plain_open slots A first given plain quiet h = let w = plain h in (quiet w.0 [] w.1).0 tt
+plain_open slots A first given plain fixpoint h = let w = plain h in (fixpoint w.0 [] w.1).0 tt

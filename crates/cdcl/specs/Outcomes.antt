@@ -2,7 +2,7 @@
 use Rattle.std.specs.Prelude.{◌≡◌, ℕ, ◌+◌, ◌<◌, Bool, false, List, length, Some, Result}
 use Rattle.std.specs.Prelude.{slice_index_or}
 use Rattle.cnf.specs.Literal.{Literal}
-use Rattle.analyze.specs.Analyzer.{IsQuiet}
+use Rattle.analyze.specs.Analyzer.{IsFixpoint}
 use Rattle.cdcl_order.specs.Budgets.{BudgetState}
 use Rattle.lrat_log.specs.Log.{LogLine, Given}
 use Rattle.lrat_log.specs.Steps.{StaysLogOver}
@@ -35,7 +35,7 @@ AreValues T bits = (i : ℕ) → i < length bits
 pub record IsSatisfying (s : Search) (p : Input) (ls : List LogLine)
     (bits : List Bool) : Type 0 where
   pub runs : Runs s p ls
-  pub quiet : (A : List Literal) × IsQuiet (s.store).slots A
+  pub fixpoint : (A : List Literal) × IsFixpoint (s.store).slots A
   pub long : length bits ≡ length (p.frozen).items
   pub satisfied : SatisfyGiven bits p.given
 

@@ -3,7 +3,7 @@ use Rattle.std.specs.Prelude.{◌≡◌, ℕ, ◌+◌, List, length, Option, Res
 use Rattle.std.specs.Prelude.{if◌then◌else◌, IfNone, ◌<◌, ◌-◌, ◌*◌, Bool, true, false, Contains}
 use Rattle.std.specs.Prelude.{map, take, [], ◌⊎◌}
 use Rattle.propagate.specs.Trail.{literals_of}
-use Rattle.analyze.specs.Analyzer.{IsQuiet}
+use Rattle.analyze.specs.Analyzer.{IsFixpoint}
 use Rattle.cdcl_order.specs.Budgets.{BudgetState, left_of}
 use Rattle.lrat_log.specs.Log.{LogLine, Given}
 use Rattle.cdcl_search.specs.declared.input.Input.{Input}
@@ -25,14 +25,14 @@ Pays given before after old new = (n : ℕ) × Writes given before after n
 pub record IsSatisfied (s : Search) (p : Input) (ls : List LogLine)
     (b : BudgetState) : Type 0 where
   pub runs : Runs s p ls
-  pub quiet : IsQuiet (s.store).slots (literals_of (s.engine).trail)
+  pub fixpoint : IsFixpoint (s.store).slots (literals_of (s.engine).trail)
   pub closed : AreClosed (s.engine).trail (s.engine).variables
   pub left : 0 < left_of b
 
 -- nothing is left of the budget, and hints do not refute what is live
 pub record IsSpent (s : Search) (p : Input) (ls : List LogLine) (b : BudgetState) : Type 0 where
   pub runs : Runs s p ls
-  pub quiet : (A : List Literal) × IsQuiet (s.store).slots A
+  pub fixpoint : (A : List Literal) × IsFixpoint (s.store).slots A
   pub spent : left_of b ≡ 0
 
 abbrev pub IsEndOf : Search → Input → List LogLine → BudgetState → End → Type 0

@@ -3,7 +3,7 @@ ghost use Rattle.std.specs.Prelude.{◌≡◌, ◌<◌, true, Some, List, length
 ghost use Rattle.cnf.specs.Literal.{Literal};
 ghost use Rattle.cnf.specs.declared.limits.TheConstants.{VARIABLE_LIMIT};
 ghost use Rattle.propagate.specs.Trail.{literals_of, value_in};
-ghost use Rattle.analyze.specs.Analyzer.{IsQuiet};
+ghost use Rattle.analyze.specs.Analyzer.{IsFixpoint};
 ghost use Rattle.cdcl_order.specs.Orders.{AreClosed};
 ghost use Rattle.lrat_log.specs.Log.{LogLine};
 ghost use Rattle.eliminate.specs.Elimination.{extended};
@@ -23,7 +23,7 @@ use std::alloc::AllocError;
 pub(crate) fn bits(search: &Search, input: &Input) -> Result<Vec<bool>, AllocError>
     requires runs { (ls : List LogLine) × Runs search.now input.now ls }
     requires input { IsInput input.now }
-    requires quiet { IsQuiet search.now.store.slots (literals_of search.now.engine.trail) }
+    requires fixpoint { IsFixpoint search.now.store.slots (literals_of search.now.engine.trail) }
     requires closed { AreClosed search.now.engine.trail search.now.engine.variables }
     ensures long { IfOk result (λ bits. length bits.items ≡ length input.now.frozen.items) }
     ensures satisfied { IfOk result (λ bits. SatisfyGiven bits.items input.now.given) }

@@ -11,7 +11,7 @@ ghost use Rattle.std.specs.Prelude.{◌≡◌, ◌+◌, ◌<◌, ◌≤◌, true
 ghost use Rattle.std.specs.Prelude.{Some, None, false};
 ghost use Rattle.propagate.specs.Trail.{literals_of, value_in};
 ghost use Rattle.propagate.specs.Fits.{IsFalseClause};
-ghost use Rattle.analyze.specs.Analyzer.{IsQuiet};
+ghost use Rattle.analyze.specs.Analyzer.{IsFixpoint};
 ghost use Rattle.cdcl_order.specs.Budgets.{left_of};
 ghost use Rattle.cdcl_search.specs.Invariant.{zero_of};
 ghost use Rattle.cdcl.specs.Solving.{IsLiveRefuted};
@@ -191,7 +191,7 @@ pub(crate) fn run_assuming<S: Sink, W: SearchWatch>(
         (λ halt. IsLiveRefuted input.now.given (S.lines sink.old)
         → halt ≡ Refuted) }
     ensures plain { IfOk result (λ halt. IsPlain input.now → halt ≡ Refuted) }
-    ensures quiet { W.seen watch.new ≡ W.seen watch.old }
+    ensures same_seen { W.seen watch.new ≡ W.seen watch.old }
 {
     if refutes_at_once(search, input, sink)? {
         return Ok(SearchEnd::Refuted);
@@ -223,7 +223,7 @@ fn descend_assuming<S: Sink, W: SearchWatch>(
     requires known { AreKnown input.now.stack.variables assumptions.now }
     ensures search { Halts result search.new input.now assumptions.now (S.lines sink.old)
         (S.lines sink.new) budget.old budget.new }
-    ensures quiet { W.seen watch.new ≡ W.seen watch.old }
+    ensures same_seen { W.seen watch.new ≡ W.seen watch.old }
 {
     let alloc = search.store.allocator();
     let mut progress = AssumptionProgress::new(alloc, assumptions.len(), share, passed)?;
@@ -259,7 +259,7 @@ fn round_assuming<S: Sink, W: SearchWatch>(
     requires known { AreKnown input.now.stack.variables assumptions.now }
     ensures turns { TurnsOrHalts result search.old search.new input.now assumptions.now
         (S.lines sink.old) (S.lines sink.new) budget.old budget.new }
-    ensures quiet { W.seen watch.new ≡ W.seen watch.old }
+    ensures same_seen { W.seen watch.new ≡ W.seen watch.old }
 {
     match search.propagate()? {
         Some(conflict) => learn_assuming(
@@ -294,7 +294,7 @@ fn learn_assuming<S: Sink, W: SearchWatch>(
     requires conflict { IsFalseClause search.old.store.slots search.old.engine conflict }
     ensures turns { TurnsOrHalts result search.old search.new input.now assumptions.now
         (S.lines sink.old) (S.lines sink.new) budget.old budget.new }
-    ensures quiet { W.seen watch.new ≡ W.seen watch.old }
+    ensures same_seen { W.seen watch.new ≡ W.seen watch.old }
 {
     if search.engine.depth() == 0 {
         refute(search, input, sink, conflict)?;
@@ -325,7 +325,7 @@ fn decide_assuming<S: Sink>(
     progress: &mut AssumptionProgress<'_>,
 ) -> Result<Option<SearchEnd>, AllocError>
     requires runs { Runs search.old input.now (S.lines sink.old) }
-    requires quiet { IsQuiet search.old.store.slots (literals_of search.old.engine.trail) }
+    requires fixpoint { IsFixpoint search.old.store.slots (literals_of search.old.engine.trail) }
     requires known { AreKnown input.now.stack.variables assumptions.now }
     ensures { TurnsOrHalts result search.old search.new input.now assumptions.now (S.lines sink.old)
         (S.lines sink.new) budget.old budget.new }
@@ -352,7 +352,7 @@ fn pass_and_choose<S: Sink>(
     progress: &mut AssumptionProgress<'_>,
 ) -> Result<Option<SearchEnd>, AllocError>
     requires runs { Runs search.old input.now (S.lines sink.old) }
-    requires quiet { IsQuiet search.old.store.slots (literals_of search.old.engine.trail) }
+    requires fixpoint { IsFixpoint search.old.store.slots (literals_of search.old.engine.trail) }
     requires noted { length (zero_of search.old.engine.trail) ≤ search.old.noted }
     requires known { AreKnown input.now.stack.variables assumptions.now }
     requires left { 0 < left_of budget.old }
@@ -373,7 +373,7 @@ fn choose<S: Sink>(
     progress: &mut AssumptionProgress<'_>,
 ) -> Result<Option<SearchEnd>, AllocError>
     requires runs { Runs search.old input.now (S.lines sink.old) }
-    requires quiet { IsQuiet search.old.store.slots (literals_of search.old.engine.trail) }
+    requires fixpoint { IsFixpoint search.old.store.slots (literals_of search.old.engine.trail) }
     requires noted { length (zero_of search.old.engine.trail) ≤ search.old.noted }
     requires known { AreKnown input.now.stack.variables assumptions.now }
     requires left { 0 < left_of budget.old }

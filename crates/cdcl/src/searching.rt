@@ -5,7 +5,7 @@
 ghost use Rattle.std.specs.Prelude.{◌≡◌, IfOk};
 ghost use Rattle.propagate.specs.Trail.{literals_of};
 ghost use Rattle.propagate.specs.Fits.{IsFalseClause};
-ghost use Rattle.analyze.specs.Analyzer.{IsQuiet};
+ghost use Rattle.analyze.specs.Analyzer.{IsFixpoint};
 ghost use Rattle.cdcl.specs.Solving.{IsLiveRefuted};
 ghost use Rattle.cdcl_search.specs.Running.{Runs};
 ghost use Rattle.cdcl.specs.Turns.{Ends, Turns, Opens};
@@ -48,7 +48,7 @@ pub(crate) fn run<S: Sink, W: SearchWatch>(
     ensures propagates { IfOk result
         (λ end. IsLiveRefuted input.now.given (S.lines sink.old)
         → end ≡ Refuted) }
-    ensures quiet { W.seen watch.new ≡ W.seen watch.old }
+    ensures same_seen { W.seen watch.new ≡ W.seen watch.old }
 {
     if refutes_at_once(search, input, sink)? {
         return Ok(End::Refuted);
@@ -88,7 +88,7 @@ fn descend<S: Sink, W: SearchWatch>(
     requires runs { Runs search.old input.now (S.lines sink.old) }
     ensures search { Ends result search.new input.now (S.lines sink.old) (S.lines sink.new)
         budget.old budget.new }
-    ensures quiet { W.seen watch.new ≡ W.seen watch.old }
+    ensures same_seen { W.seen watch.new ≡ W.seen watch.old }
 {
     'rounds: loop {
         match round(search, input, sink, budget, watch)? {
@@ -109,11 +109,11 @@ fn round<S: Sink, W: SearchWatch>(
     requires runs { Runs search.old input.now (S.lines sink.old) }
     ensures turns { Turns result search.old search.new input.now (S.lines sink.old)
         (S.lines sink.new) budget.old budget.new }
-    ensures quiet { W.seen watch.new ≡ W.seen watch.old }
+    ensures same_seen { W.seen watch.new ≡ W.seen watch.old }
 {
     match search.propagate()? {
         Some(conflict) => on_conflict(search, input, sink, budget, watch, conflict),
-        None => on_quiet(search, input, sink, budget),
+        None => on_fixpoint(search, input, sink, budget),
     }
 }
 
@@ -130,7 +130,7 @@ fn on_conflict<S: Sink, W: SearchWatch>(
     requires conflict { IsFalseClause search.old.store.slots search.old.engine conflict }
     ensures turns { Turns result search.old search.new input.now (S.lines sink.old)
         (S.lines sink.new) budget.old budget.new }
-    ensures quiet { W.seen watch.new ≡ W.seen watch.old }
+    ensures same_seen { W.seen watch.new ≡ W.seen watch.old }
 {
     if search.engine.depth() == 0 {
         refute(search, input, sink, conflict)?;
@@ -146,15 +146,15 @@ fn on_conflict<S: Sink, W: SearchWatch>(
 }
 
 /// Restarts or decides, if something is left of the budget. Clauses are deleted after a
-/// decision: by then what was learned has been propagated, and each level below is quiet.
-fn on_quiet<S: Sink>(
+/// decision: by then what was learned has been propagated, and each level below is at a fixpoint.
+fn on_fixpoint<S: Sink>(
     search: &mut Search,
     input: &Input,
     sink: &mut S,
     budget: &mut Budget,
 ) -> Result<Option<End>, AllocError>
     requires runs { Runs search.old input.now (S.lines sink.old) }
-    requires quiet { IsQuiet search.old.store.slots (literals_of search.old.engine.trail) }
+    requires fixpoint { IsFixpoint search.old.store.slots (literals_of search.old.engine.trail) }
     ensures { Turns result search.old search.new input.now (S.lines sink.old) (S.lines sink.new)
         budget.old budget.new }
 {

@@ -290,7 +290,7 @@ impl<S: Sink> Solver<S> {
     ) -> Result<Outcome, SolveFault>
         ensures solves { Solves result self.old self.new (S.lines self.old.sink)
             (S.lines self.new.sink) budget.old budget.new }
-        ensures quiet { W.seen watch.new ≡ W.seen watch.old }
+        ensures same_seen { W.seen watch.new ≡ W.seen watch.old }
     {
         if self.failed {
             return Err(SolveFault::Failed);
@@ -330,7 +330,7 @@ impl<S: Sink> Solver<S> {
         requires { All (IsFrozen self.old.frozen) assumptions.now }
         ensures solves { SolvesAssuming result self.old self.new assumptions.now
             (S.lines self.old.sink) (S.lines self.new.sink) budget.old budget.new }
-        ensures quiet { W.seen watch.new ≡ W.seen watch.old }
+        ensures same_seen { W.seen watch.new ≡ W.seen watch.old }
     {
         let mut none = Passed::new(self.search.store.allocator(), 0);
         self.solve_passing(assumptions, share, &mut none, budget, watch)
@@ -354,7 +354,7 @@ impl<S: Sink> Solver<S> {
         requires { All (IsFrozen self.old.frozen) assumptions.now }
         ensures solves { SolvesAssuming result self.old self.new assumptions.now
             (S.lines self.old.sink) (S.lines self.new.sink) budget.old budget.new }
-        ensures quiet { W.seen watch.new ≡ W.seen watch.old }
+        ensures same_seen { W.seen watch.new ≡ W.seen watch.old }
     {
         if self.failed {
             return Err(SolveFault::Failed);
@@ -416,7 +416,7 @@ fn answer_assuming<S: Sink, W: SearchWatch>(
     ensures pays { Pays input.now.given (S.lines sink.old) (S.lines sink.new)
         budget.old budget.new }
     ensures err { OnErr result (StaysOpen input.now (S.lines sink.new)) }
-    ensures quiet { W.seen watch.new ≡ W.seen watch.old }
+    ensures same_seen { W.seen watch.new ≡ W.seen watch.old }
 {
     let halt = run_assuming(
         search,
@@ -456,7 +456,7 @@ fn answer<S: Sink, W: SearchWatch>(
     ensures pays { PaysFor result input.now.given (S.lines sink.old) (S.lines sink.new)
         budget.old budget.new }
     ensures err { OnErr result (StaysOpen input.now (S.lines sink.new)) }
-    ensures quiet { W.seen watch.new ≡ W.seen watch.old }
+    ensures same_seen { W.seen watch.new ≡ W.seen watch.old }
 {
     let end = run(search, input, sink, budget, watch)?;
     match end {

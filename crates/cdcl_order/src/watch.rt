@@ -25,7 +25,7 @@ pub trait SearchWatch {
 
     /// The search has learned a clause.
     fn learned(&mut self, report: &SearchReport)
-        ensures quiet { seen self.new ≡ seen self.old };
+        ensures same_seen { seen self.new ≡ seen self.old };
 }
 
 /// Looks at nothing.

@@ -15,7 +15,7 @@ use Rattle.cnf.proofs.Laws.{literal_eq-refl, all_weaker, contains-append, contai
 use Rattle.cnf.proofs.Laws.{contains_back}
 use Rattle.propagate.proofs.Laws.{in_kept, kept_prefix}
 use Rattle.propagate.proofs.Laws.{literals-append}
-use Rattle.analyze.specs.Analyzer.{IsConflict, IsQuiet}
+use Rattle.analyze.specs.Analyzer.{IsConflict, IsFixpoint}
 use Rattle.analyze.proofs.Laws.{level_is, false_below}
 use Rattle.cdcl_search.specs.Invariant.{zero_of}
 use Rattle.cdcl_search.specs.Hinting.{Serves}
@@ -40,12 +40,12 @@ current_or_below at T (l ∷ c) reasons deep f =
 -- a conflict above level 0 has a literal of the current level
 pub is_conflict : (slots : Slots) (T : List Assigned) (r : ℕ) (c : List Literal)
     → HasReasons (clause_at slots) [] T → 0 < depth_of T
-    → IsQuiet slots (literals_of (kept_to (depth_of T - 1) T))
+    → IsFixpoint slots (literals_of (kept_to (depth_of T - 1) T))
     → clause_at slots r ≡ Some c → IsFalseUnder c (literals_of T) → IsConflict T c
-is_conflict slots T r c reasons deep quiet here wrong =
+is_conflict slots T r c reasons deep fixpoint here wrong =
     elim (current_or_below (clause_at slots) T c reasons deep wrong) [
       | inl w ↦ record { falsified = wrong; literal = w.0; stands = w.1; current = w.2 }
-      | inr f ↦ absurd ((quiet r c here).0 f)
+      | inr f ↦ absurd ((fixpoint r c here).0 f)
     ]
 
 pub at_zero : (T : List Assigned) (k : Literal) → contains_literal k (zero_of T) ≡ true

@@ -20,7 +20,7 @@ use Rattle.propagate.specs.Watches.{EngineState, is_attached}
 use Rattle.propagate.specs.Doomed.{is_doomed}
 use Rattle.propagate.specs.Fits.{Fits}
 use Rattle.propagate.proofs.Laws.{fits_local}
-use Rattle.analyze.specs.Analyzer.{IsQuiet}
+use Rattle.analyze.specs.Analyzer.{IsFixpoint}
 use Rattle.cdcl_order.specs.Policies.{PolicyState}
 use Rattle.lrat_log.specs.Log.{LogLine, IsLine, IsPlain, is_delete, name_of, number_in}
 use Rattle.cdcl_search.specs.declared.input.Input.{Input}
@@ -115,9 +115,9 @@ deleting_starts s f p ls chosen first doomed run m detached same fits =
       attached =
           λ r live. detached r
           ∙ ap (λ b. b && not (is_doomed doomed r)) (searches.all_attached r live);
-      quiet = λ level below.
-          subst (λ T. IsQuiet (s.store).slots (literals_of (kept_to level T))) (sym same.0)
-          (searches.quiet level (subst (λ T. level < depth_of T) same.0 below));
+      fixpoint = λ level below.
+          subst (λ T. IsFixpoint (s.store).slots (literals_of (kept_to level T))) (sym same.0)
+          (searches.fixpoint level (subst (λ T. level < depth_of T) same.0 below));
       variables = same.1 ∙ run.running.variables;
       units =
           subst (λ T. NotesUnits (s.store).slots (zero_of T) (depth_of T) (s.units).items s.noted)
@@ -159,7 +159,7 @@ deleting_more s k p ls l doomed q c d live on deletes plain same =
           (λ same. both_ways (is_attached e r) (ap (is_attached e) same ∙ d.attached q (c, live)
           ∙ ap not on) attached));
       attached = λ r there. d.attached r (there.0, (clause_left slots q r there.0 there.1).1);
-      quiet = λ level below r k at. d.quiet level below r k (clause_left slots q r k at).1;
+      fixpoint = λ level below r k at. d.fixpoint level below r k (clause_left slots q r k at).1;
       variables = d.variables;
       units =
           units_delete slots q c (zero_of e.trail) (depth_of e.trail) (s.units).items s.noted live
@@ -196,7 +196,7 @@ deleting_ends s p ls doomed d gone =
               fits = d.fits;
               all_attached = λ r live. d.attached r live
                   ∙ ap not (off r live);
-              quiet = d.quiet;
+              fixpoint = d.fixpoint;
             };
         variables = d.variables;
         units = d.units;

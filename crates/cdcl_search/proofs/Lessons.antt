@@ -60,7 +60,7 @@ pub conflict_of : (e : EngineState) (slots : Slots) (r : ℕ) → Searches e slo
 conflict_of e slots r s deep f =
     subst (λ o. IfSome o (IsConflict e.trail)) (sym f.1)
     (is_conflict slots e.trail r f.0 s.fits.reasons deep
-    (s.quiet (depth_of e.trail - 1) (omega arith)) f.1 f.2)
+    (s.fixpoint (depth_of e.trail - 1) (omega arith)) f.1 f.2)
 
 -- above level 0 all of it is noted
 pub all_noted : (slots : Slots) (T : List Assigned) (units : List (Option ℕ)) (noted : ℕ)

@@ -3,7 +3,7 @@ mod LogLines
 mod Places
 mod Named
 mod Zero
-mod Quiet
+mod Fixpoint
 mod Units
 mod Keeping
 mod LearnedLines

@@ -38,8 +38,8 @@ use Rattle.cdcl_search.specs.Invariant.{KeepsPlain, IsRunning}
 use Rattle.cdcl_search.proofs.LogLines.{AddsByHints, log_add}
 use Rattle.cdcl_search.proofs.Named.{names_move}
 use Rattle.cdcl_search.proofs.MoreGiven.{log_given, names_given}
-use Rattle.cdcl_search.proofs.Quiet.{searches_move, searches_add}
-use Rattle.analyze.proofs.Laws.{learned_quiet, is_new}
+use Rattle.cdcl_search.proofs.Fixpoint.{searches_move, searches_add}
+use Rattle.analyze.proofs.Laws.{learned_fixpoint, is_new}
 use Rattle.cdcl_search.proofs.LearnedLines.{new_to_log}
 use Rattle.cdcl_search.proofs.Units.{units_add, units_note, units_move}
 use Rattle.cdcl_search.proofs.Keeping.{leads_back, keeps_plain, kept_move, empty_move, empty_add}
@@ -227,7 +227,7 @@ run_learn e f slots stack t frozen first given ls l T back r w within trail low 
     ∙ kept_kept level back T (omega arith) in
     subst (λ X. (IsFalseUnder l.clause (literals_of X) → ⊥)
     × ((k : Literal) → IsUnit l.clause (literals_of X) k → ⊥)) (sym kept)
-    (learned_quiet T l.clause back w level (omega arith) within))
+    (learned_fixpoint T l.clause back w level (omega arith) within))
     refl (units_add slots l.clause (zero_of e.trail) (depth_of e.trail) t.units t.noted r.units)
 
 -- and nothing live was a subset of it
@@ -239,7 +239,7 @@ pub learn_is_new : (e : EngineState) (slots : Slots) (names : List Name) (given 
 learn_is_new e slots names given ls l back s n w deep base above =
     new_to_log slots names base (log_live given base ls) l.clause (n.live base above)
     (is_new slots (clause_at slots) e.trail l.clause back s.fits.reasons w deep
-    (s.quiet (depth_of e.trail - 1) (omega arith)))
+    (s.fixpoint (depth_of e.trail - 1) (omega arith)))
 
 -- The next literal of level 0 gets its clause.
 

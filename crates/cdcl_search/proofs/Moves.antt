@@ -18,13 +18,13 @@ use Rattle.lrat_log.proofs.Laws.{one_apart, open_push}
 use Rattle.eliminate.specs.Elimination.{StackState}
 use Rattle.cdcl_search.specs.Invariant.{Tables, name_at, is_kept_name, NamesStore, NotesUnits}
 use Rattle.cdcl_search.specs.Invariant.{zero_of, IsRecorded, IsRunning}
-use Rattle.analyze.specs.Analyzer.{IsQuiet}
+use Rattle.analyze.specs.Analyzer.{IsFixpoint}
 use Rattle.cdcl_search.proofs.Chains.{count_push_addition, count_push_deletion}
 use Rattle.cdcl_search.specs.Hinting.{plain_hints}
 use Rattle.cdcl_search.proofs.LogLines.{AddsByHints, DeletesNames, log_add, log_delete}
 use Rattle.cdcl_search.proofs.Named.{names_add, names_delete}
-use Rattle.cdcl_search.proofs.Quiet.{searches_propagate, searches_decide, searches_backtrack}
-use Rattle.cdcl_search.proofs.Quiet.{searches_add}
+use Rattle.cdcl_search.proofs.Fixpoint.{searches_propagate, searches_decide, searches_backtrack}
+use Rattle.cdcl_search.proofs.Fixpoint.{searches_add}
 use Rattle.cdcl_search.proofs.Units.{units_propagate, units_decide, units_backtrack}
 use Rattle.cdcl_search.proofs.Keeping.{EmptyStays, leads_back, keeps_plain, kept_add, kept_delete}
 use Rattle.cdcl_search.proofs.Keeping.{empty_add, empty_delete}
@@ -47,14 +47,14 @@ run_propagate e f slots stack t frozen first given ls r grows same vars works fi
 pub run_decide : (e f : EngineState) (slots : Slots) (stack : StackState) (t : Tables)
     (frozen : List Bool) (first : ℕ) (given : Given) (ls : List LogLine) (l : Literal)
     → IsRunning e slots stack t frozen first given ls
-    → IsQuiet slots (literals_of e.trail) → length (zero_of e.trail) ≤ t.noted
+    → IsFixpoint slots (literals_of e.trail) → length (zero_of e.trail) ≤ t.noted
     → f.trail ≡ e.trail ++ record { literal = l; reason = None } ∷ [] → SameAttached e f
     → (f.variables ≡ e.variables) × (f.failed ≡ e.failed) → Fits f slots
     → IsRunning f slots stack t frozen first given ls
-run_decide e f slots stack t frozen first given ls l r quiet full trail attached same fits =
+run_decide e f slots stack t frozen first given ls l r fixpoint full trail attached same fits =
     record {
       recorded = r.recorded;
-      searches = searches_decide slots e f l r.searches quiet trail attached same.1 fits;
+      searches = searches_decide slots e f l r.searches fixpoint trail attached same.1 fits;
       variables = same.0 ∙ r.variables;
       units = subst (λ T. NotesUnits slots (zero_of T) (depth_of T) t.units t.noted) (sym trail)
           (units_decide slots e.trail l t.units t.noted full r.units);
@@ -130,11 +130,11 @@ pub run_add : (e f : EngineState) (slots : Slots) (stack : StackState) (t : Tabl
     → IsRunning f (slots ++ Some l.clause ∷ []) stack (with_addition t units noted) frozen first
     given (ls ++ l ∷ [])
 run_add e f slots stack t frozen first given ls l units noted r adds goes_on room sets same works
-    fits quiet long notes = record {
+    fits fixpoint long notes = record {
       recorded =
           recorded_add slots stack t frozen first given ls l units noted r.recorded adds goes_on
           room long;
-      searches = searches_add slots e f l.clause r.searches sets same.0 works fits quiet;
+      searches = searches_add slots e f l.clause r.searches sets same.0 works fits fixpoint;
       variables = same.1 ∙ r.variables;
       units =
           subst (λ T. NotesUnits (slots ++ Some l.clause ∷ []) (zero_of T) (depth_of T) units noted)

@@ -12,7 +12,7 @@ use Rattle.clauses.specs.Slots.{Slots, clause_at}
 use Rattle.propagate.specs.Trail.{Assigned, literals_of, depth_of}
 use Rattle.propagate.proofs.Laws.{NoTautology, no_tautology}
 use Rattle.propagate.proofs.Laws.{contains_at}
-use Rattle.analyze.specs.Analyzer.{IsQuiet}
+use Rattle.analyze.specs.Analyzer.{IsFixpoint}
 use Rattle.lrat_log.specs.Log.{LogLine}
 use Rattle.cdcl_order.specs.Orders.{positive}
 use Rattle.cdcl_search.specs.declared.search.Search.{Search}
@@ -34,7 +34,7 @@ keeps_trail s p ls r =
       trail = refl;
       variables = refl;
       policy = refl;
-      quiet = λ q. q;
+      fixpoint = λ q. q;
       false_stays = λ r f. f;
     }
 
@@ -44,12 +44,12 @@ noting_start s p ls r flat =
     record { keeps = keeps_trail s p ls r; flat = flat; writes = writes_none p.given ls }
 
 -- a clause of one true literal is neither false nor unit
-quiet_true : (slots : Slots) (A : List Literal) (k : Literal) → NoTautology A
-    → contains_literal k A ≡ true → IsQuiet slots A → IsQuiet (slots ++ Some (k ∷ []) ∷ []) A
-quiet_true slots A k apart m quiet r c at =
+fixpoint_true : (slots : Slots) (A : List Literal) (k : Literal) → NoTautology A
+    → contains_literal k A ≡ true → IsFixpoint slots A → IsFixpoint (slots ++ Some (k ∷ []) ∷ []) A
+fixpoint_true slots A k apart m fixpoint r c at =
     elim (clause_cases slots (k ∷ []) r c at) as (λ _. (IsFalseUnder c A → ⊥)
     × ((l : Literal) → IsUnit c A l → ⊥)) [
-      | inl old ↦ quiet r c old
+      | inl old ↦ fixpoint r c old
       | inr new ↦ subst (λ x. (IsFalseUnder x A → ⊥) × ((l : Literal) → IsUnit x A l → ⊥))
           (sym new.1) (
             λ f. apart k m f.0,
@@ -81,10 +81,10 @@ noting_more old now new p before ls more d lt next =
         trail = next.trail ∙ kept.trail;
         variables = next.variables ∙ kept.variables;
         policy = next.policy ∙ kept.policy;
-        quiet =
-            λ q. subst (λ x. IsQuiet x (literals_of (new.engine).trail)) (sym next.slots)
-            (subst (λ T. IsQuiet ((now.store).slots ++ Some (k ∷ []) ∷ []) (literals_of T))
-            (sym next.trail) (quiet_true (now.store).slots A k apart m (kept.quiet q)));
+        fixpoint =
+            λ q. subst (λ x. IsFixpoint x (literals_of (new.engine).trail)) (sym next.slots)
+            (subst (λ T. IsFixpoint ((now.store).slots ++ Some (k ∷ []) ∷ []) (literals_of T))
+            (sym next.trail) (fixpoint_true (now.store).slots A k apart m (kept.fixpoint q)));
         false_stays =
             λ q f. (let x = kept.false_stays q f in (
               x.0,

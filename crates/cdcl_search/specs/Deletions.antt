@@ -7,7 +7,7 @@ use Rattle.propagate.specs.Trail.{literals_of, kept_to, depth_of}
 use Rattle.propagate.specs.Watches.{is_attached}
 use Rattle.propagate.specs.Doomed.{is_doomed}
 use Rattle.propagate.specs.Fits.{Fits}
-use Rattle.analyze.specs.Analyzer.{IsQuiet}
+use Rattle.analyze.specs.Analyzer.{IsFixpoint}
 use Rattle.lrat_log.specs.declared.log.TheConstants.{LINE_LIMIT}
 use Rattle.lrat_log.specs.Log.{LogLine}
 use Rattle.cdcl_search.specs.declared.input.Input.{Input}
@@ -34,8 +34,8 @@ pub record IsDeleting (s : Search) (p : Input) (ls : List LogLine)
   pub fits : Fits s.engine (s.store).slots
   pub attached : (r : ℕ) → IsLive (s.store).slots r
       → is_attached s.engine r ≡ not (is_doomed doomed r)
-  pub quiet : (level : ℕ) → level < depth_of (s.engine).trail
-      → IsQuiet (s.store).slots (literals_of (kept_to level (s.engine).trail))
+  pub fixpoint : (level : ℕ) → level < depth_of (s.engine).trail
+      → IsFixpoint (s.store).slots (literals_of (kept_to level (s.engine).trail))
   pub variables : (s.engine).variables ≡ (p.stack).variables
   pub units : NotesUnits (s.store).slots (zero_of (s.engine).trail) (depth_of (s.engine).trail)
       (s.units).items s.noted

@@ -11,7 +11,7 @@ use Rattle.clauses.specs.Slots.{Slots, clause_at, IsLive}
 use Rattle.propagate.specs.Trail.{Assigned, literals_of, kept_to, depth_of}
 use Rattle.propagate.specs.Watches.{EngineState, is_attached}
 use Rattle.propagate.specs.Fits.{Fits}
-use Rattle.analyze.specs.Analyzer.{IsQuiet}
+use Rattle.analyze.specs.Analyzer.{IsFixpoint}
 use Rattle.lrat_log.specs.declared.lines.Name.{Name}
 use Rattle.lrat_log.specs.declared.lines.Name.TheVariants.{Formula, Added}
 use Rattle.lrat_log.specs.Log.{LogLine, Given, id_of, number_in}
@@ -62,14 +62,14 @@ pub record NamesStore (slots : Slots) (names : List Name) (given : Given)
 
 -- The engine.
 
--- it has not failed, looks at all clauses, and was quiet at the end of each level below the current
--- one
+-- it has not failed, looks at all clauses, and was at a fixpoint at the end of each level below the
+-- current one
 pub record Searches (e : EngineState) (slots : Slots) : Type 0 where
   pub works : e.failed ≡ false
   pub fits : Fits e slots
   pub all_attached : (r : ℕ) → IsLive slots r → is_attached e r ≡ true
-  pub quiet : (level : ℕ) → level < depth_of e.trail
-      → IsQuiet slots (literals_of (kept_to level e.trail))
+  pub fixpoint : (level : ℕ) → level < depth_of e.trail
+      → IsFixpoint slots (literals_of (kept_to level e.trail))
 
 -- The literals of level 0.
 

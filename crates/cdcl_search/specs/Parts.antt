@@ -5,7 +5,7 @@ use Rattle.clauses.specs.Slots.{IsLive}
 use Rattle.propagate.specs.Doomed.{is_doomed}
 use Rattle.propagate.specs.Trail.{literals_of}
 use Rattle.propagate.specs.Fits.{IsFalseClause}
-use Rattle.analyze.specs.Analyzer.{IsQuiet}
+use Rattle.analyze.specs.Analyzer.{IsFixpoint}
 use Rattle.cdcl_order.specs.Orders.{positive}
 use Rattle.lrat_log.specs.Log.{LogLine}
 use Rattle.cdcl_search.specs.declared.input.Input.{Input}
@@ -38,14 +38,14 @@ pub record NotesNext (old new : Search) (p : Input) (before after : List LogLine
       ++ Some (slice_index_or (literals_of (old.engine).trail) old.noted (positive 0) ∷ []) ∷ []
   pub writes : Writes p.given before after 0
 
--- Clauses of one true literal came: what was quiet or false is so still.
+-- Clauses of one true literal came: what was at a fixpoint or false is so still.
 pub record KeepsTrail (old new : Search) (p : Input) (ls : List LogLine) : Type 0 where
   pub runs : Runs new p ls
   pub trail : (new.engine).trail ≡ (old.engine).trail
   pub variables : (new.engine).variables ≡ (old.engine).variables
   pub policy : new.policy ≡ old.policy
-  pub quiet : IsQuiet (old.store).slots (literals_of (old.engine).trail)
-      → IsQuiet (new.store).slots (literals_of (new.engine).trail)
+  pub fixpoint : IsFixpoint (old.store).slots (literals_of (old.engine).trail)
+      → IsFixpoint (new.store).slots (literals_of (new.engine).trail)
   pub false_stays : (r : ℕ) → IsFalseClause (old.store).slots old.engine r
       → IsFalseClause (new.store).slots new.engine r
 

@@ -7,7 +7,7 @@ use Rattle.cnf.specs.declared.limits.TheConstants.{VARIABLE_LIMIT, FORMULA_VARIA
 use Rattle.propagate.specs.Trail.{Assigned, literals_of}
 use Rattle.propagate.specs.Watches.{SetsAttached}
 use Rattle.propagate.specs.Fits.{Fits, IsWithin}
-use Rattle.analyze.specs.Analyzer.{IsQuiet}
+use Rattle.analyze.specs.Analyzer.{IsFixpoint}
 use Rattle.lrat_log.specs.declared.lines.Name.{Name}
 use Rattle.lrat_log.specs.declared.lines.Name.TheVariants.{Added}
 use Rattle.lrat_log.specs.declared.log.TheConstants.{LINE_LIMIT}
@@ -53,7 +53,7 @@ pub record CanAttach (s : Search) (c : List Literal) : Type 0 where
 -- its own
 pub record CanDecide (s : Search) : Type 0 where
   pub ready : IsReady s
-  pub quiet : IsQuiet (s.store).slots (literals_of (s.engine).trail)
+  pub fixpoint : IsFixpoint (s.store).slots (literals_of (s.engine).trail)
   pub noted : length (zero_of (s.engine).trail) ≤ s.noted
 
 -- it goes on over the clauses given, with these lines written

@@ -4,7 +4,7 @@ ghost use Rattle.std.specs.Prelude.{length, min, All, IfOk, OnOk, IfSome, IfNone
 ghost use Rattle.propagate.specs.Trail.{literals_of, depth_of, kept_to};
 ghost use Rattle.propagate.specs.Watches.{is_attached, IsBare};
 ghost use Rattle.propagate.specs.Fits.{IsFalseClause, IsWithin, GrowsByUnits};
-ghost use Rattle.analyze.specs.Analyzer.{IsQuiet};
+ghost use Rattle.analyze.specs.Analyzer.{IsFixpoint};
 ghost use Rattle.cdcl_order.specs.Orders.{IsOpenVariable, AreClosed};
 ghost use Rattle.cdcl_search.specs.Running.{CanDecide, EngineMoves, IsReady, KeepsRunning, MovesTo};
 ghost use Rattle.cdcl_search.specs.Moves.{KeepsState};
@@ -95,8 +95,8 @@ impl Search {
         ensures ready { OnOk result (IsReady self.new) }
         ensures conflict { IfOk result (λ found.
             IfSome found (IsFalseClause self.new.store.slots self.new.engine)) }
-        ensures quiet { IfOk result (λ found. IfNone found
-            (IsQuiet self.new.store.slots (literals_of self.new.engine.trail))) }
+        ensures fixpoint { IfOk result (λ found. IfNone found
+            (IsFixpoint self.new.store.slots (literals_of self.new.engine.trail))) }
         ensures depth { OnOk result (depth_of self.new.engine.trail
             ≡ depth_of self.old.engine.trail) }
         ensures grows { OnOk result (length self.old.engine.trail ≤ length self.new.engine.trail) }

@@ -5,7 +5,7 @@ pub use Rattle.clauses.proofs.Moves.{came, moved_all, named_listed, new_rise, re
 pub use Rattle.clauses.proofs.Moves.{same_clause, same_origin, stands, went}
 pub use Rattle.clauses.proofs.Places.{clause_cases, clause_gone, clause_kept, clause_left}
 pub use Rattle.clauses.proofs.Places.{clause_new, clause_old, clause_other, live_within}
-pub use Rattle.clauses.proofs.Quiet.{not_refuted}
+pub use Rattle.clauses.proofs.Fixpoint.{not_refuted}
 pub use Rattle.clauses.proofs.Renaming.{renamed_together}
 pub use Rattle.clauses.proofs.Zipped.{get_or-zipped, length-zipped, zipped-append, zipped-replicate}
 pub use Rattle.clauses.proofs.Zipped.{zipped-set, zipped-set_first, zipped-take}

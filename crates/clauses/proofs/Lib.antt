@@ -3,7 +3,7 @@ mod LiveClauses
 mod Lookup
 mod Moves
 mod Places
-mod Quiet
+mod Fixpoint
 mod Reading
 mod Renaming
 mod Stored

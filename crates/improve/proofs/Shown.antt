@@ -32,9 +32,9 @@ pub shown_after : (p : Problem) (old new : Telling) (a b c : Option (List Sight)
 shown_after p old new a b c e s = subst (λ z. AreShown p old new z c) e s
 
 -- nothing was shown
-pub shown_quiet : (p : Problem) (now : Telling) (a b : Option (List Sight)) → b ≡ a
+pub shown_same : (p : Problem) (now : Telling) (a b : Option (List Sight)) → b ≡ a
     → AreShown p now now a b
-shown_quiet p now a b e = shown_then p now now a a b (shown_none p now a) e
+shown_same p now a b e = shown_then p now now a a b (shown_none p now a) e
 
 -- a solution was shown
 module _ (p : Problem) (old new : Telling) (before after : Option (List Sight)) (c : ℕ)

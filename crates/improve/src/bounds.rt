@@ -161,7 +161,7 @@ impl Bounds {
         ensures learned { budget.new.learned + learned_count self.old.solver.sink
             ≡ budget.old.learned + learned_count self.new.solver.sink }
         ensures limit { budget.new.limit ≡ budget.old.limit }
-        ensures quiet { W.seen watch.new ≡ W.seen watch.old }
+        ensures same_seen { W.seen watch.new ≡ W.seen watch.old }
     {
         let Ok(outcome) = self.solver.solve_watched(budget, watch) else {
             return Err(AllocError);

@@ -26,7 +26,7 @@ use crate::watch::Watch;
 use adder::profiles::Profile;
 use cdcl::budget::Budget;
 use cnf::types::Instance;
-use improve_cores::counted::Counted;
+use improve_cores::counted::CountedCores;
 use improve_cores::searching::{CoreSearch, Event};
 use improve_trials::found::{Attempt, ByCores};
 use improve_trials::rounds::{self, Aim};
@@ -135,7 +135,7 @@ pub(crate) fn take_cores(
     instance: &Instance,
     search: &CoreSearch,
     are_wanted: bool,
-) -> Option<Counted>
+) -> Option<CountedCores>
     ensures { IfSome result (AreRightCores instance.now) }
 {
     if !are_wanted {
@@ -239,7 +239,7 @@ pub(crate) fn refute<T: Progress, W: Watch>(
     watch: &mut W,
     standing: &mut Standing,
     work: &mut Work,
-    counted: Counted,
+    counted: CountedCores,
     shown: &mut u64,
 ) -> Result<Option<ByCores>, ImproveFault>
     requires failures { CanFail (T.state progress.old) }
@@ -303,7 +303,7 @@ fn end_refutation<W: Watch>(
     ensures profile { IfOk result (λ f. IfSome f (λ _. profile ≡ Profile.Five)) }
     ensures count { IfOk result (λ f. work_count work.new + by_cores_count f
         ≡ work_count work.old + learned_count by_cores.log) }
-    ensures quiet { W.seen watch.new ≡ W.seen watch.old }
+    ensures same_seen { W.seen watch.new ≡ W.seen watch.old }
 {
     watch.bounded(instance, &by_cores);
     if profile == Profile::Five && by_cores.worth == best {

@@ -19,7 +19,7 @@ use crate::watch::Watch;
 use adder::profiles::Profile;
 use cdcl::budget::Budget;
 use cnf::types::Instance;
-use improve_cores::counted::Counted;
+use improve_cores::counted::CountedCores;
 use improve_cores::searching::CoreSearch;
 use improve_trials::found::ByCores;
 
@@ -162,7 +162,7 @@ fn take_worthy(
     search: &CoreSearch,
     stage: &mut StageState,
     are_wanted: bool,
-) -> Option<Counted>
+) -> Option<CountedCores>
     ensures { IfSome result (AreRightCores instance.now) }
 {
     let counted = take_cores(instance, search, are_wanted)?;

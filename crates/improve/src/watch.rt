@@ -26,7 +26,7 @@ pub trait Watch: improve_cores::watch::CoreWatch {
     /// Is shown a proof that no solution costs less than `proof.worth`.
     fn bounded(&mut self, instance: &Instance, proof: &ByCores)
         requires { IsCoreProof instance.now proof.now.worth proof.now }
-        ensures quiet { Self.seen self.new ≡ Self.seen self.old };
+        ensures same_seen { Self.seen self.new ≡ Self.seen self.old };
 }
 
 /// Looks at nothing.

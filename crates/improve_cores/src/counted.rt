@@ -14,14 +14,14 @@ use std::alloc::AllocError;
 
 /// Cores that are right, and what they leave.
 #[derive(Drop)]
-pub struct Counted {
+pub struct CountedCores {
     /// The core lines of a certificate, in their order.
     pub cores: Vec<Core>,
     /// What they leave.
     pub counter: Counter,
 }
 
-impl Counted {
+impl CountedCores {
     /// No cores.
     ///
     /// # Errors
@@ -31,7 +31,7 @@ impl Counted {
         ensures right { IfOk result (AreRightCores instance.now) }
         ensures none { IfOk result (λ c. c.cores.items ≡ []) }
     {
-        Ok(Counted {
+        Ok(CountedCores {
             cores: Vec::new(instance.allocator()),
             counter: Counter::new(instance)?,
         })
@@ -81,10 +81,10 @@ pub(crate) fn count_found(
     instance: &Instance,
     found: &[FoundCore],
     items: &Items,
-) -> Result<Option<Counted>, AllocError>
+) -> Result<Option<CountedCores>, AllocError>
     ensures { IfOk result (λ c. IfSome c (AreRightCores instance.now)) }
 {
-    let mut counted = Counted::new(instance)?;
+    let mut counted = CountedCores::new(instance)?;
     // By core, its first output.
     let mut firsts: Vec<u64> = Vec::new(instance.allocator());
     for core in found {

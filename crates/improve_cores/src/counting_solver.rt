@@ -139,7 +139,7 @@ impl CountingSolver {
         ensures clauses { KeepsClauses self.old self.new }
         ensures answer { IfOk result (IsAnswerOf self.new) }
         ensures learned { CountsLearned self.old.lines self.new.lines budget.old budget.new }
-        ensures quiet { W.seen watch.new ≡ W.seen watch.old }
+        ensures same_seen { W.seen watch.new ≡ W.seen watch.old }
     {
         let mut none = Passed::new(self.allocator(), 0);
         self.assume_passing(assumptions, share, &mut none, budget, watch)
@@ -161,7 +161,7 @@ impl CountingSolver {
         ensures clauses { KeepsClauses self.old self.new }
         ensures answer { IfOk result (IsAnswerOf self.new) }
         ensures learned { CountsLearned self.old.lines self.new.lines budget.old budget.new }
-        ensures quiet { W.seen watch.new ≡ W.seen watch.old }
+        ensures same_seen { W.seen watch.new ≡ W.seen watch.old }
     {
         match literal(variable, true) {
             Some(lit) => self.assume(&[lit], share, budget, watch),
@@ -186,7 +186,7 @@ impl CountingSolver {
         ensures clauses { KeepsClauses self.old self.new }
         ensures answer { IfOk result (IsAnswerOf self.new) }
         ensures learned { CountsLearned self.old.lines self.new.lines budget.old budget.new }
-        ensures quiet { W.seen watch.new ≡ W.seen watch.old }
+        ensures same_seen { W.seen watch.new ≡ W.seen watch.old }
     {
         let are_assumable = are_between(assumptions, self.free, self.last);
         let some: &[Lit] = if are_assumable { assumptions } else { &[] };

@@ -33,7 +33,7 @@ ghost use Rattle.improve_cores.specs.Events.{AreRightCores, IsEventOf, IsStepOf}
 ghost use Rattle.improve_cores.specs.Work.{IsSearchWork};
 
 use crate::checked::{at, narrow};
-use crate::counted::{Counted, count_found};
+use crate::counted::{CountedCores, count_found};
 use crate::counting_solver::CountingSolver;
 use crate::found::FoundCore;
 use crate::giving_up::Outlook;
@@ -178,7 +178,7 @@ impl CoreSearch {
     /// # Errors
     ///
     /// `AllocError` where memory was refused.
-    pub fn counted(&self, instance: &Instance) -> Result<Option<Counted>, AllocError>
+    pub fn counted(&self, instance: &Instance) -> Result<Option<CountedCores>, AllocError>
         ensures { IfOk result (λ c. IfSome c (AreRightCores instance.now)) }
     {
         count_found(instance, &self.policy.cores, &self.policy.items)
@@ -199,7 +199,7 @@ impl CoreSearch {
         ensures formula { KeepsFormula self.old self.new }
         ensures event { IfOk result (IsEventOf self.new) }
         ensures learned { CountsLearned self.old.lines self.new.lines budget.old budget.new }
-        ensures quiet { W.seen watch.new ≡ W.seen watch.old }
+        ensures same_seen { W.seen watch.new ≡ W.seen watch.old }
     {
         for _ in 0..u64::MAX {
             if self.policy.lower >= best {
@@ -226,7 +226,7 @@ impl CoreSearch {
         ensures formula { KeepsFormula self.old self.new }
         ensures step { IfOk result (IsStepOf self.new) }
         ensures learned { CountsLearned self.old.lines self.new.lines budget.old budget.new }
-        ensures quiet { W.seen watch.new ≡ W.seen watch.old }
+        ensures same_seen { W.seen watch.new ≡ W.seen watch.old }
     {
         let before = budget.learned();
         self.policy.assume_stratum(&mut self.assumptions)?;
@@ -253,7 +253,7 @@ impl CoreSearch {
         ensures formula { KeepsFormula self.old self.new }
         ensures step { IfOk result (IsStepOf self.new) }
         ensures learned { CountsLearned self.old.lines self.new.lines budget.old budget.new }
-        ensures quiet { W.seen watch.new ≡ W.seen watch.old }
+        ensures same_seen { W.seen watch.new ≡ W.seen watch.old }
     {
         match found {
             Assumed::Sat(bits) => {
@@ -291,7 +291,7 @@ impl CoreSearch {
     ) -> Result<(), AllocError>
         ensures clauses { KeepsClauses self.old self.new }
         ensures learned { CountsLearned self.old.lines self.new.lines budget.old budget.new }
-        ensures quiet { W.seen watch.new ≡ W.seen watch.old }
+        ensures same_seen { W.seen watch.new ≡ W.seen watch.old }
     {
         for core in cores.iter() {
             if self.policy.share > 0 && self.policy.are_listed(core) {
@@ -310,7 +310,7 @@ impl CoreSearch {
     ) -> Result<(), AllocError>
         ensures clauses { KeepsClauses self.old self.new }
         ensures learned { CountsLearned self.old.lines self.new.lines budget.old budget.new }
-        ensures quiet { W.seen watch.new ≡ W.seen watch.old }
+        ensures same_seen { W.seen watch.new ≡ W.seen watch.old }
     {
         let before = budget.learned();
         let inputs = variables_of(core, self.solver.allocator())?;

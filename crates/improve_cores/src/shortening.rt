@@ -46,7 +46,7 @@ pub(crate) fn shorten<W: SearchWatch>(
 ) -> Result<Vec<u32>, AllocError>
     ensures clauses { KeepsClauses solver.old solver.new }
     ensures learned { CountsLearned solver.old.lines solver.new.lines budget.old budget.new }
-    ensures quiet { W.seen watch.new ≡ W.seen watch.old }
+    ensures same_seen { W.seen watch.new ≡ W.seen watch.old }
 {
     let again = search_again(core, items, solver, budget, watch)?;
     leave_out_each(again, items, solver, budget, watch)
@@ -63,7 +63,7 @@ fn search_again<W: SearchWatch>(
 ) -> Result<Vec<u32>, AllocError>
     ensures clauses { KeepsClauses solver.old solver.new }
     ensures learned { CountsLearned solver.old.lines solver.new.lines budget.old budget.new }
-    ensures quiet { W.seen watch.new ≡ W.seen watch.old }
+    ensures same_seen { W.seen watch.new ≡ W.seen watch.old }
 {
     let share = Share {
         learned: AGAIN_CONFLICTS,
@@ -93,7 +93,7 @@ fn leave_out_each<W: SearchWatch>(
 ) -> Result<Vec<u32>, AllocError>
     ensures clauses { KeepsClauses solver.old solver.new }
     ensures learned { CountsLearned solver.old.lines solver.new.lines budget.old budget.new }
-    ensures quiet { W.seen watch.new ≡ W.seen watch.old }
+    ensures same_seen { W.seen watch.new ≡ W.seen watch.old }
 {
     let share = Share {
         learned: WITHOUT_ONE,
@@ -151,7 +151,7 @@ fn find_core<W: SearchWatch>(
 ) -> Result<Option<Vec<u32>>, AllocError>
     ensures clauses { KeepsClauses solver.old solver.new }
     ensures learned { CountsLearned solver.old.lines solver.new.lines budget.old budget.new }
-    ensures quiet { W.seen watch.new ≡ W.seen watch.old }
+    ensures same_seen { W.seen watch.new ≡ W.seen watch.old }
 {
     let mut assumptions = Vec::with_capacity(solver.allocator(), variables.len())?;
     for (place, variable) in variables.iter().enumerate() {

@@ -21,8 +21,8 @@ use Rattle.improve_trials.specs.declared.found.ByCores.{ByCores}
 use Rattle.improve_trials.specs.declared.found.CoreRefutation.{CoreRefutation}
 use Rattle.improve_trials.specs.declared.found.Attempt.{Attempt}
 use Rattle.improve_trials.specs.declared.found.Attempt.TheVariants.{Open, Refuted, Model}
-use Rattle.improve_trials.specs.declared.rounds.Round.{Round}
-use Rattle.improve_trials.specs.declared.rounds.Round.TheVariants.{Ended, Goes}
+use Rattle.improve_trials.specs.declared.rounds.TrialEnd.{TrialEnd}
+use Rattle.improve_trials.specs.declared.rounds.TrialEnd.TheVariants.{Ended, Goes}
 use Rattle.improve_trials.specs.declared.trial.Trial.{Trial}
 
 -- the number of these clauses, which are few
@@ -83,15 +83,15 @@ ShowsMore n Open = ⊤
 ShowsMore n (Refuted r) = n < r.worth
 ShowsMore n (Model bits) = ⊤
 
-abbrev pub IsRound : Problem → Round → Type 0
-IsRound p (Ended a) = IsAttempt p a
-IsRound p (Goes counted) = AreRightCores p counted
+abbrev pub IsTrialEnd : Problem → TrialEnd → Type 0
+IsTrialEnd p (Ended a) = IsAttempt p a
+IsTrialEnd p (Goes counted) = AreRightCores p counted
 
-abbrev pub RoundShowsMore : ℕ → Round → Type 0
+abbrev pub RoundShowsMore : ℕ → TrialEnd → Type 0
 RoundShowsMore n (Ended a) = ShowsMore n a
 RoundShowsMore n (Goes counted) = ⊤
 
-abbrev pub round_lines : Round → List LogLine
+abbrev pub round_lines : TrialEnd → List LogLine
 round_lines (Ended a) = attempt_lines a
 round_lines (Goes counted) = []
 

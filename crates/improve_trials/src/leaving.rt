@@ -7,19 +7,19 @@ ghost use Rattle.improve_cores.specs.Events.{AreRightCores};
 
 use cnf::types::Instance;
 use cores::types::Core;
-use improve_cores::counted::Counted;
+use improve_cores::counted::CountedCores;
 use std::alloc::AllocError;
 
 /// The cores that were shown, as these notes by their order say, without those that have an output
 /// of another one as input.
 pub(crate) fn keep_shown(
     instance: &Instance,
-    counted: &Counted,
+    counted: &CountedCores,
     shown: &[bool],
-) -> Result<Counted, AllocError>
+) -> Result<CountedCores, AllocError>
     ensures { IfOk result (AreRightCores instance.now) }
 {
-    let mut kept = Counted::new(instance)?;
+    let mut kept = CountedCores::new(instance)?;
     // By core, its first output among those that are kept; 0 where it is dropped.
     let mut moved: Vec<u64> = Vec::new(instance.allocator());
     for (place, core) in counted.cores.iter().enumerate() {
@@ -36,7 +36,12 @@ pub(crate) fn keep_shown(
 
 /// Adds the core, where its inputs are there still, and gives its first output; 0 where it is left
 /// out.
-fn keep(kept: &mut Counted, core: &Core, firsts: &[u32], moved: &[u64]) -> Result<u64, AllocError>
+fn keep(
+    kept: &mut CountedCores,
+    core: &Core,
+    firsts: &[u32],
+    moved: &[u64],
+) -> Result<u64, AllocError>
     ensures { OnOk result ((p : Problem) → AreRightCores p kept.old → AreRightCores p kept.new) }
 {
     let mut inputs = Vec::with_capacity(*core.inputs.allocator(), core.inputs.len())?;

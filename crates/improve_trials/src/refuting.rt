@@ -13,7 +13,7 @@ use cdcl::budget::Budget;
 use cdcl::outcome::{Assumed, Share};
 use cdcl::watch::SearchWatch;
 use cnf::types::Instance;
-use improve_cores::counted::Counted;
+use improve_cores::counted::CountedCores;
 use improve_cores::counting_solver::CountingSolver;
 use lrat_log::log::Log;
 use std::alloc::AllocError;
@@ -69,7 +69,7 @@ impl Refutation {
     /// # Errors
     ///
     /// `AllocError` where memory was refused.
-    pub fn new(instance: &Instance, counted: &Counted) -> Result<Self, AllocError>
+    pub fn new(instance: &Instance, counted: &CountedCores) -> Result<Self, AllocError>
         requires { AreRightCores instance.now counted.now }
         ensures formula { IfOk result (λ r. r.formula
             ≡ core_cnf instance.now (counted.now.counter).counted) }
@@ -106,7 +106,7 @@ impl Refutation {
         ensures formula { self.new.formula ≡ self.old.formula }
         ensures end { IfOk result (IsEndOf self.new) }
         ensures learned { CountsLearned self.old.lines self.new.lines budget.old budget.new }
-        ensures quiet { W.seen watch.new ≡ W.seen watch.old }
+        ensures same_seen { W.seen watch.new ≡ W.seen watch.old }
     {
         let start = budget.learned();
         let are_all = guide(&mut self.solver, firsts, effort, shown, budget, watch)?;
@@ -151,7 +151,7 @@ fn guide<W: SearchWatch>(
 ) -> Result<bool, AllocError>
     ensures clauses { KeepsClauses solver.old solver.new }
     ensures learned { CountsLearned solver.old.lines solver.new.lines budget.old budget.new }
-    ensures quiet { W.seen watch.new ≡ W.seen watch.old }
+    ensures same_seen { W.seen watch.new ≡ W.seen watch.old }
 {
     let start = budget.learned();
     let mut are_all = true;

@@ -2,7 +2,7 @@
 // are dropped, and the others are tried again.
 ghost use Rattle.std.specs.Prelude.{◌≡◌, ℕ, ◌+◌, ◌<◌, All, IfOk, OnOk};
 ghost use Rattle.improve_cores.specs.Events.{AreRightCores};
-ghost use Rattle.improve_trials.specs.Trials.{IsCoreRefutation, IsAttempt, IsRound, SpendsOn};
+ghost use Rattle.improve_trials.specs.Trials.{IsCoreRefutation, IsAttempt, IsTrialEnd, SpendsOn};
 ghost use Rattle.lrat_log.specs.Steps.{learned_count};
 ghost use Rattle.improve_trials.specs.Trials.{IsTrial, attempt_lines, round_lines, tried_count};
 ghost use Rattle.improve_trials.specs.Trials.{ShowsMore, RoundShowsMore};
@@ -15,7 +15,7 @@ use cdcl::budget::Budget;
 use cdcl::watch::SearchWatch;
 use cnf::types::Instance;
 use cores::types::Core;
-use improve_cores::counted::Counted;
+use improve_cores::counted::CountedCores;
 use std::alloc::AllocError;
 
 /// So many trials are made at most.
@@ -34,11 +34,11 @@ pub struct Aim {
 
 /// What came of one trial.
 #[derive(Drop)]
-pub(crate) enum Round {
+pub(crate) enum TrialEnd {
     /// This, at the end.
     Ended(Attempt),
     /// It was left open, and these cores are tried next.
-    Goes(Counted),
+    Goes(CountedCores),
 }
 
 /// Tries to refute by these cores that there is a solution that costs less. A refutation that ends
@@ -52,7 +52,7 @@ pub(crate) enum Round {
 pub fn refute<W: SearchWatch>(
     instance: &Instance,
     aim: Aim,
-    counted: Counted,
+    counted: CountedCores,
     tried: &mut Vec<CoreRefutation>,
     budget: &mut Budget,
     watch: &mut W,
@@ -66,13 +66,13 @@ pub fn refute<W: SearchWatch>(
         budget.old budget.new) }
     ensures answers { budget.new.answers ≡ budget.old.answers }
     ensures limit { budget.new.limit ≡ budget.old.limit }
-    ensures quiet { W.seen watch.new ≡ W.seen watch.old }
+    ensures same_seen { W.seen watch.new ≡ W.seen watch.old }
 {
     let mut left = counted;
     for _ in 0..ROUNDS {
         match try_once(instance, aim, left, tried, budget, watch)? {
-            Round::Ended(attempt) => return Ok(attempt),
-            Round::Goes(kept) => left = kept,
+            TrialEnd::Ended(attempt) => return Ok(attempt),
+            TrialEnd::Goes(kept) => left = kept,
         }
     }
     Ok(Attempt::Open)
@@ -82,30 +82,30 @@ pub fn refute<W: SearchWatch>(
 fn try_once<W: SearchWatch>(
     instance: &Instance,
     aim: Aim,
-    counted: Counted,
+    counted: CountedCores,
     tried: &mut Vec<CoreRefutation>,
     budget: &mut Budget,
     watch: &mut W,
-) -> Result<Round, AllocError>
+) -> Result<TrialEnd, AllocError>
     requires cores { AreRightCores instance.now counted }
     requires tried { All (IsCoreRefutation instance.now) tried.old.items }
-    ensures round { IfOk result (IsRound instance.now) }
+    ensures round { IfOk result (IsTrialEnd instance.now) }
     ensures above { IfOk result (RoundShowsMore aim.above) }
     ensures tried { OnOk result (All (IsCoreRefutation instance.now) tried.new.items) }
     ensures spends { IfOk result (λ r. SpendsOn tried.old.items tried.new.items (round_lines r)
         budget.old budget.new) }
     ensures answers { budget.new.answers ≡ budget.old.answers }
     ensures limit { budget.new.limit ≡ budget.old.limit }
-    ensures quiet { W.seen watch.new ≡ W.seen watch.old }
+    ensures same_seen { W.seen watch.new ≡ W.seen watch.old }
 {
     let mut shown = Vec::new(instance.allocator());
     let Some(trial) = make_trial(instance, aim, &counted, &mut shown, budget, watch)? else {
-        return Ok(Round::Ended(Attempt::Open));
+        return Ok(TrialEnd::Ended(Attempt::Open));
     };
     let kept = if aim.is_partial {
         keep_shown(instance, &counted, &shown)?
     } else {
-        Counted::new(instance)?
+        CountedCores::new(instance)?
     };
     end_trial(instance, counted.into_cores(), trial, kept, tried)
 }
@@ -115,13 +115,13 @@ fn end_trial(
     instance: &Instance,
     cores: Vec<Core>,
     trial: Trial,
-    kept: Counted,
+    kept: CountedCores,
     tried: &mut Vec<CoreRefutation>,
-) -> Result<Round, AllocError>
+) -> Result<TrialEnd, AllocError>
     requires trial { IsTrial instance.now cores.items trial }
     requires kept { AreRightCores instance.now kept }
     requires tried { All (IsCoreRefutation instance.now) tried.old.items }
-    ensures round { IfOk result (IsRound instance.now) }
+    ensures round { IfOk result (IsTrialEnd instance.now) }
     ensures above { (n : ℕ) → n < trial.worth → IfOk result (RoundShowsMore n) }
     ensures tried { OnOk result (All (IsCoreRefutation instance.now) tried.new.items) }
     ensures lines { IfOk result (λ r. tried_count tried.new.items + learned_count (round_lines r)
@@ -130,7 +130,7 @@ fn end_trial(
     let log = trial.log;
     let end = trial.end;
     match end {
-        Refuted::Yes => Ok(Round::Ended(Attempt::Refuted(ByCores {
+        Refuted::Yes => Ok(TrialEnd::Ended(Attempt::Refuted(ByCores {
             cores,
             log,
             clauses: trial.clauses,
@@ -138,11 +138,11 @@ fn end_trial(
         }))),
         Refuted::Model(bits) => {
             tried.push(CoreRefutation { cores, log })?;
-            Ok(Round::Ended(Attempt::Model(bits)))
+            Ok(TrialEnd::Ended(Attempt::Model(bits)))
         }
         Refuted::Open => {
             tried.push(CoreRefutation { cores, log })?;
-            Ok(Round::Goes(kept))
+            Ok(TrialEnd::Goes(kept))
         }
     }
 }

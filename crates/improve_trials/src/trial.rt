@@ -9,7 +9,7 @@ use crate::rounds::Aim;
 use cdcl::budget::Budget;
 use cdcl::watch::SearchWatch;
 use cnf::types::Instance;
-use improve_cores::counted::Counted;
+use improve_cores::counted::CountedCores;
 use lrat_log::log::Log;
 use std::alloc::AllocError;
 
@@ -42,7 +42,7 @@ pub(crate) struct Trial {
 pub(crate) fn make_trial<W: SearchWatch>(
     instance: &Instance,
     aim: Aim,
-    counted: &Counted,
+    counted: &CountedCores,
     shown: &mut Vec<bool>,
     budget: &mut Budget,
     watch: &mut W,
@@ -55,7 +55,7 @@ pub(crate) fn make_trial<W: SearchWatch>(
         ≡ budget.old.learned + learned_count (trial_lines t)) }
     ensures answers { budget.new.answers ≡ budget.old.answers }
     ensures limit { budget.new.limit ≡ budget.old.limit }
-    ensures quiet { W.seen watch.new ≡ W.seen watch.old }
+    ensures same_seen { W.seen watch.new ≡ W.seen watch.old }
 {
     instance.limits();
     let weight = counted.counter.weight();

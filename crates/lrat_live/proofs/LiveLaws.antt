@@ -11,7 +11,7 @@ use Rattle.cnf.specs.Literal.{Literal}
 use Rattle.lrat_live.specs.Listed.{Listed, ids_of, listed_at, without_id, IsRising}
 use Rattle.lrat_live.proofs.Listed.{Rises, listed_here, listed_there, rises_from}
 use Rattle.lrat_live.proofs.Listed.{increasing_from_rises}
-use Rattle.lrat_live.specs.Near.{Parts, all_of}
+use Rattle.lrat_live.specs.Near.{NearParts, all_of}
 use Rattle.std.proofs.lemmas.List.{append-nil}
 
 pub listed_first : (xs ys : Listed) (i : ℕ) (c : List Literal) → listed_at xs i ≡ Some c
@@ -148,7 +148,7 @@ none_of (Some c) h = absurd (h refl)
 pub none_second : (xs ys : Listed) (i : ℕ) → listed_at (xs ++ ys) i ≡ None → listed_at ys i ≡ None
 none_second xs ys i e = sym (listed_second xs ys i (none_first xs ys i e)) ∙ e
 
-pub all_far_left : (n m : Parts) (far now : Listed) (i : ℕ) → m.given ≡ without_id i n.given
+pub all_far_left : (n m : NearParts) (far now : Listed) (i : ℕ) → m.given ≡ without_id i n.given
     → now ≡ without_id i far → m.recent ≡ without_id i n.recent
     → all_of m now ≡ without_id i (all_of n far)
 all_far_left n m far now i a b c =
@@ -156,7 +156,7 @@ all_far_left n m far now i a b c =
     ∙ ap (λ x. without_id i n.given ++ (without_id i far ++ x)) c
     ∙ far_left i n.given far n.recent
 
-pub all_first : (m : Parts) (now all : Listed) → m.given ≡ all → now ≡ [] → m.recent ≡ []
+pub all_first : (m : NearParts) (now all : Listed) → m.given ≡ all → now ≡ [] → m.recent ≡ []
     → all_of m now ≡ all
 all_first m now all a b c =
     ap (λ x. x ++ (now ++ m.recent)) a ∙ ap (λ x. all ++ (x ++ m.recent)) b

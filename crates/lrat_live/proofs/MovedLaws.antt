@@ -6,7 +6,7 @@ use Rattle.std.proofs.lemmas.List.{append-nil, drop_all, take_all, take_at, drop
 use Rattle.std.proofs.lemmas.List.{take-take, take_rest, length-take-le, length-drop, length-append}
 use Rattle.cnf.specs.Literal.{Literal}
 use Rattle.lrat_live.specs.Listed.{Listed}
-use Rattle.lrat_live.specs.Near.{Parts, spanned, given_in, recent_in, IsNear, AreSpread}
+use Rattle.lrat_live.specs.Near.{NearParts, spanned, given_in, recent_in, IsNear, AreSpread}
 use Rattle.lrat_live.specs.declared.spans.LiveSpan.{LiveSpan}
 use Rattle.lrat_live.proofs.SpanLaws.{spanned_below, spread_within, spread_le}
 
@@ -90,7 +90,7 @@ module _ (ls : List Literal) (ss : List LiveSpan) (given given_literals gap : �
         ap (spanned ms (given + 1 + gap))
         (drop_at (take (given + 1) ss) ys (given + 1) front_long) ∙ e
 
-abbrev pub parts : Listed → Listed → Parts
+abbrev pub parts : Listed → Listed → NearParts
 parts gs rs = record { given = gs; recent = rs }
 
 pub parts_same : (gs rs hs ss : Listed) → gs ≡ hs → rs ≡ ss → parts gs rs ≡ parts hs ss

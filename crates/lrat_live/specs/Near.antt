@@ -49,12 +49,12 @@ abbrev pub padded : ℕ → List LiveSpan → List LiveSpan
 padded place ss = take place ss ++ replicate (place - length ss) nowhere
 
 -- those of the formula, and those that were added of late
-pub record Parts : Type 0 where
+pub record NearParts : Type 0 where
   pub given : List (ℕ × List Literal)
   pub recent : List (ℕ × List Literal)
 
 -- all clauses, with those that are far
-abbrev pub all_of : Parts → List (ℕ × List Literal) → List (ℕ × List Literal)
+abbrev pub all_of : NearParts → List (ℕ × List Literal) → List (ℕ × List Literal)
 all_of near far = near.given ++ (far ++ near.recent)
 
 -- the id of a place: the formula has so many clauses, and so many ids are passed over after them

@@ -47,9 +47,9 @@ pub(crate) struct Near {
 }
 
 impl Model for Near {
-    ghost use Rattle.lrat_live.specs.Near.{Parts};
+    ghost use Rattle.lrat_live.specs.Near.{NearParts};
 
-    ghost Value = { Parts };
+    ghost Value = { NearParts };
 
     ghost use Rattle.lrat_live.specs.Near.{given_in, recent_in, IsNear};
 

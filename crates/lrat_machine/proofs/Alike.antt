@@ -10,7 +10,8 @@ use Rattle.cnf.specs.Refute.{Clauses}
 use Rattle.cnf.specs.Lrat.{Live, CandidateHints}
 use Rattle.lrat_machine.specs.declared.verdicts.Cause.TheVariants.{Candidates}
 use Rattle.lrat_live.specs.Listed.{same_ids}
-use Rattle.lrat_machine.specs.Verdict.{Walk, Open, Refuted, Fault, Outcome, Dead, NotUnit, Conflict}
+use Rattle.lrat_machine.specs.Verdict.{HintWalk, Open, Refuted, Fault}
+use Rattle.lrat_machine.specs.Verdict.{HintOutcome, Dead, NotUnit, Conflict}
 use Rattle.lrat_machine.specs.Verdict.{Makes, open_literals, outcome_of, goes_on, walk, of_walk}
 use Rattle.lrat_machine.specs.Verdict.{ids_with, group_fault, groups_fault, clause_fault}
 use Rattle.lrat_machine.specs.Steps.{HaveSame, EndAlike}
@@ -41,12 +42,12 @@ outcome-same A B (Some c) s =
     ∙ ap (outcome_on B) (open-same A B c s) ∙ sym (outcome_is c B)
 
 -- ends
-pub EndAlike-refl : (w : Walk) → EndAlike w w
+pub EndAlike-refl : (w : HintWalk) → EndAlike w w
 EndAlike-refl (Open A) = λ l. refl
 EndAlike-refl Refuted = tt
 EndAlike-refl (Fault f) = refl
 
-pub EndAlike-step : (u v w : Walk) → EndAlike u v → EndAlike v w → EndAlike u w
+pub EndAlike-step : (u v w : HintWalk) → EndAlike u v → EndAlike v w → EndAlike u w
 EndAlike-step (Open A) (Open B) (Open C) p q = λ l. p l ∙ q l
 EndAlike-step (Open A) (Open B) Refuted p q = absurd q
 EndAlike-step (Open A) (Open B) (Fault f) p q = absurd q
@@ -61,7 +62,7 @@ EndAlike-step (Fault f) (Fault g) (Open C) p q = absurd q
 EndAlike-step (Fault f) (Fault g) Refuted p q = absurd q
 EndAlike-step (Fault f) (Fault g) (Fault h) p q = p ∙ q
 
-goes_on-alike : (o : Outcome) (hs : List ℕ) (m n : Literal → Walk)
+goes_on-alike : (o : HintOutcome) (hs : List ℕ) (m n : Literal → HintWalk)
     → ((l : Literal) → EndAlike (m l) (n l)) → EndAlike (goes_on o hs m) (goes_on o hs n)
 goes_on-alike Dead hs m n f = refl
 goes_on-alike NotUnit hs m n f = refl
@@ -78,7 +79,7 @@ walk-same at A B s (h ∷ hs) =
     (goes_on-alike (outcome_of (at h) B) hs (λ l. walk at (l ∷ A) hs) (λ l. walk at (l ∷ B) hs)
     (λ l. walk-same at (l ∷ A) (l ∷ B) (HaveSame-cons l A B s) hs))
 
-pub of_walk-alike : (v w : Walk) → EndAlike v w → of_walk v ≡ of_walk w
+pub of_walk-alike : (v w : HintWalk) → EndAlike v w → of_walk v ≡ of_walk w
 of_walk-alike (Open A) (Open B) p = refl
 of_walk-alike (Open A) Refuted p = absurd p
 of_walk-alike (Open A) (Fault g) p = absurd p
@@ -122,8 +123,8 @@ groups_fault-same at p A B s [] = refl
 groups_fault-same at p A B s (g ∷ gs) = let e = group_fault-same at p A B s g in
     let f = groups_fault-same at p A B s gs in cc
 
-pub clause_fault-alike : (live : Live) (c : List Literal) (v w : Walk) (gs : List CandidateHints)
-    → EndAlike v w → clause_fault live c v gs ≡ clause_fault live c w gs
+pub clause_fault-alike : (live : Live) (c : List Literal) (v w : HintWalk)
+    (gs : List CandidateHints) → EndAlike v w → clause_fault live c v gs ≡ clause_fault live c w gs
 clause_fault-alike live c (Open A) Refuted gs p = absurd p
 clause_fault-alike live c (Open A) (Fault g) gs p = absurd p
 clause_fault-alike live c Refuted (Open B) gs p = absurd p

@@ -16,7 +16,7 @@ use Rattle.cnf.proofs.Laws.{literal_eq-true}
 use Rattle.lrat_machine.specs.Assumed.{AreWithin}
 use Rattle.lrat_live.specs.Listed.{listed_at}
 use Rattle.lrat_machine.specs.declared.verdicts.Cause.TheVariants.{HintAfterConflict}
-use Rattle.lrat_machine.specs.Verdict.{Fault, NotUnit, Conflict, Makes, Outcome}
+use Rattle.lrat_machine.specs.Verdict.{Fault, NotUnit, Conflict, Makes, HintOutcome}
 use Rattle.lrat_machine.specs.Verdict.{open_literals, outcome_of, goes_on, walk}
 use Rattle.lrat_machine.specs.Steps.{EndAlike}
 use Rattle.lrat_machine.proofs.Walk.{outcome_on, outcome_is, makes_means}
@@ -169,7 +169,7 @@ walk_at at T hs i lt =
 
 -- what the hint's clause does decides how the walk goes on
 walk_does : (at : Clauses) (T : List Literal) (hs : List (Bool × ℕ)) (i : ℕ) (c : List Literal)
-    (o : Outcome)
+    (o : HintOutcome)
     → i < length hs → at (id_at hs i) ≡ Some c → outcome_of (Some c) T ≡ o
     → walk at T (ids_from hs i)
     ≡ goes_on o (ids_from hs (i + 1)) (λ l. walk at (l ∷ T) (ids_from hs (i + 1)))

@@ -18,7 +18,7 @@ use Rattle.lrat_read.specs.Form.{groups_of}
 use Rattle.cnf.specs.Refute.{Clauses}
 use Rattle.lrat_machine.specs.declared.verdicts.Cause.TheVariants.{HintAfterConflict}
 use Rattle.lrat_live.specs.Listed.{same_ids}
-use Rattle.lrat_machine.specs.Verdict.{Walk, walk, of_walk, group_fault}
+use Rattle.lrat_machine.specs.Verdict.{HintWalk, walk, of_walk, group_fault}
 use Rattle.lrat_machine.specs.Steps.{HaveSame, EndAlike}
 use Rattle.lrat_live.proofs.Laws.{ne_codes}
 use Rattle.lrat_machine.proofs.Steps.{IsTrueAlready, silent_on, group_silent, group_walks}
@@ -91,7 +91,7 @@ true_shown A c i k l lt here ne h =
 
 -- how a group ends
 pub group_end : (at : Clauses) (p q : Literal) (B T : List Literal) (n : ℕ) (hs : List ℕ)
-    (d : List Literal) (w : Walk) → q ≡ negation p → at n ≡ Some d
+    (d : List Literal) (w : HintWalk) → q ≡ negation p → at n ≡ Some d
     → list_any (λ k. contains_literal k B) (without_literal q d) ≡ false
     → HaveSame (map negation (without_literal q d) ++ B) T → EndAlike (walk at T hs) w
     → group_fault at p B (record { candidate = n; hints = hs }) ≡ of_walk w

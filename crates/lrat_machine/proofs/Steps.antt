@@ -23,7 +23,7 @@ use Rattle.lrat_machine.specs.declared.verdicts.Cause.{Cause}
 use Rattle.lrat_machine.specs.declared.verdicts.Cause.TheVariants.{IdOrder, DeadId, ClauseForm}
 use Rattle.lrat_machine.specs.declared.verdicts.Cause.TheVariants.{HintAfterConflict, Candidates}
 use Rattle.lrat_live.specs.Listed.{same_ids}
-use Rattle.lrat_machine.specs.Verdict.{Walk, Open, Refuted, Fault, walk, ids_with, of_walk}
+use Rattle.lrat_machine.specs.Verdict.{HintWalk, Open, Refuted, Fault, walk, ids_with, of_walk}
 use Rattle.lrat_machine.specs.Verdict.{group_fault, or_else, groups_fault, clause_fault}
 use Rattle.lrat_machine.specs.Verdict.{addition_fault, deleted}
 use Rattle.lrat_read.specs.Form.{leading, groups_of}
@@ -36,7 +36,7 @@ pub record IsSane (live : Live) : Type 0 where
   pub in_range : InRange live.clause_at live.last
   pub none_repeats : NoneRepeats live.clause_at
 
-of_walk_none : (w : Walk) → of_walk w ≡ None → w ≡ Refuted
+of_walk_none : (w : HintWalk) → of_walk w ≡ None → w ≡ Refuted
 of_walk_none (Open B) e = absurd (cc)
 of_walk_none Refuted e = refl
 of_walk_none (Fault f) e = absurd (cc)
@@ -129,7 +129,7 @@ abbrev pub Holds : Clauses → List Literal → List ℕ → List CandidateHints
 Holds at c hints gs = IsRup at c hints gs ⊎ IsRat at c hints gs
 
 clause_means : (live : Live) → IsSane live
-    → (hints : List ℕ) (c : List Literal) (w : Walk) (gs : List CandidateHints)
+    → (hints : List ℕ) (c : List Literal) (w : HintWalk) (gs : List CandidateHints)
     → walk live.clause_at (map negation c) hints ≡ w → clause_fault live c w gs ≡ None
     → Holds live.clause_at c hints gs
 clause_means live s hints c (Fault f) gs e h = absurd (cc)

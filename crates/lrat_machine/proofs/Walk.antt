@@ -8,7 +8,8 @@ use Rattle.cnf.specs.Literal.{Literal, negation, literal_eq}
 use Rattle.cnf.specs.Clause.{contains_literal, has_repeat}
 use Rattle.cnf.specs.Refute.{IsUnit, IsFalseUnder, Clauses, Leads, Refutes}
 use Rattle.cnf.proofs.Laws.{literal_eq-refl, literal_eq-true}
-use Rattle.lrat_machine.specs.Verdict.{Walk, Open, Refuted, Outcome, Dead, NotUnit, Conflict, Makes}
+use Rattle.lrat_machine.specs.Verdict.{HintWalk, Open, Refuted}
+use Rattle.lrat_machine.specs.Verdict.{HintOutcome, Dead, NotUnit, Conflict, Makes}
 use Rattle.lrat_machine.specs.Verdict.{open_literals, outcome_of, goes_on, walk}
 
 pub literal_ne : (k l : Literal) → literal_eq k l ≡ false → l ≡ k → ⊥
@@ -90,7 +91,7 @@ open_one (k ∷ c) A l n m f o =
     ] refl
 
 -- what one hint does
-abbrev pub outcome_on : List Literal → List Literal → Outcome
+abbrev pub outcome_on : List Literal → List Literal → HintOutcome
 outcome_on A [] = Conflict
 outcome_on A (l ∷ []) = cond (contains_literal l A) NotUnit (Makes l)
 outcome_on A (l ∷ k ∷ more) = NotUnit
@@ -157,11 +158,11 @@ makes_from c A l n u = rw (open_one c A l n u.member u.not_false u.others) (rw u
 abbrev pub NoneRepeats : Clauses → Type 0
 NoneRepeats at = (i : ℕ) (c : List Literal) → at i ≡ Some c → has_repeat c ≡ false
 
-last_one : (hs : List ℕ) (more : Literal → Walk) → goes_on Conflict hs more ≡ Refuted → hs ≡ []
+last_one : (hs : List ℕ) (more : Literal → HintWalk) → goes_on Conflict hs more ≡ Refuted → hs ≡ []
 last_one [] more e = refl
 last_one (h ∷ hs) more e = absurd (cc)
 
-not_open : (hs : List ℕ) (more : Literal → Walk) (B : List Literal)
+not_open : (hs : List ℕ) (more : Literal → HintWalk) (B : List Literal)
     → goes_on Conflict hs more ≡ Open B → ⊥
 not_open [] more B e = cc
 not_open (h ∷ hs) more B e = cc

@@ -10,8 +10,8 @@ use Rattle.lrat_machine.specs.Assumed.{AreWithin}
 use Rattle.lrat_live.specs.Listed.{listed_at, IsRising}
 use Rattle.lrat_machine.specs.declared.verdicts.Cause.{Cause}
 use Rattle.lrat_read.specs.Reader.{LineState, is_large_clause}
-use Rattle.lrat_machine.specs.Verdict.{addition_fault, Walk, Open, Refuted, Fault, Outcome, NotUnit}
-use Rattle.lrat_machine.specs.Verdict.{Conflict, Makes, walk}
+use Rattle.lrat_machine.specs.Verdict.{addition_fault, HintWalk, Open, Refuted, Fault}
+use Rattle.lrat_machine.specs.Verdict.{HintOutcome, NotUnit, Conflict, Makes, walk}
 use Rattle.lrat_machine.specs.declared.hints.Effect.{Effect}
 use Rattle.lrat_machine.specs.declared.hints.Effect.TheVariants.{Conflict as HasConflict}
 use Rattle.lrat_machine.specs.declared.hints.Effect.TheVariants.{Makes as HasMade}
@@ -45,18 +45,18 @@ pub record Adds (old : List (ℕ × List Literal)) (last : ℕ) (s : LineState)
   pub ended_is : ended ≡ nat_eq (length s.clause) 0
   pub rising : last < s.id
 
-abbrev pub outcome_as : Effect → Outcome
+abbrev pub outcome_as : Effect → HintOutcome
 outcome_as HasConflict = Conflict
 outcome_as (HasMade l) = Makes l
 outcome_as HasMany = NotUnit
 
-abbrev pub walked_as : Walked → List Literal → Walk
+abbrev pub walked_as : Walked → List Literal → HintWalk
 walked_as IsOpen A = Open A
 walked_as IsRefuted A = Refuted
 walked_as (IsFault f) A = Fault f
 
 -- two walks end alike
-abbrev pub EndAlike : Walk → Walk → Type 0
+abbrev pub EndAlike : HintWalk → HintWalk → Type 0
 EndAlike (Open A) (Open B) = HaveSame A B
 EndAlike Refuted Refuted = Unit {0}
 EndAlike (Fault f) (Fault g) = f ≡ g

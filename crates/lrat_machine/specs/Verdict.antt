@@ -20,32 +20,32 @@ use Rattle.lrat_machine.specs.declared.verdicts.Cause.TheVariants.{ClauseForm}
 use Rattle.lrat_machine.specs.declared.verdicts.Verdict.{Verdict}
 use Rattle.lrat_machine.specs.declared.verdicts.Verdict.TheVariants.{Yes, No}
 
-pub data Walk : Type 0 where
-  Open : List Literal → Walk
-  Refuted : Walk
-  Fault : Cause → Walk
+pub data HintWalk : Type 0 where
+  Open : List Literal → HintWalk
+  Refuted : HintWalk
+  Fault : Cause → HintWalk
 
 -- the literals that are not false
 abbrev pub open_literals : List Literal → List Literal → List Literal
 open_literals A c = filter (λ l. not (contains_literal (negation l) A)) c
 
-pub data Outcome : Type 0 where
-  Dead : Outcome
-  NotUnit : Outcome
-  Conflict : Outcome
-  Makes : Literal → Outcome
+pub data HintOutcome : Type 0 where
+  Dead : HintOutcome
+  NotUnit : HintOutcome
+  Conflict : HintOutcome
+  Makes : Literal → HintOutcome
 
 -- what one hint does where the literals of A are true
-abbrev pub outcome_of : Option (List Literal) → List Literal → Outcome
+abbrev pub outcome_of : Option (List Literal) → List Literal → HintOutcome
 outcome_of None A = Dead
 outcome_of (Some c) A = by (open_literals A c)
   where
-    by : List Literal → Outcome
+    by : List Literal → HintOutcome
     by [] = Conflict
     by (l ∷ []) = if contains_literal l A then NotUnit else Makes l
     by (l ∷ k ∷ more) = NotUnit
 
-abbrev pub goes_on : Outcome → List ℕ → (Literal → Walk) → Walk
+abbrev pub goes_on : HintOutcome → List ℕ → (Literal → HintWalk) → HintWalk
 goes_on Dead hs more = Fault DeadId
 goes_on NotUnit hs more = Fault HintNotUnit
 goes_on Conflict [] more = Refuted
@@ -53,7 +53,7 @@ goes_on Conflict (h ∷ hs) more = Fault HintAfterConflict
 goes_on (Makes l) hs more = more l
 
 -- the hints in turn
-abbrev pub walk : Clauses → List Literal → List ℕ → Walk
+abbrev pub walk : Clauses → List Literal → List ℕ → HintWalk
 walk at A [] = Open A
 walk at A (h ∷ hs) = goes_on (outcome_of (at h) A) hs (λ l. walk at (l ∷ A) hs)
 
@@ -66,7 +66,7 @@ ids_with at l (suc i) = ids_with at l i ++ (if stands (at (suc i)) then suc i �
     stands None = false
     stands (Some c) = contains_literal l c
 
-abbrev pub of_walk : Walk → Option Cause
+abbrev pub of_walk : HintWalk → Option Cause
 of_walk (Open B) = Some NoConflict
 of_walk Refuted = None
 of_walk (Fault f) = Some f
@@ -96,7 +96,7 @@ abbrev pub groups_fault : Clauses → Literal → List Literal → List Candidat
 groups_fault at pivot B [] = None
 groups_fault at pivot B (g ∷ gs) = or_else (group_fault at pivot B g) (groups_fault at pivot B gs)
 
-abbrev pub clause_fault : Live → List Literal → Walk → List CandidateHints → Option Cause
+abbrev pub clause_fault : Live → List Literal → HintWalk → List CandidateHints → Option Cause
 clause_fault live c (Fault f) gs = Some f
 clause_fault live c Refuted [] = None
 clause_fault live c Refuted (g ∷ gs) = Some HintAfterConflict

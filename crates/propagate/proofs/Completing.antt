@@ -17,7 +17,7 @@ use Rattle.propagate_watches.specs.Pool.{row_at}
 use Rattle.propagate_watches.specs.Table.{attachment_in}
 use Rattle.propagate_trail.specs.Trail.{Assigned, literals_of, kept_to}
 use Rattle.propagate.specs.Watches.{EngineState, is_attached, watches_at, count_in}
-use Rattle.propagate.specs.Fits.{Fits, FitsAttachment, IsWatch, HasTrue, IsComplete}
+use Rattle.propagate.specs.Fits.{Fits, FitsAttachment, IsWatch, HasTrue, IsAttachedFixpoint}
 use Rattle.propagate.specs.Steps.{IsTrueEntry, AreTrueWaiting}
 use Rattle.propagate_trail.proofs.Laws.{kept_prefix, literals-append, NoTautology}
 use Rattle.propagate_trail.proofs.Laws.{no_tautology}
@@ -181,7 +181,7 @@ attachment_done e slots r c (Watching one other rest) same apart all waiting liv
     ]
 
 pub complete : (e : EngineState) (slots : Slots) → e.watches.qhead ≡ length e.trail
-    → AreTrueWaiting slots e → Fits e slots → IsComplete slots (is_attached e) e.trail
+    → AreTrueWaiting slots e → Fits e slots → IsAttachedFixpoint slots (is_attached e) e.trail
 complete e slots all waiting fits = λ r c attached live.
     let f = fits.attached r attached in
     let same : f.0 ≡ c = cc (f.1, live) in

@@ -107,8 +107,8 @@ IsFalseClause slots e r = (c : List Literal) × (clause_at slots r ≡ Some c)
     × IsFalseUnder c (literals_of e.trail)
 
 -- no attached clause is false or unit under the trail
-abbrev pub IsComplete : Slots → (ℕ → Bool) → List Assigned → Type 0
-IsComplete slots attached trail = (r : ℕ) (c : List Literal) → attached r ≡ true
+abbrev pub IsAttachedFixpoint : Slots → (ℕ → Bool) → List Assigned → Type 0
+IsAttachedFixpoint slots attached trail = (r : ℕ) (c : List Literal) → attached r ≡ true
     → clause_at slots r ≡ Some c
     → (IsFalseUnder c (literals_of trail) → ⊥)
     × ((l : Literal) → IsUnit c (literals_of trail) l → ⊥)

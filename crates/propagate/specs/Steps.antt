@@ -19,7 +19,7 @@ use Rattle.propagate_watches.specs.Table.{attachment_in, rest_in, IsWatchedBy, r
 use Rattle.propagate_watches.specs.Table.{grown_table}
 use Rattle.propagate_trail.specs.Trail.{Assigned, literals_of, is_decision, value_in}
 use Rattle.propagate.specs.Watches.{EngineState, SameAttached, IsVariable, is_attached}
-use Rattle.propagate.specs.Fits.{Fits, HasTrue, IsRest, IsWithin, IsFalseClause, IsComplete}
+use Rattle.propagate.specs.Fits.{Fits, HasTrue, IsRest, IsWithin, IsFalseClause, IsAttachedFixpoint}
 
 abbrev pub with_rows : EngineState → List (List WatchEntry) → EngineState
 with_rows e rows = record e { watches = record e.watches { rows = rows } }
@@ -123,7 +123,7 @@ WaitSays slots e r ok = MatchBool ok (IsTrueWaiting slots e r) (IsConflict slots
 -- what propagation answers: a conflict, or none, and then no attached clause is false or unit
 pub record Settles (slots : Slots) (e : EngineState) (found : Option ℕ) : Type 0 where
   pub conflict : FindsConflict slots e found
-  pub complete : IfNone found (IsComplete slots (is_attached e) e.trail)
+  pub complete : IfNone found (IsAttachedFixpoint slots (is_attached e) e.trail)
 
 -- what is known of the clause of an entry in the row of a false literal
 pub record IsWatched (slots : Slots) (e : EngineState) (w : Literal)

@@ -11,7 +11,7 @@ ghost use Rattle.propagate.specs.Watches.{is_attached, SameAttached, SetsAttache
 ghost use Rattle.propagate.specs.Watches.{IsBare, IsVariable};
 ghost use Rattle.propagate.specs.Steps.{enlisted, with_room, watched, with_trail, GoesOn, Settles};
 ghost use Rattle.propagate.specs.Fits.{Fits, StaysFit, IsWithin, GrowsByUnits, IsFalseClause};
-ghost use Rattle.propagate.specs.Fits.{IsComplete, IsRest};
+ghost use Rattle.propagate.specs.Fits.{IsAttachedFixpoint, IsRest};
 
 mod compacting;
 mod detaching;
@@ -290,7 +290,7 @@ impl Engine {
         ensures conflict { IfOk result (λ found. IfSome found
             (λ r. (is_attached self.new r ≡ true) × IsFalseClause store.now.slots self.new r)) }
         ensures complete { IfOk result (λ found. IfNone found
-            (IsComplete store.now.slots (is_attached self.new) self.new.trail)) }
+            (IsAttachedFixpoint store.now.slots (is_attached self.new) self.new.trail)) }
         ensures attached { SameAttached self.old self.new }
         ensures variables { self.new.variables ≡ self.old.variables }
         ensures fits { Fits self.new store.now.slots }

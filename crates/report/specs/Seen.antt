@@ -1,4 +1,4 @@
--- What was shown to the keeper of a run, beside what was written.
+-- What was shown to the watch of a run, beside what was written.
 use Rattle.std.specs.Prelude.{◌≡◌, ℕ, Bool, List, [], ◌∷◌, ◌++◌, map, All, Option, IfSome}
 use Rattle.std.specs.Io.KnownBytes.{Appends}
 use Rattle.cnf.specs.Problem.{Problem}

@@ -19,7 +19,7 @@ use text::output::WriteFault;
 pub trait RunWatch: Watch {
     /// The search is over with this, and nothing of its end is written yet.
     fn searched(&mut self, found: &Found)
-        ensures quiet { Self.seen self.new ≡ Self.seen self.old };
+        ensures same_seen { Self.seen self.new ≡ Self.seen self.old };
 
     /// Is shown what was found, once the result and the certificate are written and flushed.
     fn ended(&mut self, instance: &Instance, found: &Found)

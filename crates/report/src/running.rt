@@ -92,7 +92,7 @@ pub fn run_as<R: Read, O: Write, P: Write>(
     run_watched(alloc, input, budget, out, proof, profile, &mut Silent)
 }
 
-/// As `run_as`, where `keeper` looks on. It is told of each clause that is learned, and of the end
+/// As `run_as`, where `watch` looks on. It is told of each clause that is learned, and of the end
 /// of the search. Each solution is shown to it before its `o` line is written, and what was found
 /// once the result is written and flushed. After a fault it is shown no more.
 ///
@@ -106,7 +106,7 @@ pub fn run_watched<R: Read, O: Write, P: Write, K: RunWatch>(
     out: &mut O,
     proof: &mut P,
     profile: Profile,
-    keeper: &mut K,
+    watch: &mut K,
 ) -> Result<Status, RunFault>
     ensures ok { IfOk result (λ status. EndsAs profile (R.remaining input.old)
         (O.contents out.old) (O.contents out.new) (P.contents proof.old) (P.contents proof.new)
@@ -117,9 +117,9 @@ pub fn run_watched<R: Read, O: Write, P: Write, K: RunWatch>(
     ensures same_limit { budget.new.limit ≡ budget.old.limit }
     ensures seen { IfOk result (λ status. IsSeenAs profile (R.remaining input.old)
         (O.contents out.old) (O.contents out.new) status
-        (K.seen keeper.old) (K.seen keeper.new)) }
+        (K.seen watch.old) (K.seen watch.new)) }
 {
-    run_from(alloc, input, None, budget, out, proof, profile, keeper)
+    run_from(alloc, input, None, budget, out, proof, profile, watch)
 }
 
 /// As `run_watched`, where the search begins with these bits, if they are a solution: then its
@@ -136,7 +136,7 @@ pub fn run_from<R: Read, O: Write, P: Write, K: RunWatch>(
     out: &mut O,
     proof: &mut P,
     profile: Profile,
-    keeper: &mut K,
+    watch: &mut K,
 ) -> Result<Status, RunFault>
     ensures ok { IfOk result (λ status. EndsAs profile (R.remaining input.old)
         (O.contents out.old) (O.contents out.new) (P.contents proof.old) (P.contents proof.new)
@@ -147,10 +147,10 @@ pub fn run_from<R: Read, O: Write, P: Write, K: RunWatch>(
     ensures same_limit { budget.new.limit ≡ budget.old.limit }
     ensures seen { IfOk result (λ status. IsSeenAs profile (R.remaining input.old)
         (O.contents out.old) (O.contents out.new) status
-        (K.seen keeper.old) (K.seen keeper.new)) }
+        (K.seen watch.old) (K.seen watch.new)) }
 {
     let instance = read_from(alloc, input)?;
-    run_on(alloc, &instance, start, budget, out, proof, profile, keeper)
+    run_on(alloc, &instance, start, budget, out, proof, profile, watch)
 }
 
 /// As `run_from`, of an instance that was read.
@@ -162,7 +162,7 @@ fn run_on<O: Write, P: Write, K: RunWatch>(
     out: &mut O,
     proof: &mut P,
     profile: Profile,
-    keeper: &mut K,
+    watch: &mut K,
 ) -> Result<Status, RunFault>
     ensures ok { (text : Option (List ℕ)) → IsReadAs text instance.now
         → IfOk result (λ status. EndsAs profile text (O.contents out.old) (O.contents out.new)
@@ -173,17 +173,17 @@ fn run_on<O: Write, P: Write, K: RunWatch>(
     ensures same_limit { budget.new.limit ≡ budget.old.limit }
     ensures seen { (text : Option (List ℕ)) → IsReadAs text instance.now
         → IfOk result (λ status. IsSeenAs profile text (O.contents out.old) (O.contents out.new)
-        status (K.seen keeper.old) (K.seen keeper.new)) }
+        status (K.seen watch.old) (K.seen watch.new)) }
 {
     instance.limits();
-    let found = find_best(alloc, instance, start, budget, out, profile, keeper)?;
-    keeper.searched(&found);
+    let found = find_best(alloc, instance, start, budget, out, profile, watch)?;
+    watch.searched(&found);
     if let Err(fault) = write_answer(&found, out, proof) {
         // By a call: that is proved once, and not field by field among all that is borrowed here.
         drop(found);
         return Err(fault);
     }
-    keeper.ended(instance, &found);
+    watch.ended(instance, &found);
     Ok(Status::of(found))
 }
 
@@ -195,17 +195,17 @@ fn find_best<O: Write, K: RunWatch>(
     budget: &mut Budget,
     out: &mut O,
     profile: Profile,
-    keeper: &mut K,
+    watch: &mut K,
 ) -> Result<Found, RunFault>
     ensures searches { Searches profile instance.now result (O.contents out.old)
         (O.contents out.new) budget.old budget.new }
     ensures shown { IfOk result (λ found. IsShownFor profile instance.now found
         (O.contents out.old) (O.contents out.new)
-        (K.seen keeper.old) (K.seen keeper.new)) }
+        (K.seen watch.old) (K.seen watch.new)) }
 {
     instance.limits();
     let mut told = Told::new(alloc, out);
-    let searched = search(instance, start, budget, &mut told, profile, keeper);
+    let searched = search(instance, start, budget, &mut told, profile, watch);
     let Finished { writer, fault } = told.finish();
     // Nothing is done here: the proof learns from this use what the writer holds.
     let _ = &*writer;
@@ -219,7 +219,7 @@ fn search<T: Progress, K: RunWatch>(
     budget: &mut Budget,
     progress: &mut T,
     profile: Profile,
-    keeper: &mut K,
+    watch: &mut K,
 ) -> Result<Found, ImproveFault>
     requires { CanFail (T.state progress.old) }
     ensures follows { (first : T) → T.follows first progress.old → T.follows first progress.new }
@@ -227,17 +227,17 @@ fn search<T: Progress, K: RunWatch>(
         (T.state progress.old) (T.state progress.new)
         budget.old budget.new }
     ensures shown { AreShown instance.now (T.state progress.old) (T.state progress.new)
-        (K.seen keeper.old) (K.seen keeper.new) }
+        (K.seen watch.old) (K.seen watch.new) }
 {
     match start {
         Some(bits) => {
             if is_solution(instance, &bits) {
-                improve_from(instance, bits, budget, progress, profile, keeper)
+                improve_from(instance, bits, budget, progress, profile, watch)
             } else {
-                improve_watched(instance, budget, progress, profile, keeper)
+                improve_watched(instance, budget, progress, profile, watch)
             }
         }
-        None => improve_watched(instance, budget, progress, profile, keeper),
+        None => improve_watched(instance, budget, progress, profile, watch),
     }
 }
 

@@ -6,7 +6,7 @@ use Rattle.std.proofs.Common.{OnSome, if◌then◌else◌, refl, sym, ◌∙◌,
 use Rattle.std.proofs.lemmas.Bool.{leb-true, leb-false, le-ltb, lt-ltb}
 use Rattle.cnf.specs.Problem.{Problem}
 use Rattle.cnf.specs.Instance.{IsInstance}
-use Rattle.sums_tree.specs.Tree.{Tree, Step, groups_of}
+use Rattle.sums_tree.specs.Tree.{Tree, TreeStep, groups_of}
 use Rattle.sums_tree.specs.Groups.{Placed, groups, grouped_from, binding}
 use Rattle.sums_tree.specs.Arranging.{tree}
 use Rattle.sums_tree.specs.Arrangement.{arranged, steps_to}
@@ -32,7 +32,7 @@ over_steps p (Some t) e few =
     ∙ ap (λ b. if b then None else first_small (root p t) TRIES 0 (tree_weight p t))
     (sym (le-ltb (2 ^ 15) (length (groups_of t)) (omega (arith, length-tree p t e))))
 
-pub arranged_sums : (p : Problem) (ss : List Step) → arranged p ≡ Some ss
+pub arranged_sums : (p : Problem) (ss : List TreeStep) → arranged p ≡ Some ss
     → first_small (root_made p ss) TRIES 0 (steps_weight p ss) ≡ sums_over p (tree p)
 arranged_sums p ss =
     elim (nat_le (length (groups p)) (2 ^ 15)) as (λ b. nat_le (length (groups p)) (2 ^ 15) ≡ b
@@ -45,7 +45,7 @@ arranged_sums p ss =
       | false ↦ λ f e. absurd (none e)
     ] refl
   where
-    inner : (zs : List Step) → Some zs ≡ Some ss → zs ≡ ss
+    inner : (zs : List TreeStep) → Some zs ≡ Some ss → zs ≡ ss
     inner zs e = cc
 
     none : None ≡ Some ss → ⊥
@@ -67,7 +67,7 @@ arranged_none p =
           too_many_groups p (tree p) refl (leb-false (length (groups p)) (2 ^ 15) f)
     ] refl
   where
-    some : (zs : List Step) → Some zs ≡ None → ⊥
+    some : (zs : List TreeStep) → Some zs ≡ None → ⊥
     some zs e = cc
 
 -- the laws of the sums of an instance

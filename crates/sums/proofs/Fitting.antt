@@ -14,7 +14,7 @@ use Rattle.std.proofs.lemmas.List.Concat.{flat_map-cons}
 use Rattle.cnf.specs.Clause.{is_tautology}
 use Rattle.cnf.specs.Problem.{Problem, SoftClause}
 use Rattle.cnf.specs.Instance.{IsInstance}
-use Rattle.sums_tree.specs.Tree.{Tree, Leaf, Fork, Step, Take, Join, steps_of, groups_of}
+use Rattle.sums_tree.specs.Tree.{Tree, Leaf, Fork, TreeStep, Take, Join, steps_of, groups_of}
 use Rattle.sums_tree.specs.Groups.{placed_from, placed, groups}
 use Rattle.sums_tree.specs.Arranging.{tree, IsArrangement}
 use Rattle.sums_tree.specs.Arrangement.{steps_to, step_of, arranged}
@@ -98,12 +98,12 @@ steps_placed p (Fork l r) h =
     both (steps_of l ++ steps_of r) (Join ∷ [])
     (both (steps_of l) (steps_of r) (steps_placed p l h.0) (steps_placed p r h.1)) (tt, tt)
   where
-    both : (xs ys : List Step) → AllByRecursion (IsPlaced p) xs → AllByRecursion (IsPlaced p) ys
+    both : (xs ys : List TreeStep) → AllByRecursion (IsPlaced p) xs → AllByRecursion (IsPlaced p) ys
         → AllByRecursion (IsPlaced p) (xs ++ ys)
     both [] ys h k = k
     both (x ∷ xs) ys h k = (h.0, both xs ys h.1 k)
 
-steps_join : (t : Tree) (n : ℕ) (more : List Step) → CanStepAll (n + 1) more
+steps_join : (t : Tree) (n : ℕ) (more : List TreeStep) → CanStepAll (n + 1) more
     → CanStepAll n (steps_of t ++ more)
 steps_join (Leaf g) n more h = (tt, h)
 steps_join (Fork l r) n more h =
@@ -128,7 +128,7 @@ tree_steps p (Some t) e i =
       weights = omega (arith, arranged_weight p t a, weight_by_steps p t, i.weight_sum);
     }
 
-arranged_is : (p : Problem) (ss : List Step) → arranged p ≡ Some ss → steps_to (tree p) ≡ ss
+arranged_is : (p : Problem) (ss : List TreeStep) → arranged p ≡ Some ss → steps_to (tree p) ≡ ss
 arranged_is p ss =
     elim (nat_le (length (groups p)) (2 ^ 15)) as (λ b.
     (if b then Some (steps_to (tree p)) else None) ≡ Some ss → steps_to (tree p) ≡ ss) [
@@ -139,7 +139,7 @@ arranged_is p ss =
     none : None ≡ Some ss → ⊥
     none e = cc
 
-pub arranged_steps : (p : Problem) (ss : List Step) → IsInstance p → arranged p ≡ Some ss
+pub arranged_steps : (p : Problem) (ss : List TreeStep) → IsInstance p → arranged p ≡ Some ss
     → AreSteps p ss
 arranged_steps p ss i e = subst (AreSteps p) (arranged_is p ss e) (tree_steps p (tree p) refl i)
 
@@ -150,7 +150,7 @@ after_join m s [] le = absurd (omega arith)
 after_join m s (r ∷ []) le = absurd (omega arith)
 after_join m s (r ∷ l ∷ parts) le = omega arith
 
-pub after_step : (p : Problem) (d m : ℕ) (step : Step) (s : OpenParts)
+pub after_step : (p : Problem) (d m : ℕ) (step : TreeStep) (s : OpenParts)
     → CanStep (length s.parts) step
     → length (step_made p d m step s).parts ≡ parts_after (length s.parts) step
 after_step p d m (Take g) s h = omega arith

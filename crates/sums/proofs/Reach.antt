@@ -10,7 +10,7 @@ use Rattle.std.proofs.lemmas.List.Sums.{sum_by-cons}
 use Rattle.cnf.specs.Literal.{Literal}
 use Rattle.cnf.specs.Problem.{Problem}
 use Rattle.cnf.proofs.Laws.{all_append}
-use Rattle.sums_tree.specs.Tree.{Step, Take, Join}
+use Rattle.sums_tree.specs.Tree.{TreeStep, Take, Join}
 use Rattle.sums_tree.specs.Arrangement.{step_of}
 use Rattle.sums_tree.specs.declared.arrangement.TreeStep as made
 use Rattle.sums.specs.Sums.{AtLeast, Own, Members, Both, Split, Node, rising, named_from, numbers}
@@ -252,7 +252,7 @@ joined_within most s (r ∷ l ∷ parts) =
       length-append s.clauses n.clauses,
     )
 
-step_within : (p : Problem) (d most : ℕ) (step : Step) (s : OpenParts)
+step_within : (p : Problem) (d most : ℕ) (step : TreeStep) (s : OpenParts)
     → sum_by reach (step_made p d most step s).parts + length s.clauses
     ≤ sum_by reach s.parts + step_weight p step + length (step_made p d most step s).clauses
 step_within p d most (Take group) s =

@@ -10,7 +10,7 @@ use Rattle.std.proofs.lemmas.List.{length-append}
 use Rattle.std.proofs.lemmas.List.Sums.{sum_by-append}
 use Rattle.cnf.specs.Literal.{Literal}
 use Rattle.cnf.specs.Problem.{Problem}
-use Rattle.sums_tree.specs.Tree.{Tree, Leaf, Fork, Step, Take, Join, steps_of, groups_of}
+use Rattle.sums_tree.specs.Tree.{Tree, Leaf, Fork, TreeStep, Take, Join, steps_of, groups_of}
 use Rattle.sums_tree.specs.declared.arrangement.TreeStep as made
 use Rattle.sums_tree.specs.Arrangement.{step_of}
 use Rattle.sums.specs.declared.summing.TheConstants.{TRIES}
@@ -28,19 +28,19 @@ use Rattle.sums.specs.Stepping.{steps_made, begun, finished, last_part, root_mad
 use Rattle.sums.specs.Stepping.{step_weight, steps_weight}
 
 -- the parts of a tree one after another
-pub in_turn : (l r : Tree) (more : List Step)
+pub in_turn : (l r : Tree) (more : List TreeStep)
     → steps_of (Fork l r) ++ more ≡ steps_of l ++ (steps_of r ++ (Join ∷ more))
 in_turn l r more =
     append_assoc (steps_of l ++ steps_of r) (Join ∷ []) more
     ∙ append_assoc (steps_of l) (steps_of r) (Join ∷ more)
 
-some_before : (t : Tree) (more : List Step) → most_before (steps_of t ++ more) ≡ MOST_BELOW
+some_before : (t : Tree) (more : List TreeStep) → most_before (steps_of t ++ more) ≡ MOST_BELOW
 some_before (Leaf g) more = refl
 some_before (Fork l r) more =
     ap most_before (in_turn l r more) ∙ some_before l (steps_of r ++ (Join ∷ more))
 
 -- the steps of a tree put its node behind what is there
-pub steps_then : (p : Problem) (d m : ℕ) (t : Tree) (more : List Step) (s : OpenParts)
+pub steps_then : (p : Problem) (d m : ℕ) (t : Tree) (more : List TreeStep) (s : OpenParts)
     → most_before more ≡ m
     → steps_made p d (steps_of t ++ more) s
     ≡ steps_made p d more (with_node s s.parts (node p d m t s.fresh))
@@ -82,7 +82,7 @@ last_joined_grows m s (r ∷ l ∷ parts) =
       length-append s.clauses (joined_node m l.digits l.top r.digits r.top s.fresh).clauses,
     )
 
-step_grows : (p : Problem) (d m : ℕ) (step : Step) (s : OpenParts)
+step_grows : (p : Problem) (d m : ℕ) (step : TreeStep) (s : OpenParts)
     → length s.clauses ≤ length (step_made p d m step s).clauses
 step_grows p d m (Take g) s =
     omega (arith, length-append s.clauses (group_node m d (members p g) s.fresh).clauses)
@@ -95,7 +95,7 @@ finished_clauses s = by s.parts
     by [] = refl
     by (x ∷ parts) = refl
 
-pub steps_grow : (p : Problem) (d : ℕ) (steps : List Step) (s : OpenParts)
+pub steps_grow : (p : Problem) (d : ℕ) (steps : List TreeStep) (s : OpenParts)
     → length s.clauses ≤ length (steps_made p d steps s).clauses
 steps_grow p d [] s = omega arith
 steps_grow p d (step ∷ more) s =
@@ -137,7 +137,7 @@ joined_digits d m s (r ∷ l ∷ parts) h g = (
   g.1.1,
 )
 
-step_digits : (p : Problem) (d m : ℕ) (step : Step) (s : OpenParts) → HaveDigits d s.parts
+step_digits : (p : Problem) (d m : ℕ) (step : TreeStep) (s : OpenParts) → HaveDigits d s.parts
     → HaveDigits d (step_made p d m step s).parts
 step_digits p d m (Take g) s h = (
   omega (
@@ -149,7 +149,7 @@ step_digits p d m (Take g) s h = (
 )
 step_digits p d m Join s h = joined_digits d m s s.parts h h
 
-steps_digits : (p : Problem) (d : ℕ) (steps : List Step) (s : OpenParts) → HaveDigits d s.parts
+steps_digits : (p : Problem) (d : ℕ) (steps : List TreeStep) (s : OpenParts) → HaveDigits d s.parts
     → HaveDigits d (steps_made p d steps s).parts
 steps_digits p d [] s h = h
 steps_digits p d (step ∷ more) s h =
@@ -164,7 +164,7 @@ last_digits d s h = by s.parts h
     by [] g = omega arith
     by (x ∷ parts) g = g.0
 
-pub root_digits : (p : Problem) (steps : List Step) (d : ℕ)
+pub root_digits : (p : Problem) (steps : List TreeStep) (d : ℕ)
     → length (root_made p steps d).digits ≤ d
 root_digits p steps d =
     last_digits d (steps_made p d steps (begun p)) (steps_digits p d steps (begun p) tt)

@@ -6,7 +6,7 @@ use Rattle.std.specs.Prelude.{All}
 use Rattle.std.specs.Prelude.{if◌then◌else◌}
 use Rattle.std.specs.Bool.{MatchBool}
 use Rattle.std.specs.List.{list_any, AllByRecursion}
-use Rattle.sums_tree.specs.Tree.{Tree, Step, Take, Join, steps_of}
+use Rattle.sums_tree.specs.Tree.{Tree, TreeStep, Take, Join, steps_of}
 use Rattle.sums_tree.specs.Arranging.{Node, has_group, round}
 use Rattle.sums_tree.specs.Connections.{Connection}
 use Rattle.sums_tree.specs.Seen.{is_in}
@@ -64,7 +64,7 @@ Merges labels new_labels steps new_steps x y most n =
     (Joins labels new_labels steps new_steps (lower_of steps x y) (higher_of steps x y) n)
 
 -- what a step is: a group that comes, or the last two parts become one
-abbrev pub step_at : List (List ℕ) → ℕ → Step
+abbrev pub step_at : List (List ℕ) → ℕ → TreeStep
 step_at groups k =
     if nat_lt k (length groups) then Take (slice_index_or groups k []) else Join
 
@@ -103,7 +103,7 @@ GoesRound steps new_steps ks most n =
     → AreNodes groups steps nodes → AreNodes groups new_steps (round most ks nodes)
 
 -- the steps of a node, as steps of its tree
-abbrev pub steps_at : List (List ℕ) → List ℕ → List Step
+abbrev pub steps_at : List (List ℕ) → List ℕ → List TreeStep
 steps_at groups steps = map (step_at groups) steps
 
 -- the steps of nodes, in their order

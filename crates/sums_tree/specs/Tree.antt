@@ -12,11 +12,11 @@ groups_of (Leaf g) = g ∷ []
 groups_of (Fork l r) = groups_of l ++ groups_of r
 
 -- a step that builds a tree: a group comes, or the last two parts become one
-pub data Step : Type 0 where
-  Take : (group : List ℕ) → Step
-  Join : Step
+pub data TreeStep : Type 0 where
+  Take : (group : List ℕ) → TreeStep
+  Join : TreeStep
 
 -- a tree as the steps that build it: its left part, its right part, then itself
-abbrev pub steps_of : Tree → List Step
+abbrev pub steps_of : Tree → List TreeStep
 steps_of (Leaf g) = Take g ∷ []
 steps_of (Fork l r) = steps_of l ++ steps_of r ++ Join ∷ []

@@ -11,7 +11,7 @@ use Rattle.cnf.specs.Clause.{contains_literal, without_literal, distinct, greate
 use Rattle.cnf.specs.Problem.{Problem, SoftClause}
 use Rattle.wcnf.specs.Wcnf.{Header, Row, Ignored, Hard, Soft, hard_of, soft_of, literals_of}
 use Rattle.wcnf.specs.Wcnf.{problem_of, headed_problem}
-use Rattle.wcnf.specs.Heads.{Totals}
+use Rattle.wcnf.specs.Heads.{SoFar}
 use Rattle.wcnf.specs.Drafts.{Gathered, emptied, with_literal, gather, Drafted, nothing_drafted}
 use Rattle.wcnf.specs.Drafts.{is_nil, is_empty, totals_of, variables_of, problem_drafted}
 use Rattle.wcnf.specs.Drafts.{with_clause, with_header}
@@ -125,7 +125,7 @@ header-drafted_with d (Hard c) = refl
 header-drafted_with d (Soft w c) = refl
 
 -- how much was read with one more row
-abbrev pub with_row : Totals → Row → Totals
+abbrev pub with_row : SoFar → Row → SoFar
 with_row t Ignored = t
 with_row t (Hard c) =
     record { hard = t.hard + 1; soft = t.soft; literals = t.literals + length c; weight = t.weight }

@@ -12,7 +12,7 @@ use Rattle.wcnf.specs.declared.faults.FaultKind.{FaultKind}
 use Rattle.wcnf.specs.declared.faults.FaultKind.TheVariants.{Literal as LiteralFault, NoZero}
 use Rattle.wcnf.specs.declared.faults.FaultKind.TheVariants.{AfterZero, Variable, TooMany}
 use Rattle.wcnf.specs.Wcnf.{Header}
-use Rattle.wcnf.specs.Heads.{Totals, most_variable, head_of, begins_comment, header_of, is_p}
+use Rattle.wcnf.specs.Heads.{SoFar, most_variable, head_of, begins_comment, header_of, is_p}
 use Rattle.wcnf.specs.Heads.{◌>>=◌}
 use Rattle.text.specs.Words.{Word, Zero, Literal_word, Other, word_of}
 
@@ -95,7 +95,7 @@ abbrev pub is_empty : Drafted → Bool
 is_empty d = is_none d.header && is_nil d.hard && is_nil d.soft
 
 -- how much was read
-abbrev pub totals_of : Drafted → Totals
+abbrev pub totals_of : Drafted → SoFar
 totals_of d =
     record { hard = length d.hard; soft = length d.soft; literals = d.literals; weight = d.weight }
 

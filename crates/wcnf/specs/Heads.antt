@@ -11,7 +11,7 @@ use Rattle.wcnf.specs.declared.faults.FaultKind.TheVariants.{TooMany, Header as 
 use Rattle.wcnf.specs.Wcnf.{Header}
 
 -- what was read so far, after the header where there is one
-pub record Totals : Type 0 where
+pub record SoFar : Type 0 where
   pub hard : ℕ
   pub soft : ℕ
   pub literals : ℕ
@@ -28,21 +28,21 @@ most_variable None = MOST_VARIABLES
 most_variable (Some h) = h.variables
 
 -- one more hard clause: no weight
-abbrev pub one_hard : Totals → Result (Option ℕ) FaultKind
+abbrev pub one_hard : SoFar → Result (Option ℕ) FaultKind
 one_hard totals = if nat_le MOST_HARD totals.hard then Err TooMany else Ok None
 
 -- one more soft clause
-abbrev pub one_soft : Totals → ℕ → Result (Option ℕ) FaultKind
+abbrev pub one_soft : SoFar → ℕ → Result (Option ℕ) FaultKind
 one_soft totals w =
     if nat_le NUMBER_LIMIT (totals.weight + w) then Err WeightSum
     else if nat_le MOST_SOFT totals.soft then Err TooMany else Ok (Some w)
 
 -- one more clause of those that the header counts
-abbrev pub one_counted : Header → Totals → Option ℕ → Result (Option ℕ) FaultKind
+abbrev pub one_counted : Header → SoFar → Option ℕ → Result (Option ℕ) FaultKind
 one_counted h totals w = if nat_le h.clauses (totals.hard + totals.soft) then Err Count else Ok w
 
 -- a clause by its weight
-abbrev pub weighed : Option Header → Totals → ℕ → Result (Option ℕ) FaultKind
+abbrev pub weighed : Option Header → SoFar → ℕ → Result (Option ℕ) FaultKind
 weighed None totals w =
     if (w == 0) || nat_le NUMBER_LIMIT w then Err Weight else one_soft totals w
 weighed (Some h) totals w = if (w == 0) || nat_lt h.top w then Err Weight else do
@@ -50,12 +50,12 @@ weighed (Some h) totals w = if (w == 0) || nat_lt h.top w then Err Weight else d
   one_counted h totals v
 
 -- a clause by the letter h
-abbrev pub lettered : Option Header → Totals → Result (Option ℕ) FaultKind
+abbrev pub lettered : Option Header → SoFar → Result (Option ℕ) FaultKind
 lettered None totals = one_hard totals
 lettered (Some h) totals = Err FirstToken
 
 -- the first token of a clause line: no weight for a hard clause
-abbrev pub head_of : Option Header → Totals → List ℕ → Result (Option ℕ) FaultKind
+abbrev pub head_of : Option Header → SoFar → List ℕ → Result (Option ℕ) FaultKind
 head_of form totals [] = Err FirstToken
 head_of form totals (b ∷ bs) =
     if is_digit b then by (number_of (b ∷ bs)) else named bs

@@ -44,7 +44,7 @@ returns-clause-satisfied c =
     omega (arith, length-extended p.stack.removed read, many, c.requires.input.no_fewer) in
     subst (λ bits. SatisfyGiven bits p.given) (sym c.set_eliminated.ensures)
     (answer_sat s.engine s.store.slots p.stack (tables_of s) p.frozen.items p.first p.given
-    c.requires.runs.0 read r c.requires.quiet many c.in_ok-bits.ensures.values
+    c.requires.runs.0 read r c.requires.fixpoint many c.in_ok-bits.ensures.values
     c.requires.input.given_small fits)
 
 pub returns-clause-frozen : goal.returns-clause-frozen

@@ -2,7 +2,7 @@ use Rattle.std.proofs.Common.{sym, ap, subst}
 use Rattle.clauses.specs.Slots.{StoreState}
 use Rattle.propagate.specs.Trail.{literals_of}
 use Rattle.propagate.specs.Watches.{EngineState}
-use Rattle.analyze.specs.Analyzer.{IsQuiet}
+use Rattle.analyze.specs.Analyzer.{IsFixpoint}
 use Rattle.cdcl_search.specs.declared.search.Search.{Search}
 use Rattle.cdcl.specs.declared.assuming.SearchEnd.TheVariants.{Satisfied, Open}
 use Rattle.cdcl.proofs.Rounds.{pays_nothing}
@@ -31,11 +31,11 @@ returns-in-Closes g c =
     turn_halts s n p c.args.assumptions.now ls ls b b Satisfied (
       record {
         runs = c.decide_next.ensures.runs p ls c.requires.runs;
-        quiet = subst (λ (e : EngineState). IsQuiet n.store.slots (literals_of e.trail))
+        fixpoint = subst (λ (e : EngineState). IsFixpoint n.store.slots (literals_of e.trail))
             (sym choice.0)
-            (subst (λ (t : StoreState). IsQuiet t.slots (literals_of s.engine.trail))
+            (subst (λ (t : StoreState). IsFixpoint t.slots (literals_of s.engine.trail))
             (sym (ap (λ (x : Search). x.store) c.decide_next.ensures.engine.rest))
-            c.requires.quiet);
+            c.requires.fixpoint);
         closed = choice.2;
         left = c.requires.left;
       },

@@ -41,9 +41,9 @@ returns-in_err-note_level g c =
 pub pass_and_choose-requires-clause-runs : goal.pass_and_choose-requires-clause-runs
 pass_and_choose-requires-clause-runs g c = c.in_ok-note_level.ensures.leaves.keeps.runs
 
-pub pass_and_choose-requires-clause-quiet : goal.pass_and_choose-requires-clause-quiet
-pass_and_choose-requires-clause-quiet g c =
-    c.in_ok-note_level.ensures.leaves.keeps.quiet c.requires.quiet
+pub pass_and_choose-requires-clause-fixpoint : goal.pass_and_choose-requires-clause-fixpoint
+pass_and_choose-requires-clause-fixpoint g c =
+    c.in_ok-note_level.ensures.leaves.keeps.fixpoint c.requires.fixpoint
 
 pub pass_and_choose-requires-clause-noted : goal.pass_and_choose-requires-clause-noted
 pass_and_choose-requires-clause-noted g c = c.in_ok-note_level.ensures.leaves.all

@@ -19,7 +19,7 @@ rounds-init g c =
       runs = c.requires.runs;
       pays = pays_nothing c.args.input.now.given (g.S.Sink.lines c.args.sink.now)
           c.args.budget.now;
-      quiet = refl;
+      same_seen = refl;
     }
 
 pub rounds-preserved : goal.rounds-preserved
@@ -30,7 +30,7 @@ rounds-preserved g c = record {
       (g.S.Sink.lines c.rounds.sink) (g.S.Sink.lines c.round_assuming.new.sink) c.args.budget.now
       c.rounds.budget c.round_assuming.new.budget c.rounds.invariant.pays
       c.round_assuming.ensures.turns.pays;
-  quiet = c.round_assuming.ensures.quiet ∙ c.rounds.invariant.quiet;
+  same_seen = c.round_assuming.ensures.same_seen ∙ c.rounds.invariant.same_seen;
 }
 
 pub returns-in_err-halt-clause-search : goal.returns-in_err-halt-clause-search

@@ -1,6 +1,6 @@
 use Rattle.std.proofs.Common.{sym, subst}
 use Rattle.propagate.specs.Trail.{literals_of}
-use Rattle.analyze.specs.Analyzer.{IsQuiet}
+use Rattle.analyze.specs.Analyzer.{IsFixpoint}
 use Rattle.cdcl_search.specs.declared.search.Search.{Search}
 use Rattle.cdcl.proofs.Rounds.{open_log, pays_nothing}
 use Rattle.cdcl.proofs.Halts.{turn_breaks}
@@ -15,7 +15,7 @@ returns-in_err-pass_false g c =
     turn_breaks c.from_residual.result s c.pass_false.new.search p c.args.assumptions.now ls ls b b
     c.from_residual.ensures.0 (open_log s p ls c.requires.runs) (pays_nothing p.given ls b)
 
-pub choose-requires-clause-quiet : goal.choose-requires-clause-quiet
-choose-requires-clause-quiet g c =
-    subst (λ (s : Search). IsQuiet s.store.slots (literals_of s.engine.trail))
-    (sym c.pass_false.ensures) c.requires.quiet
+pub choose-requires-clause-fixpoint : goal.choose-requires-clause-fixpoint
+choose-requires-clause-fixpoint g c =
+    subst (λ (s : Search). IsFixpoint s.store.slots (literals_of s.engine.trail))
+    (sym c.pass_false.ensures) c.requires.fixpoint

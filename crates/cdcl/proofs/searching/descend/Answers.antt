@@ -8,7 +8,7 @@ rounds-init g c =
       runs = c.requires.runs;
       pays = pays_nothing c.args.input.now.given (g.S.Sink.lines c.args.sink.now)
           c.args.budget.now;
-      quiet = refl;
+      same_seen = refl;
     }
 
 pub rounds-preserved : goal.rounds-preserved
@@ -18,7 +18,7 @@ rounds-preserved g c = record {
       pays_join c.args.input.now.given (g.S.Sink.lines c.args.sink.now)
       (g.S.Sink.lines c.rounds.sink) (g.S.Sink.lines c.round.new.sink) c.args.budget.now
       c.rounds.budget c.round.new.budget c.rounds.invariant.pays c.round.ensures.turns.pays;
-  quiet = c.round.ensures.quiet ∙ c.rounds.invariant.quiet;
+  same_seen = c.round.ensures.same_seen ∙ c.rounds.invariant.same_seen;
 }
 
 pub returns-in_err-end-clause-search : goal.returns-in_err-end-clause-search

@@ -8,7 +8,7 @@ invariant-rounds g l = record {
   runs : Runs l.search l.input (g.S.Sink.lines l.sink);
   pays : Pays l.input.given (g.S.Sink.lines l.fn.sink) (g.S.Sink.lines l.sink)
       l.fn.budget l.budget;
-  quiet : g.W.SearchWatch.seen l.watch ≡ g.W.SearchWatch.seen l.fn.watch;
+  same_seen : g.W.SearchWatch.seen l.watch ≡ g.W.SearchWatch.seen l.fn.watch;
 }
 
 abbrev pub decreases-rounds : goal.decreases-rounds

@@ -27,9 +27,9 @@ returns-then-left-eq0-clause-turns g c =
     turn_ends s s p ls ls c.args.budget.now Spent
     (record {
       runs = c.requires.runs;
-      quiet = (
+      fixpoint = (
         literals_of (kept_to (depth_of T - 1) T),
-        c.requires.runs.running.searches.quiet (depth_of T - 1)
+        c.requires.runs.running.searches.fixpoint (depth_of T - 1)
             (omega (arith, c.depth.ensures, c.if-depth-eq0.false)),
       );
       spent = sym c.left.ensures.left ∙ c.if-left-eq0.true;

@@ -4,7 +4,7 @@ use Rattle.std.specs.Prelude.{IfNone}
 use Rattle.std.proofs.lemmas.Bool.{true≢false, false≢true}
 use Rattle.propagate.specs.Trail.{depth_of, kept_to, literals_of}
 use Rattle.propagate.proofs.Laws.{kept_low}
-use Rattle.analyze.specs.Analyzer.{IsQuiet}
+use Rattle.analyze.specs.Analyzer.{IsFixpoint}
 use Rattle.cdcl_search.proofs.Laws.{writes_none}
 use Rattle.cdcl.proofs.Satisfied.{answer_open, plain_open}
 use Rattle.cdcl.proofs.Rounds.{open_log, opens_not}
@@ -50,18 +50,18 @@ returns-in-None g c =
     let ls = g.S.Sink.lines c.args.sink.now in
     let s = c.propagate.new.self in
     let runs = c.in_ok-found.ensures.runs p ls (c.begin.ensures.runs p ls c.requires.runs) in
-    let quiet =
-    subst (λ o. IfNone o (IsQuiet (s.store).slots (literals_of (s.engine).trail))) c.in-None.is
-    c.in_ok-found.ensures.quiet in
+    let fixpoint =
+    subst (λ o. IfNone o (IsFixpoint (s.store).slots (literals_of (s.engine).trail))) c.in-None.is
+    c.in_ok-found.ensures.fixpoint in
     record {
       ended = λ e. absurd (false≢true e);
       opened = λ e. record {
         runs = runs;
         unwritten = refl;
         live = λ h. answer_open s.engine (s.store).slots (s.names).items p.given ls
-            runs.running.recorded.names quiet h;
+            runs.running.recorded.names fixpoint h;
         plain = λ h. plain_open (s.store).slots (literals_of (s.engine).trail) p.first p.given
-            runs.running.recorded.plain quiet h;
+            runs.running.recorded.plain fixpoint h;
       };
       writes = writes_none p.given ls;
       err = tt;

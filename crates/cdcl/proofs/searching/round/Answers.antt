@@ -26,15 +26,15 @@ returns-in-Some-clause-turns g c =
     c.args.budget.now c.on_conflict.new.budget e.engine.variables
     (ap (λ (x : Search). x.policy) e.engine.rest) e.grows c.on_conflict.ensures.turns
 
-pub on_quiet-requires-clause-runs : goal.on_quiet-requires-clause-runs
-on_quiet-requires-clause-runs g c =
+pub on_fixpoint-requires-clause-runs : goal.on_fixpoint-requires-clause-runs
+on_fixpoint-requires-clause-runs g c =
     c.in_ok-conflict.ensures.runs c.args.input.now (g.S.Sink.lines c.args.sink.now)
     c.requires.runs
 
 pub returns-in-None-clause-turns : goal.returns-in-None-clause-turns
 returns-in-None-clause-turns g c =
     let e = c.in_ok-conflict.ensures in
-    turn_from c.on_quiet.result c.args.search.now c.propagate.new.self c.on_quiet.new.search
-    c.args.input.now (g.S.Sink.lines c.args.sink.now) (g.S.Sink.lines c.on_quiet.new.sink)
-    c.args.budget.now c.on_quiet.new.budget e.engine.variables
-    (ap (λ (x : Search). x.policy) e.engine.rest) e.grows c.on_quiet.ensures
+    turn_from c.on_fixpoint.result c.args.search.now c.propagate.new.self c.on_fixpoint.new.search
+    c.args.input.now (g.S.Sink.lines c.args.sink.now) (g.S.Sink.lines c.on_fixpoint.new.sink)
+    c.args.budget.now c.on_fixpoint.new.budget e.engine.variables
+    (ap (λ (x : Search). x.policy) e.engine.rest) e.grows c.on_fixpoint.ensures

@@ -9,12 +9,12 @@ bits-requires-clause-runs g c =
     c.run.new.budget _ c.in-Satisfied.is c.in_ok-end.ensures.search.ends in
     (g.S.Sink.lines c.run.new.sink, e.runs)
 
-pub bits-requires-clause-quiet : goal.bits-requires-clause-quiet
-bits-requires-clause-quiet g c =
+pub bits-requires-clause-fixpoint : goal.bits-requires-clause-fixpoint
+bits-requires-clause-fixpoint g c =
     let e =
     is_satisfied c.run.new.search c.args.input.now (g.S.Sink.lines c.run.new.sink)
     c.run.new.budget _ c.in-Satisfied.is c.in_ok-end.ensures.search.ends in
-    e.quiet
+    e.fixpoint
 
 pub bits-requires-clause-closed : goal.bits-requires-clause-closed
 bits-requires-clause-closed g c =
@@ -39,7 +39,7 @@ returns-in_ok-bits-in-Satisfied-clause-answers g c =
     let bits = c.in_ok-bits-in-Satisfied.ensures in
     record {
       runs = e.runs;
-      quiet = (literals_of (c.run.new.search.engine).trail, e.quiet);
+      fixpoint = (literals_of (c.run.new.search.engine).trail, e.fixpoint);
       long = bits.long;
       satisfied = bits.satisfied;
     }

@@ -15,13 +15,13 @@ bits-requires-clause-runs g c =
     c.in_ok-halt.ensures.search.ends in
     (g.S.Sink.lines c.run_assuming.new.sink, (e.0).runs)
 
-pub bits-requires-clause-quiet : goal.bits-requires-clause-quiet
-bits-requires-clause-quiet g c =
+pub bits-requires-clause-fixpoint : goal.bits-requires-clause-fixpoint
+bits-requires-clause-fixpoint g c =
     let e =
     halt_is c.run_assuming.new.search c.args.input.now (g.S.Sink.lines c.run_assuming.new.sink)
     c.run_assuming.new.budget c.args.assumptions.now _ Satisfied c.in-Satisfied.is
     c.in_ok-halt.ensures.search.ends in
-    (e.0).quiet
+    (e.0).fixpoint
 
 pub bits-requires-clause-closed : goal.bits-requires-clause-closed
 bits-requires-clause-closed g c =

@@ -121,26 +121,26 @@ events-preserved g c =
       follows = λ first h. c.note_model.ensures.follows first (i.follows first h);
       shown =
           shown_more c.args.instance.now _ _ _ _ _ _
-          (shown_then c.args.instance.now _ _ _ _ _ i.shown c.next.ensures.quiet)
+          (shown_then c.args.instance.now _ _ _ _ _ i.shown c.next.ensures.same_seen)
           i.goes_on.failures c.note_model.ensures.shown;
     }
 
 pub returns-in_default-clause-shown : goal.returns-in_default-clause-shown
 returns-in_default-clause-shown g c =
-    shown_then c.args.instance.now _ _ _ _ _ c.events.invariant.shown c.next.ensures.quiet
+    shown_then c.args.instance.now _ _ _ _ _ c.events.invariant.shown c.next.ensures.same_seen
 
 pub returns-in-Closed-clause-shown : goal.returns-in-Closed-clause-shown
 returns-in-Closed-clause-shown g c =
-    shown_then c.args.instance.now _ _ _ _ _ c.events.invariant.shown c.next.ensures.quiet
+    shown_then c.args.instance.now _ _ _ _ _ c.events.invariant.shown c.next.ensures.same_seen
 
 pub returns-in-Over-clause-shown : goal.returns-in-Over-clause-shown
 returns-in-Over-clause-shown g c =
-    shown_then c.args.instance.now _ _ _ _ _ c.events.invariant.shown c.next.ensures.quiet
+    shown_then c.args.instance.now _ _ _ _ _ c.events.invariant.shown c.next.ensures.same_seen
 
 pub returns-in_err-note_model-in-Model-clause-shown :
     goal.returns-in_err-note_model-in-Model-clause-shown
 returns-in_err-note_model-in-Model-clause-shown g c =
     let i = c.events.invariant in
     shown_more c.args.instance.now _ _ _ _ _ _
-    (shown_then c.args.instance.now _ _ _ _ _ i.shown c.next.ensures.quiet) i.goes_on.failures
+    (shown_then c.args.instance.now _ _ _ _ _ i.shown c.next.ensures.same_seen) i.goes_on.failures
     c.note_model.ensures.shown

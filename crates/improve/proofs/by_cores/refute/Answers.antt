@@ -7,7 +7,7 @@ use Rattle.improve.specs.declared.found.ImproveFault.TheVariants.{Memory}
 use Rattle.improve_trials.specs.Trials.{attempt_lines}
 use Rattle.improve.proofs.Standings.{goes_spent, goes_told, fails_after, fails_memory}
 use Rattle.improve.proofs.StageEnds.{tries_failing, tries_none}
-use Rattle.improve.proofs.Shown.{shown_quiet, shown_after}
+use Rattle.improve.proofs.Shown.{shown_same, shown_after}
 use Rattle.improve.proofs.by_cores.refute.Goals as goal
 
 pub returns-in_default-clause-tries : goal.returns-in_default-clause-tries
@@ -103,31 +103,31 @@ returns-in-Ok-end_refutation-clause-tries g c =
 
 pub returns-in_default-clause-shown : goal.returns-in_default-clause-shown
 returns-in_default-clause-shown g c =
-    shown_quiet c.args.instance.now (g.T.Progress.state c.args.progress.now) _ _
-    c.refute.ensures.quiet
+    shown_same c.args.instance.now (g.T.Progress.state c.args.progress.now) _ _
+    c.refute.ensures.same_seen
 
 pub returns-in-Open-clause-shown : goal.returns-in-Open-clause-shown
 returns-in-Open-clause-shown g c =
-    shown_quiet c.args.instance.now (g.T.Progress.state c.args.progress.now) _ _
-    c.refute.ensures.quiet
+    shown_same c.args.instance.now (g.T.Progress.state c.args.progress.now) _ _
+    c.refute.ensures.same_seen
 
 pub returns-in_err-note_model-in-Model-clause-shown :
     goal.returns-in_err-note_model-in-Model-clause-shown
 returns-in_err-note_model-in-Model-clause-shown g c =
-    shown_after c.args.instance.now _ _ _ _ _ c.refute.ensures.quiet c.note_model.ensures.shown
+    shown_after c.args.instance.now _ _ _ _ _ c.refute.ensures.same_seen c.note_model.ensures.shown
 
 pub returns-in_ok-note_model-in-Model-clause-shown :
     goal.returns-in_ok-note_model-in-Model-clause-shown
 returns-in_ok-note_model-in-Model-clause-shown g c =
-    shown_after c.args.instance.now _ _ _ _ _ c.refute.ensures.quiet c.note_model.ensures.shown
+    shown_after c.args.instance.now _ _ _ _ _ c.refute.ensures.same_seen c.note_model.ensures.shown
 
 pub returns-in_default-end_refutation-clause-shown :
     goal.returns-in_default-end_refutation-clause-shown
 returns-in_default-end_refutation-clause-shown g c =
-    shown_quiet c.args.instance.now (g.T.Progress.state c.args.progress.now) _ _
-    (c.end_refutation.ensures.quiet ∙ c.refute.ensures.quiet)
+    shown_same c.args.instance.now (g.T.Progress.state c.args.progress.now) _ _
+    (c.end_refutation.ensures.same_seen ∙ c.refute.ensures.same_seen)
 
 pub returns-in-Ok-end_refutation-clause-shown : goal.returns-in-Ok-end_refutation-clause-shown
 returns-in-Ok-end_refutation-clause-shown g c =
-    shown_quiet c.args.instance.now (g.T.Progress.state c.args.progress.now) _ _
-    (c.end_refutation.ensures.quiet ∙ c.refute.ensures.quiet)
+    shown_same c.args.instance.now (g.T.Progress.state c.args.progress.now) _ _
+    (c.end_refutation.ensures.same_seen ∙ c.refute.ensures.same_seen)

@@ -133,7 +133,7 @@ loop-bounds-preserved g c =
           (omega (arith, c.solve.ensures.learned, unlearned)));
       follows = λ first h. c.tell.ensures.follows first (i.follows first h);
       shown =
-          shown_more p _ _ _ _ _ _ (shown_then p _ _ _ _ _ i.shown c.solve.ensures.quiet)
+          shown_more p _ _ _ _ _ _ (shown_then p _ _ _ _ _ i.shown c.solve.ensures.same_seen)
           i.goes_on.failures
           (shown_told p (g.T.Progress.state c.loop-bounds.progress) _ _ _
           c.in-Ok-Cheaper.solution.cost c.in-Ok-Cheaper.solution.bits.items next.solution
@@ -146,15 +146,15 @@ returns-then-is_err-2-clause-follows g c =
 
 pub returns-in-Err-clause-shown : goal.returns-in-Err-clause-shown
 returns-in-Err-clause-shown g c =
-    shown_then c.args.instance.now _ _ _ _ _ c.loop-bounds.invariant.shown c.solve.ensures.quiet
+    shown_then c.args.instance.now _ _ _ _ _ c.loop-bounds.invariant.shown c.solve.ensures.same_seen
 
 pub returns-in-Ok-Refuted-clause-shown : goal.returns-in-Ok-Refuted-clause-shown
 returns-in-Ok-Refuted-clause-shown g c =
-    shown_then c.args.instance.now _ _ _ _ _ c.loop-bounds.invariant.shown c.solve.ensures.quiet
+    shown_then c.args.instance.now _ _ _ _ _ c.loop-bounds.invariant.shown c.solve.ensures.same_seen
 
 pub returns-in-Ok-Spent-clause-shown : goal.returns-in-Ok-Spent-clause-shown
 returns-in-Ok-Spent-clause-shown g c =
-    shown_then c.args.instance.now _ _ _ _ _ c.loop-bounds.invariant.shown c.solve.ensures.quiet
+    shown_then c.args.instance.now _ _ _ _ _ c.loop-bounds.invariant.shown c.solve.ensures.same_seen
 
 pub returns-then-is_err-2-clause-shown : goal.returns-then-is_err-2-clause-shown
 returns-then-is_err-2-clause-shown g c =
@@ -162,7 +162,7 @@ returns-then-is_err-2-clause-shown g c =
     let i = c.loop-bounds.invariant in
     let next = rw c.in-Ok-Cheaper.field-0-is at c.in-Ok-Cheaper.ensures.next in
     let err = on_err_at c.tell.result c.if-is_err-2.ensures.value c.tell.ensures.err in
-    shown_more p _ _ _ _ _ _ (shown_then p _ _ _ _ _ i.shown c.solve.ensures.quiet)
+    shown_more p _ _ _ _ _ _ (shown_then p _ _ _ _ _ i.shown c.solve.ensures.same_seen)
     i.goes_on.failures
     (shown_failed p (g.T.Progress.state c.loop-bounds.progress) _ _ _ c.in-Ok-Cheaper.solution.cost
     c.in-Ok-Cheaper.solution.bits.items next.solution c.tell.ensures.shown err)

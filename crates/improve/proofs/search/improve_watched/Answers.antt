@@ -11,7 +11,7 @@ use Rattle.improve.proofs.SearchEnds.{memory_end, found_end}
 use Rattle.improve.proofs.Lowering.{on_work_weaker}
 use Rattle.improve.proofs.HardEnds.{hard_feasible, hard_log, hard_learned, right_unsat}
 use Rattle.improve.proofs.HardEnds.{plainly_open}
-use Rattle.improve.proofs.Shown.{shown_none, shown_after, shown_quiet}
+use Rattle.improve.proofs.Shown.{shown_none, shown_after, shown_same}
 use Rattle.improve.proofs.search.improve_watched.Goals as goal
 
 pub price_polished-first-requires-clause-feasible :
@@ -103,19 +103,20 @@ returns-in_default-clause-shown g c =
 
 pub returns-in-Ok-Sat-clause-shown : goal.returns-in-Ok-Sat-clause-shown
 returns-in-Ok-Sat-clause-shown g c =
-    shown_after c.args.instance.now _ _ _ _ _ c.solve_watched.ensures.quiet c.lower.ensures.shown
+    shown_after c.args.instance.now _ _ _ _ _ c.solve_watched.ensures.same_seen
+    c.lower.ensures.shown
 
 pub returns-in-Ok-Unsat-clause-shown : goal.returns-in-Ok-Unsat-clause-shown
 returns-in-Ok-Unsat-clause-shown g c =
-    shown_quiet c.args.instance.now (g.T.Progress.state c.args.progress.now) _ _
-    c.solve_watched.ensures.quiet
+    shown_same c.args.instance.now (g.T.Progress.state c.args.progress.now) _ _
+    c.solve_watched.ensures.same_seen
 
 pub returns-in-Ok-Limit-clause-shown : goal.returns-in-Ok-Limit-clause-shown
 returns-in-Ok-Limit-clause-shown g c =
-    shown_quiet c.args.instance.now (g.T.Progress.state c.args.progress.now) _ _
-    c.solve_watched.ensures.quiet
+    shown_same c.args.instance.now (g.T.Progress.state c.args.progress.now) _ _
+    c.solve_watched.ensures.same_seen
 
 pub returns-in-Err-clause-shown : goal.returns-in-Err-clause-shown
 returns-in-Err-clause-shown g c =
-    shown_quiet c.args.instance.now (g.T.Progress.state c.args.progress.now) _ _
-    c.solve_watched.ensures.quiet
+    shown_same c.args.instance.now (g.T.Progress.state c.args.progress.now) _ _
+    c.solve_watched.ensures.same_seen

@@ -7,5 +7,5 @@ abbrev pub invariant-loop : goal.invariant-loop
 invariant-loop g l = record {
   clauses : KeepsClauses l.fn.solver l.solver;
   learned : CountsLearned l.fn.solver.lines l.solver.lines l.fn.budget l.budget;
-  quiet : g.W.SearchWatch.seen l.watch ≡ g.W.SearchWatch.seen l.fn.watch;
+  same_seen : g.W.SearchWatch.seen l.watch ≡ g.W.SearchWatch.seen l.fn.watch;
 }

@@ -12,5 +12,5 @@ invariant-loop g l = record {
   spends : SpendsOn l.fn.tried.items l.tried.items [] l.fn.budget l.budget;
   answers : l.budget.answers ≡ l.fn.budget.answers;
   limit : l.budget.limit ≡ l.fn.budget.limit;
-  quiet : g.W.SearchWatch.seen l.watch ≡ g.W.SearchWatch.seen l.fn.watch;
+  same_seen : g.W.SearchWatch.seen l.watch ≡ g.W.SearchWatch.seen l.fn.watch;
 }

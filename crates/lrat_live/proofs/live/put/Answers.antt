@@ -3,7 +3,7 @@ use Rattle.std.specs.Prelude.{All}
 use Rattle.std.proofs.lemmas.Bool.{cond-false}
 use Rattle.cnf.specs.Literal.{Literal}
 use Rattle.lrat_live.specs.Listed.{IsRising}
-use Rattle.lrat_live.specs.Near.{Parts}
+use Rattle.lrat_live.specs.Near.{NearParts}
 use Rattle.lrat_live.proofs.LiveLaws.{all_second, all_front, rising_second}
 use Rattle.lrat_live.proofs.live.put.Goals as goal
 use Rattle.lrat_live.proofs.live.put.Goals.{Else-branch}
@@ -14,7 +14,7 @@ push-requires c =
     let far = c.args.far.now in
     let P = λ (e : ℕ × List Literal). e.0 < c.args.id in
     record {
-      rising = subst (λ (m : Parts). All P m.recent) (sym c.reclaim.ensures.unchanged)
+      rising = subst (λ (m : NearParts). All P m.recent) (sym c.reclaim.ensures.unchanged)
           (all_second P far near.recent
           (all_second P near.given (far ++ near.recent) c.requires.above));
     }
@@ -25,7 +25,7 @@ same_recent c =
     c.in_ok-push.ensures.recent
     ∙ cond-false c.in_ok-push.field-0 (recent ++ (c.args.id, c.args.lits.now) ∷ []) recent
     c.if-branch.false
-    ∙ ap (λ (m : Parts). m.recent) c.reclaim.ensures.unchanged
+    ∙ ap (λ (m : NearParts). m.recent) c.reclaim.ensures.unchanged
 
 pub flush-requires : goal.flush-requires
 flush-requires c =

@@ -43,8 +43,8 @@ pub returns-clause-shown : goal.returns-clause-shown
 returns-clause-shown g c =
     let held = g.O.Write.contents in
     let p = c.args.instance.now in
-    let a = g.K.SearchWatch.seen c.args.keeper.now in
-    let b = g.K.SearchWatch.seen c.search-searched.new.keeper in
+    let a = g.K.SearchWatch.seen c.args.watch.now in
+    let b = g.K.SearchWatch.seen c.search-searched.new.watch in
     let n = c.new-told.ensures in
     let t =
     c.search-searched.ensures.follows c.new-told.result

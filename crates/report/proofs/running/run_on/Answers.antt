@@ -63,8 +63,8 @@ returns-clause-seen g c text r =
     let w = c.write_answer in
     seen_as c.args.profile text c.args.instance.now r.0
     (held c.args.out.now) (held c.find_best.new.out) (held w.new.out) (certified c.args.proof.now)
-    (certified w.new.proof) (seen c.args.keeper.now) (seen c.find_best.new.keeper) _ f.found
+    (certified w.new.proof) (seen c.args.watch.now) (seen c.find_best.new.watch) _ f.found
     f.ensures.shown c.in_default.ensures.ok
     (c.ended.ensures.shown
-    ∙ ap (with_seen (end_of c.args.instance.now f.found ∷ [])) c.searched.ensures.quiet) c.of.result
+    ∙ ap (with_seen (end_of c.args.instance.now f.found ∷ [])) c.searched.ensures.same_seen) c.of.result
     c.of.ensures

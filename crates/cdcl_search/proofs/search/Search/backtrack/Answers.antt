@@ -5,7 +5,7 @@ use Rattle.propagate.specs.Trail.{literals_of}
 use Rattle.cdcl_order.specs.Policies.{PolicyState}
 use Rattle.cdcl_search.specs.Running.{tables_of}
 use Rattle.cdcl_search.proofs.Moves.{run_backtrack}
-use Rattle.cdcl_search.proofs.Quiet.{searches_backtrack}
+use Rattle.cdcl_search.proofs.Fixpoint.{searches_backtrack}
 use Rattle.cdcl_search.proofs.EngineMoves.{moved_to, ready_moved, runs_moved, literals_within}
 use Rattle.cdcl_search.proofs.search.Search.backtrack.Goals as goal
 

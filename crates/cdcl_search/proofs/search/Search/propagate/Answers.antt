@@ -4,7 +4,7 @@ use Rattle.propagate.specs.Trail.{literals_of, depth_of}
 use Rattle.analyze.proofs.Laws.{depth_follow}
 use Rattle.cdcl_search.specs.Running.{tables_of}
 use Rattle.cdcl_search.proofs.Moves.{run_propagate}
-use Rattle.cdcl_search.proofs.Quiet.{searches_propagate}
+use Rattle.cdcl_search.proofs.Fixpoint.{searches_propagate}
 use Rattle.cdcl_search.proofs.EngineMoves.{ready_moved, runs_moved}
 use Rattle.cdcl_search.proofs.search.Search.propagate.Goals as goal
 

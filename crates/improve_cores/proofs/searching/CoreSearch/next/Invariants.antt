@@ -7,5 +7,5 @@ abbrev pub invariant-loop : goal.invariant-loop
 invariant-loop g l = record {
   formula : KeepsFormula l.fn.self l.self;
   learned : CountsLearned l.fn.self.lines l.self.lines l.fn.budget l.budget;
-  quiet : g.W.SearchWatch.seen l.watch ≡ g.W.SearchWatch.seen l.fn.watch;
+  same_seen : g.W.SearchWatch.seen l.watch ≡ g.W.SearchWatch.seen l.fn.watch;
 }

@@ -2,7 +2,7 @@ use Rattle.std.proofs.Common.{◌≡◌, ◌+◌, ◌++◌, ◌∙◌, length, t
 use Rattle.std.proofs.Common.{subst, sym, arith, refl}
 use Rattle.std.proofs.lemmas.List.{take_rest}
 use Rattle.lrat_live.specs.Listed.{IsRising}
-use Rattle.lrat_live.specs.Near.{Parts}
+use Rattle.lrat_live.specs.Near.{NearParts}
 use Rattle.lrat_live.proofs.SpanLaws.{spread_within, spread_take}
 use Rattle.lrat_live.proofs.MovedLaws.{before_end, near_cut, given_cut}
 use Rattle.lrat_live.proofs.near.Near.flush.Goals as goal
@@ -23,7 +23,7 @@ move_on-requires-clause-rising c =
       c.deref.ensures.value,
       c.deref_mut.ensures.value,
       take_rest s.spans.items (s.given + 1),
-    ) (subst (λ (m : Parts). IsRising (c.args.far.now ++ m.recent)) (sym c.self.view_is)
+    ) (subst (λ (m : NearParts). IsRising (c.args.far.now ++ m.recent)) (sym c.self.view_is)
     c.requires.rising)
 
 spans_left : (c : After-truncate)

@@ -2,7 +2,7 @@ use Rattle.std.proofs.Common.{◌≡◌, ℕ, ◌+◌, ◌<◌, ◌≤◌, ◌�
 use Rattle.std.proofs.Common.{inl, inr, subst, sym}
 use Rattle.std.specs.Prelude.{All, Result, Ok, Err, OnErr}
 use Rattle.cnf.specs.Literal.{Literal}
-use Rattle.lrat_live.specs.Near.{Parts, IsNear, padded, recent_in}
+use Rattle.lrat_live.specs.Near.{NearParts, IsNear, padded, recent_in}
 use Rattle.lrat_live.specs.declared.spans.TheConstants.{MOST_KEPT}
 use Rattle.lrat_live.proofs.PushLaws.{near_padded, given_padded, recent_padded, near_last}
 use Rattle.lrat_live.proofs.PushLaws.{given_last, recent_last, length-padded}
@@ -30,7 +30,7 @@ recent_same c =
     let s = c.self.inside in
     recent_padded s.lits.items s.spans.items s.given s.given_lits s.gap c.self.invariant
     c.in-Some.place c.args.id c.in-Some.ensures.head (at_place c)
-    (subst (λ (m : Parts). All (λ (e : ℕ × List Literal). e.0 < c.args.id) m.recent)
+    (subst (λ (m : NearParts). All (λ (e : ℕ × List Literal). e.0 < c.args.id) m.recent)
     (sym c.self.view_is) c.requires.rising)
 
 at_end : (c : In-Some)
@@ -69,7 +69,7 @@ returns-in_err-extend-clause-err c =
     ] in
     on_err c.from_residual.result
     (ap (λ ls. recent_in ls c.extend.new.spans.items s.given s.gap)
-    c.in_err-extend.ensures.lits_stay ∙ spans ∙ ap (λ (m : Parts). m.recent) c.self.view_is)
+    c.in_err-extend.ensures.lits_stay ∙ spans ∙ ap (λ (m : NearParts). m.recent) c.self.view_is)
 
 pub invariant_of-self-2 : goal.invariant_of-self-2
 invariant_of-self-2 c =

@@ -20,7 +20,7 @@ use Rattle.propagate.proofs.Laws.{kept_named, trail_listed}
 use Rattle.propagate.specs.Renames.{named_trail}
 use Rattle.propagate.proofs.Laws.{reasons_listed}
 use Rattle.cdcl_search.specs.Invariant.{Searches, zero_of}
-use Rattle.analyze.specs.Analyzer.{IsQuiet}
+use Rattle.analyze.specs.Analyzer.{IsFixpoint}
 use Rattle.cdcl_search.proofs.Places.{clause_cases, came, same_clause}
 use Rattle.analyze.proofs.Laws.{kept_more, depth_follow}
 
@@ -30,24 +30,24 @@ searches_propagate slots e f s grows same fits works = record {
   works = works;
   fits = fits;
   all_attached = λ r live. same r ∙ s.all_attached r live;
-  quiet = λ level below.
+  fixpoint = λ level below.
       let depth : depth_of f.trail ≡ depth_of e.trail =
       ap depth_of grows.1 ∙ depth_follow slots f (literals_of e.trail) e.trail grows.0 grows.2 in
       let low : level < depth_of e.trail = omega arith in
       let kept : kept_to level f.trail ≡ kept_to level e.trail =
       ap (kept_to level) grows.1 ∙ kept_more level e.trail grows.0 low in
-      subst (λ T. IsQuiet slots (literals_of T)) (sym kept) (s.quiet level low);
+      subst (λ T. IsFixpoint slots (literals_of T)) (sym kept) (s.fixpoint level low);
 }
 
 pub searches_decide : (slots : Slots) (e f : EngineState) (l : Literal) → Searches e slots
-    → IsQuiet slots (literals_of e.trail)
+    → IsFixpoint slots (literals_of e.trail)
     → f.trail ≡ e.trail ++ record { literal = l; reason = None } ∷ []
     → SameAttached e f → f.failed ≡ e.failed → Fits f slots → Searches f slots
-searches_decide slots e f l s quiet trail same failed fits = record {
+searches_decide slots e f l s fixpoint trail same failed fits = record {
   works = failed ∙ s.works;
   fits = fits;
   all_attached = λ r live. same r ∙ s.all_attached r live;
-  quiet = λ level below.
+  fixpoint = λ level below.
       let a : Assigned = record { literal = l; reason = None } in
       let depth : depth_of (e.trail ++ a ∷ []) ≡ depth_of e.trail + 1 = depth_push e.trail a in
       let deeper : depth_of f.trail ≡ depth_of (e.trail ++ a ∷ []) = ap depth_of trail in
@@ -55,10 +55,11 @@ searches_decide slots e f l s quiet trail same failed fits = record {
       let kept : kept_to level f.trail ≡ kept_to level e.trail =
       ap (kept_to level) trail ∙ kept_push level e.trail a low in
       elim (cases_lt level (depth_of e.trail)) [
-        | inl lower ↦ subst (λ T. IsQuiet slots (literals_of T)) (sym kept) (s.quiet level lower)
+        | inl lower ↦
+            subst (λ T. IsFixpoint slots (literals_of T)) (sym kept) (s.fixpoint level lower)
         | inr here ↦
-            subst (λ T. IsQuiet slots (literals_of T)) (sym (kept ∙ kept_all level e.trail here))
-            quiet
+            subst (λ T. IsFixpoint slots (literals_of T)) (sym (kept ∙ kept_all level e.trail here))
+            fixpoint
       ];
 }
 
@@ -69,12 +70,12 @@ searches_backtrack slots e f to s within trail same failed fits = record {
   works = failed ∙ s.works;
   fits = fits;
   all_attached = λ r live. same r ∙ s.all_attached r live;
-  quiet = λ level below.
+  fixpoint = λ level below.
       let depth : depth_of f.trail ≤ to =
       subst (λ T. depth_of T ≤ to) (sym trail) (kept_low to e.trail) in
       let kept : kept_to level f.trail ≡ kept_to level e.trail =
       ap (kept_to level) trail ∙ kept_kept level to e.trail (omega arith) in
-      subst (λ T. IsQuiet slots (literals_of T)) (sym kept) (s.quiet level (omega arith));
+      subst (λ T. IsFixpoint slots (literals_of T)) (sym kept) (s.fixpoint level (omega arith));
 }
 
 -- one more clause, which is neither false nor unit at the ends of lower levels
@@ -95,14 +96,14 @@ searches_add slots e f c s sets trail works fits new = record {
       | inr last ↦ absurd (other last.0)
     ]
   ];
-  quiet = λ level below r d at.
+  fixpoint = λ level below r d at.
       let low : level < depth_of e.trail = subst (λ T. level < depth_of T) trail below in
       subst (λ T. (IsFalseUnder d (literals_of (kept_to level T)) → ⊥)
       × ((l : Literal) → IsUnit d (literals_of (kept_to level T)) l → ⊥)) (sym trail)
       (elim (clause_cases slots c r d at)
       as (λ _. (IsFalseUnder d (literals_of (kept_to level e.trail)) → ⊥)
       × ((l : Literal) → IsUnit d (literals_of (kept_to level e.trail)) l → ⊥)) [
-        | inl old ↦ s.quiet level low r d old
+        | inl old ↦ s.fixpoint level low r d old
         | inr last ↦ subst (λ x. (IsFalseUnder x (literals_of (kept_to level e.trail)) → ⊥)
             × ((l : Literal) → IsUnit x (literals_of (kept_to level e.trail)) l → ⊥)) (sym last.1)
             (new level low)
@@ -138,11 +139,11 @@ searches_move before after ms e f renames rises s moves trail failed fits =
               sym (same_clause before after ms renames w.0 q w.1)
                   ∙ live.1,
             );
-        quiet = λ level below q c at.
+        fixpoint = λ level below q c at.
             let w = came before after ms renames rises q c at in
             subst (λ A. (IsFalseUnder c A → ⊥) × ((l : Literal) → IsUnit c A l → ⊥))
             (sym (kept level))
-            (s.quiet level (subst (λ k. level < k) depth below) w.0 c
+            (s.fixpoint level (subst (λ k. level < k) depth below) w.0 c
             (sym (same_clause before after ms renames w.0 q w.1) ∙ at));
       },
       kept 0,

@@ -3,7 +3,7 @@ use Rattle.std.proofs.Common.{◌≡◌, ◌∙◌, sym, subst}
 use Rattle.std.specs.Prelude.{Ok}
 use Rattle.cores.specs.Cores.{AreCounted, count_core, first_relaxation, no_cores}
 use Rattle.cores.proofs.Laws.{counted_push}
-use Rattle.improve_cores.proofs.counted.Counted.add.Goals as goal
+use Rattle.improve_cores.proofs.counted.CountedCores.add.Goals as goal
 
 pub returns-clause-right : goal.returns-clause-right
 returns-clause-right c = λ p h.

@@ -31,24 +31,24 @@ all_false A l (k ∷ c) f p = (
 -- a unit clause has its literal true already
 unit_is_true : (at : Clauses) (A B : List Literal) (h : ℕ) (c : List Literal) (l : Literal)
     → OpensNothing at A → Within B A → at h ≡ Some c → IsUnit c B l → contains_literal l A ≡ true
-unit_is_true at A B h c l quiet within e u =
+unit_is_true at A B h c l fixpoint within e u =
     let others = parts_more A B l within c u.others in
     elim (cases_Bool (contains_literal l A)) as (λ _. contains_literal l A ≡ true) [
       | inl t ↦ t
       | inr n ↦ elim (cases_Bool (contains_literal (negation l) A))
           as (λ _. contains_literal l A ≡ true) [
-            | inl f ↦ absurd ((quiet h c e).0 (all_false A l c f others))
-            | inr o ↦ absurd ((quiet h c e).1 l
+            | inl f ↦ absurd ((fixpoint h c e).0 (all_false A l c f others))
+            | inr o ↦ absurd ((fixpoint h c e).1 l
                 (record { member = u.member; not_true = n; not_false = o; others = others }))
           ]
     ]
 
-quiet_leads : (at : Clauses) (A : List Literal) → OpensNothing at A → (B : List Literal)
+fixpoint_leads : (at : Clauses) (A : List Literal) → OpensNothing at A → (B : List Literal)
     → Within B A → (hs : List ℕ) (C : List Literal) → Leads at B hs C → Within C A
-quiet_leads at A quiet B within [] C w = λ l m. within l (sym (ap (contains_literal l) w) ∙ m)
-quiet_leads at A quiet B within (h ∷ hs) C w =
-    let true_one = unit_is_true at A B h w.0 w.1 quiet within w.2 w.3 in
-    quiet_leads at A quiet (w.1 ∷ B)
+fixpoint_leads at A fixpoint B within [] C w = λ l m. within l (sym (ap (contains_literal l) w) ∙ m)
+fixpoint_leads at A fixpoint B within (h ∷ hs) C w =
+    let true_one = unit_is_true at A B h w.0 w.1 fixpoint within w.2 w.3 in
+    fixpoint_leads at A fixpoint (w.1 ∷ B)
     (λ l m. elim (or_cases (literal_eq l w.1) (contains_literal l B) m) [
       | inl s ↦ ap (λ x. contains_literal x A) (literal_eq-true l w.1 s) ∙ true_one
       | inr b ↦ within l b
@@ -60,8 +60,8 @@ false_more (l ∷ c) A B h f = (h (negation l) f.0, false_more c A B h f.1)
 
 pub not_refuted : (at : Clauses) (A : List Literal) → OpensNothing at A → (hs : List ℕ)
     → Refutes at [] hs → ⊥
-not_refuted at A quiet hs w =
-    (quiet w.final w.clause w.live).0
+not_refuted at A fixpoint hs w =
+    (fixpoint w.final w.clause w.live).0
     (false_more w.clause A w.reached
-    (quiet_leads at A quiet [] (λ l m. absurd (false≢true m)) w.front w.reached w.leads)
+    (fixpoint_leads at A fixpoint [] (λ l m. absurd (false≢true m)) w.front w.reached w.leads)
     w.conflict)

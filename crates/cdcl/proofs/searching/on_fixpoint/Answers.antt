@@ -2,14 +2,14 @@ use Rattle.std.proofs.Common.{◌≡◌, List, length, subst, sym, ◌∙◌, ap
 use Rattle.propagate.specs.Trail.{Assigned, literals_of}
 use Rattle.propagate.specs.Watches.{EngineState}
 use Rattle.clauses.specs.Slots.{StoreState}
-use Rattle.analyze.specs.Analyzer.{IsQuiet}
+use Rattle.analyze.specs.Analyzer.{IsFixpoint}
 use Rattle.cdcl_order.specs.Orders.{AreClosed}
 use Rattle.cdcl_order.specs.Policies.{PolicyState}
 use Rattle.cdcl_search.specs.declared.search.Search.{Search}
 use Rattle.cdcl.specs.declared.searching.End.TheVariants.{Satisfied, Spent}
 use Rattle.cdcl_search.proofs.Laws.{writes_none, writes_join}
 use Rattle.cdcl.proofs.Rounds.{goes_restarted, goes_decided, turn_ends, turn_goes, turn_fails}
-use Rattle.cdcl.proofs.searching.on_quiet.Goals as goal
+use Rattle.cdcl.proofs.searching.on_fixpoint.Goals as goal
 
 pub returns-then-left-eq0 : goal.returns-then-left-eq0
 returns-then-left-eq0 g c =
@@ -19,7 +19,7 @@ returns-then-left-eq0 g c =
     turn_ends s s p ls ls c.args.budget.now Spent
     (record {
       runs = c.requires.runs;
-      quiet = (literals_of s.engine.trail, c.requires.quiet);
+      fixpoint = (literals_of s.engine.trail, c.requires.fixpoint);
       spent = sym c.left.ensures.left ∙ c.if-left-eq0.true;
     })
     (writes_none p.given ls)
@@ -52,7 +52,7 @@ branch-search-requires g c =
         room = n.keeps.runs.room;
         named = n.keeps.runs.running.recorded.names.as_many;
       };
-      quiet = n.keeps.quiet c.requires.quiet;
+      fixpoint = n.keeps.fixpoint c.requires.fixpoint;
       noted = n.all;
     }
 
@@ -68,10 +68,10 @@ returns-then-not-branch g c =
     turn_ends c.args.search.now f p (g.S.Sink.lines c.args.sink.now) ls c.args.budget.now Satisfied
     (record {
       runs = b.runs p ls keeps.runs;
-      quiet = subst (λ (e : EngineState). IsQuiet f.store.slots (literals_of e.trail)) (sym stays)
-          (subst (λ (t : StoreState). IsQuiet t.slots (literals_of n.engine.trail))
+      fixpoint = subst (λ (e : EngineState). IsFixpoint f.store.slots (literals_of e.trail))
+          (sym stays) (subst (λ (t : StoreState). IsFixpoint t.slots (literals_of n.engine.trail))
           (sym (ap (λ (x : Search). x.store) b.engine.rest))
-          (keeps.quiet c.requires.quiet));
+          (keeps.fixpoint c.requires.fixpoint));
       closed =
           subst (λ (e : EngineState). AreClosed e.trail e.variables) (sym stays)
           (b.closed c.if-not-branch.true);
