@@ -139,8 +139,8 @@ extends_agrees n bits t within ext (suc v) one low =
 
 -- The answers.
 
--- the bits of a trail at a fixpoint without open variables, after reconstruction, satisfy all that was
--- given
+-- the bits of a trail at a fixpoint without open variables, after reconstruction, satisfy all that
+-- was given
 pub answer_sat : (e : EngineState) (slots : Slots) (stack : StackState) (t : Tables)
     (frozen : List Bool) (first : ℕ) (given : Given) (ls : List LogLine) (bits : List Bool)
     → IsRunning e slots stack t frozen first given ls → IsFixpoint slots (literals_of e.trail)

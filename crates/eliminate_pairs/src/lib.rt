@@ -1,5 +1,5 @@
-//! Fresh variables for pairs of literals that occur together in many clauses: extended resolution,
-//! akin to bounded variable addition.
+//! Fresh variables for pairs of literals that occur together in many clauses, by extended
+//! resolution: bounded variable addition, for pairs alone.
 #![tactic(auto)]
 
 mod frequencies;

@@ -151,7 +151,7 @@ impl Bins {
 
     /// Puts a clause into the least full bin of its literals, where it is in none yet.
     pub fn connect(&mut self, reference: CRef, lits: &[Lit]) -> Result<(), AllocError>
-        ensures unchanged { self.new ≡ self.old }
+        ensures same_view { self.new ≡ self.old }
     {
         let place = reference.index();
         for _gap in self.is_connected.len()..place + 1 {
@@ -190,7 +190,7 @@ impl Bins {
         lits: &[Lit],
     ) -> Option<ClauseBeside>
         requires { ArePlaced (length marks.now) store.now.slots }
-        ensures kept { self.new ≡ self.old }
+        ensures same_view { self.new ≡ self.old }
         ensures found { IfSome result (IsOther marks.now store.now.slots current) }
     {
         let signature = signature_both(lits);

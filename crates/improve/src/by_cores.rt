@@ -1,5 +1,5 @@
-//! The way by cores: a stratified core-guided search whose lower bound meets the best solution, and
-//! then a refutation by the cores. Where it does not end within its share of the effort, the search
+//! Core-guided search, stratified: its lower bound meets the best solution's cost, and then there
+//! is a refutation by the cores. Where it does not end within its share of the effort, the search
 //! goes on by bounds. `stages` says how long cores are looked for, and when they are tried.
 ghost use Rattle.std.specs.Prelude.{◌≡◌, ◌+◌, ◌<◌, ◌≤◌, None};
 ghost use Rattle.std.specs.Prelude.{IfOk, IfErr, IfSome, OnOk};

@@ -24,13 +24,14 @@ use crate::found::{Found, ImproveFault, Work};
 use crate::progress::{Progress, ProgressFault};
 use crate::solutions::{Solution, price_polished};
 use crate::standing::Standing;
-use crate::watch::{Silent, Watch};
+use crate::watch::Watch;
 use crate::zero::refute_zero;
 use adder::profiles::Profile;
 use bound::formulas::hard_formula;
 use cdcl::budget::Budget;
 use cdcl::outcome::Outcome;
 use cdcl::solver::Solver;
+use cdcl::watch::Unwatched;
 use cnf::types::Instance;
 use improve_cores::frozen::freeze_none;
 use improve_trials::found::ByCores;
@@ -75,7 +76,7 @@ pub fn improve_as<T: Progress>(
         (T.state progress.old) (T.state progress.new)
         budget.old budget.new }
 {
-    improve_watched(instance, budget, progress, profile, &mut Silent)
+    improve_watched(instance, budget, progress, profile, &mut Unwatched)
 }
 
 /// As `improve_as`, where `watch` looks on. It is told of each clause that is learned, and each

@@ -1,4 +1,4 @@
-//! The stages of the way by cores: in each the search for cores goes on for a while, and then a
+//! The stages of core-guided search: in each the search for cores goes on for a while, and then a
 //! refutation by its cores is tried. For the optimum there is one stage, and its cores have to be
 //! worth what the best solution costs. Where lower bounds are wanted there are more, and any cores
 //! are tried. So a bound is there soon, and better ones come later.

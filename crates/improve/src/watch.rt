@@ -1,12 +1,12 @@
 // What observes a search. What it is shown is proved where its `seen` is known; what it does with
 // that is not. One that wants lower bounds changes what is looked for, and nothing else that is
 // proved.
-ghost use Rattle.std.specs.Prelude.{◌≡◌, [], ◌∷◌, None};
+ghost use Rattle.std.specs.Prelude.{◌≡◌, [], ◌∷◌};
 ghost use Rattle.cdcl_order.specs.Watch.{Better, with_seen};
 ghost use Rattle.improve.specs.Improving.{IsSolution};
 ghost use Rattle.improve.specs.Standing.{IsCoreProof};
 
-use cdcl::watch::SearchReport;
+use cdcl::watch::Unwatched;
 use cnf::types::Instance;
 use improve_trials::found::ByCores;
 
@@ -29,21 +29,7 @@ pub trait Watch: improve_cores::watch::CoreWatch {
         ensures same_seen { Self.seen self.new ≡ Self.seen self.old };
 }
 
-/// Looks at nothing.
-#[derive(Drop)]
-pub struct Silent;
-
-impl cdcl::watch::SearchWatch for Silent {
-    ghost seen = { λ _. None };
-
-    fn learned(&mut self, _report: &SearchReport) {}
-}
-
-impl improve_cores::watch::CoreWatch for Silent {
-    fn raised(&mut self, _lower: u64) {}
-}
-
-impl Watch for Silent {
+impl Watch for Unwatched {
     fn better(&mut self, _instance: &Instance, _cost: u64, _bits: &[bool]) {}
 
     fn wants_bounds(&self) -> bool {

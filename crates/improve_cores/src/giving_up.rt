@@ -6,8 +6,8 @@
 // learned clauses, if either way reaches one. Where less is missing, cores mostly close the gap.
 //
 // Cores that are worth less than half of the cost are no sign at first: the best solution may be
-// poor, and a model of the next stratum far cheaper, as on rosters. With thousands of soft clauses
-// all comes later, as there are more cores to be found, and bounds are of little use.
+// poor, and a model of the next stratum far cheaper, as on rosters. With more than 500 soft
+// clauses all comes later, as there are more cores to be found, and bounds are of little use.
 //
 // docs/EXPERIMENTS.md, under 'The search for cores', says what this was measured on.
 

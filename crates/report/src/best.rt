@@ -9,9 +9,10 @@ ghost use Rattle.report.specs.Best.{IsFound, IsTrueText, best_text, end_of, said
 
 use crate::answering::{spell_optimum, spell_satisfiable, write_end};
 use crate::told::write_cost;
+use cdcl::watch::Unwatched;
 use cnf::types::Instance;
 use improve::found::Found;
-use improve::watch::{Silent, Watch};
+use improve::watch::Watch;
 use std::io::Write;
 use text::output::WriteFault;
 
@@ -28,7 +29,7 @@ pub trait RunWatch: Watch {
             ≡ with_seen (end_of instance.now found.now ∷ []) (Self.seen self.old) };
 }
 
-impl RunWatch for Silent {
+impl RunWatch for Unwatched {
     fn searched(&mut self, _found: &Found) {}
 
     fn ended(&mut self, _instance: &Instance, _found: &Found) {}

@@ -14,11 +14,11 @@ use crate::status::Status;
 use crate::told::{Finished, Told};
 use adder::profiles::Profile;
 use cdcl::budget::Budget;
+use cdcl::watch::Unwatched;
 use cnf::types::Instance;
 use improve::found::{Found, ImproveFault};
 use improve::progress::Progress;
 use improve::search::{improve_from, improve_watched};
-use improve::watch::Silent;
 use std::alloc::Global;
 use std::io::{Read, Write};
 use wcnf::reading::read_from;
@@ -89,7 +89,7 @@ pub fn run_as<R: Read, O: Write, P: Write>(
         budget.new) }
     ensures same_limit { budget.new.limit ≡ budget.old.limit }
 {
-    run_watched(alloc, input, budget, out, proof, profile, &mut Silent)
+    run_watched(alloc, input, budget, out, proof, profile, &mut Unwatched)
 }
 
 /// As `run_as`, where `watch` looks on. It is told of each clause that is learned, and of the end

@@ -1,5 +1,5 @@
-//! What is at hand before a search begins: FILE, the solution with which it begins, and the files of
-//! earlier runs that it replaces.
+//! What is at hand before a search begins: FILE, the solution with which it begins, and the files
+//! of earlier runs that it replaces.
 use crate::arguments::SolveRequest;
 use crate::refusals::{BEST, FROM, KeptFileFault, LOWER, Refused};
 use adder::profiles::Profile;

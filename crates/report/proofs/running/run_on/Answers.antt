@@ -66,5 +66,5 @@ returns-clause-seen g c text r =
     (certified w.new.proof) (seen c.args.watch.now) (seen c.find_best.new.watch) _ f.found
     f.ensures.shown c.in_default.ensures.ok
     (c.ended.ensures.shown
-    ∙ ap (with_seen (end_of c.args.instance.now f.found ∷ [])) c.searched.ensures.same_seen) c.of.result
-    c.of.ensures
+    ∙ ap (with_seen (end_of c.args.instance.now f.found ∷ [])) c.searched.ensures.same_seen)
+    c.of.result c.of.ensures

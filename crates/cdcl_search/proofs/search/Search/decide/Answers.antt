@@ -17,8 +17,8 @@ returns c =
           (run_decide s.engine f s.store.slots p.stack (tables_of s) p.frozen.items p.first p.given
           ls c.args.lit r.running can.fixpoint can.noted d.trail d.attached d.frame fits);
       ready = ready_moved s f s.policy can.ready d.frame.0 refl
-          (searches_decide s.store.slots s.engine f c.args.lit can.ready.searches can.fixpoint d.trail
-          d.attached d.frame.1 fits);
+          (searches_decide s.store.slots s.engine f c.args.lit can.ready.searches can.fixpoint
+          d.trail d.attached d.frame.1 fits);
       trail = d.trail;
       engine = record { variables = d.frame.0; rest = refl };
     }
