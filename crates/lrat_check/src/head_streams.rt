@@ -9,9 +9,9 @@ use crate::verdicts::CheckFault;
 use std::io::Read;
 use text::watched::READ_SIZE;
 
-/// Reads the head, and what the last piece has behind it. Where the head goes on, the certificate is
-/// at its end, and what is kept may still be a line of the head. A certificate of 2^64 bytes or more
-/// counts as a failed read.
+/// Reads the head, and what the last piece has behind it. Where the head goes on, the certificate
+/// is at its end, and what is kept may still be a line of the head. A certificate of 2^64 bytes or
+/// more counts as a failed read.
 pub(crate) fn read_head<R: Read>(
     head: &mut CertificateHead,
     proof: &mut R,

@@ -14,8 +14,9 @@ use crate::verdicts::{CheckFault, Verdict};
 use cnf::types::Instance;
 use std::io::Read;
 
-/// The verdict on a certificate that nothing costs less, which may begin with core lines. The reader
-/// is read up to the first faulty line. A certificate of 2^64 bytes or more counts as a failed read.
+/// The verdict on a certificate that nothing costs less, which may begin with core lines. The
+/// reader is read up to the first faulty line. A certificate of 2^64 bytes or more counts as a
+/// failed read.
 pub(crate) fn check_headed_stream<R: Read>(
     instance: &Instance,
     cost: u64,

@@ -38,8 +38,8 @@ impl CertificateHead {
         })
     }
 
-    /// Reads the piece, up to the line behind the head or the first fault. Of a line behind the head,
-    /// and of what follows it, all is kept.
+    /// Reads the piece, up to the line behind the head or the first fault. A line behind the head,
+    /// and what follows it, is kept.
     pub fn take(&mut self, piece: &[u8]) -> Result<HeadStep, AllocError>
         requires { self.old.cores.lines + length self.old.rest + length piece.now < 2 ^ 64 }
         ensures takes { IfOk result (λ step. (p : Problem) (bytes : List ℕ)

@@ -1,8 +1,8 @@
 //! What a certificate proves by itself. One that begins with core lines proves a lower bound: if
 //! the LRAT lines behind them refute the formula of the cores, no solution costs less than they are
 //! worth together. One without core lines proves that there is no solution.
-ghost use Rattle.std.specs.Prelude.{◌≡◌, ℕ, ◌+◌, ◌<◌, ◌^◌, List, [], Option, length, IfOk, IfSome, ◌↔◌};
-ghost use Rattle.std.specs.Prelude.{OnOk};
+ghost use Rattle.std.specs.Prelude.{◌≡◌, ℕ, ◌+◌, ◌<◌, ◌^◌, List, [], Option, length, IfOk, IfSome};
+ghost use Rattle.std.specs.Prelude.{OnOk, ◌↔◌};
 ghost use Rattle.std.specs.Io.KnownBytes.{Consumes};
 ghost use Rattle.text.specs.Text.{token_lines};
 ghost use Rattle.lrat_check.specs.CoreLines.{IsHeadOf, end_at};

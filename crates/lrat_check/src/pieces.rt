@@ -253,8 +253,8 @@ impl Checker {
         checker.judge_end()
     }
 
-    /// As `finish`. It borrows the checker, which is of no use afterwards, so that none of its exits
-    /// has to drop it.
+    /// As `finish`. It borrows the checker, which is of no use afterwards, so that none of its
+    /// exits has to drop it.
     fn judge_end(&mut self) -> Result<Verdict, FeedFault>
         ensures verdict { IfOk result (λ v. (formula : List (List Literal)) (bytes : List ℕ)
             → HasJudged self.old formula bytes → v ≡ proof_verdict formula bytes) }

@@ -48,8 +48,8 @@ returns-in-Proof-clause-yes g c =
 pub returns-in-Proof-clause-sound : goal.returns-in-Proof-clause-sound
 returns-in-Proof-clause-sound g c =
     IfOk-weaker c.check_stream.result _ _
-    (λ v h y. proof_shows c.in_ok-left.left c.in-Proof.formula _ c.in-Proof.is c.in_ok-left.ensures.sound
-    (h y)) c.check_stream.ensures.sound
+    (λ v h y. proof_shows c.in_ok-left.left c.in-Proof.formula _ c.in-Proof.is
+    c.in_ok-left.ensures.sound (h y)) c.check_stream.ensures.sound
 
 pub returns-in-Headed-clause-verdict : goal.returns-in-Headed-clause-verdict
 returns-in-Headed-clause-verdict g c =

@@ -23,7 +23,8 @@ returns-in-Ok-GoesOn c =
     let h = c.in-Ok-GoesOn.ensures.read p c.requires.open in
     let leaves = rw c.in-Ok-GoesOn.field-0-is at h.leaves in
     IfOk-weaker c.end_formula.result _ _
-    (λ r e. over_ended (Some c.args.proof.now) (Some c.read_head.new.proof.now) h.bytes _ (headed_formula p c.args.cost) h.read
+    (λ r e. over_ended (Some c.args.proof.now) (Some c.read_head.new.proof.now) h.bytes _
+    (headed_formula p c.args.cost) h.read
     (h.at_end c.in-Ok-GoesOn.field-0-is) (e h.bytes leaves))
     c.end_formula.ensures
 
@@ -33,7 +34,8 @@ returns-in-Ok-Ended c =
     let h = c.in-Ok-Ended.ensures.read p c.requires.open in
     let leaves = rw c.in-Ok-Ended.field-0-is at h.leaves in
     IfOk-weaker c.formula_of.result _ _
-    (λ r e. over_all (Some c.args.proof.now) (Some c.read_head.new.proof.now) h.bytes _ (headed_formula p c.args.cost) h.read
+    (λ r e. over_all (Some c.args.proof.now) (Some c.read_head.new.proof.now) h.bytes _
+    (headed_formula p c.args.cost) h.read
     (λ more. e
     ∙ ap (λ n. formula_behind p c.args.cost c.read_head.new.head.cores.some
     c.read_head.new.head.cores.counted (n + 1)) c.lines.ensures
@@ -45,6 +47,7 @@ returns-in-Ok-Fails c =
     let p = c.args.instance.now in
     let h = c.in-Ok-Fails.ensures.read p c.requires.open in
     let leaves = rw c.in-Ok-Fails.field-0-is at h.leaves in
-    over_all (Some c.args.proof.now) (Some c.read_head.new.proof.now) h.bytes _ (headed_formula p c.args.cost) h.read
+    over_all (Some c.args.proof.now) (Some c.read_head.new.proof.now) h.bytes _
+    (headed_formula p c.args.cost) h.read
     (λ more. ap (λ n. Err (c.in-Ok-Fails.cause, n + 1)) c.lines-in-Ok-Fails.ensures
     ∙ ap (formula_at p c.args.cost) (sym (leaves more)))

@@ -16,7 +16,8 @@ end_head-requires-clause-is g c =
     leaves.is
 
 pub end_head-requires-clause-room : goal.end_head-requires-clause-room
-end_head-requires-clause-room g c = omega (arith, rw c.in-GoesOn.is at c.in_ok-read_head.ensures.room)
+end_head-requires-clause-room g c =
+    omega (arith, rw c.in-GoesOn.is at c.in_ok-read_head.ensures.room)
 
 pub returns-in-GoesOn-clause-verdict : goal.returns-in-GoesOn-clause-verdict
 returns-in-GoesOn-clause-verdict g c =
@@ -25,7 +26,8 @@ returns-in-GoesOn-clause-verdict g c =
     IfOk-weaker c.end_head.result _ _
     (λ v e. over_ended (g.R.Read.remaining c.args.proof.now)
     (g.R.Read.remaining c.read_head.new.proof) h.bytes v
-    (headed_verdict c.args.instance.now c.args.cost) h.read (h.at_end c.in-GoesOn.is) (e h.bytes leaves))
+    (headed_verdict c.args.instance.now c.args.cost) h.read (h.at_end c.in-GoesOn.is)
+    (e h.bytes leaves))
     c.end_head.ensures.verdict
 
 pub returns-in-GoesOn-clause-stops : goal.returns-in-GoesOn-clause-stops
@@ -40,7 +42,9 @@ returns-in-GoesOn-clause-stops g c =
 
 pub judge_rest-requires-clause-is : goal.judge_rest-requires-clause-is
 judge_rest-requires-clause-is g c =
-    let leaves = rw c.in-Ended.is at (c.in_ok-read_head.ensures.read c.args.instance.now c.requires.open).leaves in leaves.is
+    let h = c.in_ok-read_head.ensures.read c.args.instance.now c.requires.open in
+    let leaves = rw c.in-Ended.is at h.leaves in
+    leaves.is
 
 pub judge_rest-requires-clause-room : goal.judge_rest-requires-clause-room
 judge_rest-requires-clause-room g c =

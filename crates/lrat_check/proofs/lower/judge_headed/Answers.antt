@@ -8,10 +8,13 @@ use Rattle.lrat_check.proofs.lower.judge_headed.Goals as goal
 
 pub end_own-requires-clause-is : goal.end_own-requires-clause-is
 end_own-requires-clause-is g c =
-    let leaves = rw c.in-GoesOn.is at (c.in_ok-read_head.ensures.read c.args.instance.now c.requires.open).leaves in leaves.is
+    let h = c.in_ok-read_head.ensures.read c.args.instance.now c.requires.open in
+    let leaves = rw c.in-GoesOn.is at h.leaves in
+    leaves.is
 
 pub end_own-requires-clause-room : goal.end_own-requires-clause-room
-end_own-requires-clause-room g c = omega (arith, rw c.in-GoesOn.is at c.in_ok-read_head.ensures.room)
+end_own-requires-clause-room g c =
+    omega (arith, rw c.in-GoesOn.is at c.in_ok-read_head.ensures.room)
 
 pub returns-in-GoesOn : goal.returns-in-GoesOn
 returns-in-GoesOn g c =
@@ -19,12 +22,15 @@ returns-in-GoesOn g c =
     let leaves = rw c.in-GoesOn.is at h.leaves in
     IfOk-weaker c.end_own.result _ _
     (λ v e. head_is_all c.args.instance.now h.bytes (g.R.Read.remaining c.args.proof.now)
-    (g.R.Read.remaining c.read_head.new.proof) v h.read (h.at_end c.in-GoesOn.is) h.in_time (e h.bytes leaves))
+    (g.R.Read.remaining c.read_head.new.proof) v h.read (h.at_end c.in-GoesOn.is) h.in_time
+    (e h.bytes leaves))
     c.end_own.ensures
 
 pub judge_more-requires-clause-is : goal.judge_more-requires-clause-is
 judge_more-requires-clause-is g c =
-    let leaves = rw c.in-Ended.is at (c.in_ok-read_head.ensures.read c.args.instance.now c.requires.open).leaves in leaves.is
+    let h = c.in_ok-read_head.ensures.read c.args.instance.now c.requires.open in
+    let leaves = rw c.in-Ended.is at h.leaves in
+    leaves.is
 
 pub judge_more-requires-clause-room : goal.judge_more-requires-clause-room
 judge_more-requires-clause-room g c =

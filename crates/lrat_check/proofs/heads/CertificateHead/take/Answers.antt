@@ -7,7 +7,8 @@ use Rattle.text.specs.Text.{tokens_of}
 use Rattle.text.proofs.Laws.{line_lengths}
 use Rattle.lrat_check.specs.CoreLines.{HeadState, ReadsHead}
 use Rattle.lrat_check.specs.Heads.{IsEndedHead, head_reading}
-use Rattle.lrat_check.proofs.HeadLaws.{ended_kept, taken_ended, taken_failed, taken_line, taken_rest}
+use Rattle.lrat_check.proofs.HeadLaws.{ended_kept, taken_ended, taken_failed, taken_line}
+use Rattle.lrat_check.proofs.HeadLaws.{taken_rest}
 use Rattle.lrat_check.proofs.heads.CertificateHead.take.Goals as goal
 
 pub loop-end-preserved : goal.loop-end-preserved
