@@ -1,7 +1,7 @@
 // First unique implication point.
 ghost use Rattle.std.specs.Prelude.{◌≡◌, ◌+◌, ◌<◌, ◌≤◌, length, All, IfOk};
 ghost use Rattle.std.specs.Prelude.{IfSome};
-ghost use Rattle.analyze.specs.Met.{AreVariables, IsUnmarked, ListsMarked};
+ghost use Rattle.analyze.specs.Met.{AreVariables, HasNoMarks, ListsMarked};
 ghost use Rattle.clauses.specs.Slots.{IsLive, clause_at};
 ghost use Rattle.propagate.specs.Trail.{depth_of};
 ghost use Rattle.propagate.specs.Fits.{Fits};
@@ -189,7 +189,7 @@ fn learn(
     minimiser: &mut Minimiser,
 ) -> Result<Learned, AllocError>
     requires can { CanLearn engine.now store.now.slots conflict }
-    requires unmarked { IsUnmarked engine.now marking.old }
+    requires unmarked { HasNoMarks engine.now marking.old }
     ensures learns { IfOk result (Learns store.now.slots engine.now.trail conflict) }
     ensures lists { ListsMarked engine.now.trail marking.old marking.new }
     ensures beside { AreVariables marking.new.marks.items marking.new.list.items }

@@ -8,7 +8,7 @@ ghost use Rattle.std.specs.Prelude.{◌≤◌, IfOk};
 ghost use Rattle.propagate.specs.Fits.{Fits};
 ghost use Rattle.analyze.specs.Analyzer.{IsFalsified, IsFinal};
 ghost use Rattle.analyze.specs.Marks.{IsBefore, ReducesBefore};
-ghost use Rattle.analyze.specs.Met.{IsMarking, IsUnmarked, ListsMarked};
+ghost use Rattle.analyze.specs.Met.{IsMarking, HasNoMarks, ListsMarked};
 
 use crate::analyzer::FinalClause;
 use crate::collect::collect;
@@ -55,7 +55,7 @@ pub(crate) fn learn_final(
     requires fits { Fits engine.now store.now.slots }
     requires small { falsified.variable ≤ engine.now.variables }
     requires falsified { IsFalsified engine.now.trail falsified reason }
-    requires unmarked { IsUnmarked engine.now marking.old }
+    requires unmarked { HasNoMarks engine.now marking.old }
     ensures learns { IfOk result (IsFinal store.now.slots engine.now.trail falsified reason) }
     ensures lists { ListsMarked engine.now.trail marking.old marking.new }
 {

@@ -11,7 +11,7 @@
 // its reason.
 ghost use Rattle.std.specs.Prelude.{◌≡◌, ◌<◌, ◌≤◌, length};
 ghost use Rattle.analyze.specs.Marks.{HasMarks, FitsMarks};
-ghost use Rattle.analyze.specs.Met.{CanMinimise, LeavesOne, AreVariables};
+ghost use Rattle.analyze.specs.Met.{CanMinimise, ReducesToOne, AreVariables};
 
 use crate::marks::{Mark, Marking, resolve_one};
 use crate::positions::put;
@@ -122,7 +122,7 @@ impl Minimiser {
         marking: &mut Marking,
     )
         requires { CanMinimise engine.now store.now.slots marking.old asserting }
-        ensures { LeavesOne engine.now store.now.slots marking.old marking.new asserting }
+        ensures { ReducesToOne engine.now store.now.slots marking.old marking.new asserting }
     {
         self.start(
             engine,
@@ -320,7 +320,7 @@ impl Minimiser {
         marking: &mut Marking,
     )
         requires { CanMinimise engine.now store.now.slots marking.old asserting }
-        ensures { LeavesOne engine.now store.now.slots marking.old marking.new asserting }
+        ensures { ReducesToOne engine.now store.now.slots marking.old marking.new asserting }
     {
         while let Some(settled) = self.settled.pop() {
             let variable = settled.min(engine.variables());

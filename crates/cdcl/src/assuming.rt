@@ -129,7 +129,7 @@ impl<'a> AssumptionProgress<'a> {
     }
 
     /// The search went back to this level.
-    fn backtrack(&mut self, level: u32, share: Share) {
+    fn note_backtrack(&mut self, level: u32, share: Share) {
         self.decisions = share.decisions;
         if let Some(first) = self.opened.get(level as usize) {
             self.next = *first;
@@ -310,7 +310,7 @@ fn learn_assuming<S: Sink, W: SearchWatch>(
     budget.count_learned();
     watch.learned(&search.policy.report(budget));
     progress.learned -= 1;
-    progress.backtrack(search.engine.depth(), share);
+    progress.note_backtrack(search.engine.depth(), share);
     Ok(None)
 }
 

@@ -37,7 +37,7 @@ use Rattle.cdcl_search.specs.declared.input.Input.{Input}
 use Rattle.cdcl_search.specs.declared.search.Search.{Search}
 use Rattle.cdcl_search.specs.Invariant.{HasUnit, NotesUnits, IsRunning, zero_of}
 use Rattle.cdcl_search.specs.Hinting.{AreHintsOf, AreNoted, Serves}
-use Rattle.cdcl_search.specs.Running.{AddsLine, HasRoom, Runs, tables_of}
+use Rattle.cdcl_search.specs.Running.{LogsLine, HasRoom, Runs, tables_of}
 use Rattle.cdcl_search.specs.Cores.{HasSubset, AreAssumed, IsShown, IsCoreClause}
 use Rattle.cdcl_search.proofs.LogLines.{AddsByHints}
 use Rattle.cdcl_search.proofs.LearnedLines.{new_to_log}
@@ -211,7 +211,7 @@ pub runs_core : (m n : Search) (p : Input) (ls now : List LogLine) (l : LogLine)
     p.given ls
     → HasRoom m → All (λ x. x ≤ m.additions + 1) (m.stamps).items
     → depth_of (m.engine).trail ≡ 0 → l.clause ≡ k ∷ others → AddsByHints p.given ls l
-    → AddsLine m n ls now l → Runs n p now
+    → LogsLine m n ls now l → Runs n p now
 runs_core m n p ls now l k others run room past flat split adds added =
     let stored = added.stored in
     let more = added.additions in

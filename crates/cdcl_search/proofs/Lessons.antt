@@ -26,7 +26,7 @@ use Rattle.cdcl_search.specs.declared.input.Input.{Input}
 use Rattle.cdcl_search.specs.Invariant.{HasUnit, NotesUnits, NamesStore, Searches, IsRunning}
 use Rattle.cdcl_search.specs.Invariant.{zero_of}
 use Rattle.cdcl_search.specs.Hinting.{AreHintsOf, AreNoted}
-use Rattle.cdcl_search.specs.Running.{AddsLine, HasRoom, Runs, tables_of}
+use Rattle.cdcl_search.specs.Running.{LogsLine, HasRoom, Runs, tables_of}
 use Rattle.cdcl_search.proofs.LogLines.{AddsByHints}
 use Rattle.cdcl_search.proofs.LearnedLines.{adds_learned, refutes_alone, no_tautology_false}
 use Rattle.cdcl_search.proofs.Conflicts.{is_conflict, serves_zero}
@@ -175,7 +175,7 @@ pub runs_learned : (m n : Search) (p : Input) (ls now : List LogLine) (l : LogLi
     → HasRoom m
     → All (λ x. x ≤ m.additions + 1) (m.stamps).items → IsAsserting T l.clause back
     → (m.engine).trail ≡ kept_to back T → AddsByHints p.given ls l
-    → AddsLine m n ls now l → Runs n p now
+    → LogsLine m n ls now l → Runs n p now
 runs_learned m n p ls now l T back run room past w trail adds added =
     let stored = added.stored in
     let more = added.additions in

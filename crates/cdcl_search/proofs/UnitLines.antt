@@ -28,7 +28,7 @@ use Rattle.cdcl_search.specs.Invariant.{HasUnit, NotesUnits, NamesStore, zero_of
 use Rattle.lrat_log.specs.declared.lines.Name.TheVariants.{Added}
 use Rattle.cdcl_search.specs.declared.search.Search.{Search}
 use Rattle.cdcl_search.specs.declared.input.Input.{Input}
-use Rattle.cdcl_search.specs.Running.{AddsLine, HasRoom, Runs, tables_of}
+use Rattle.cdcl_search.specs.Running.{LogsLine, HasRoom, Runs, tables_of}
 use Rattle.cdcl_search.proofs.LogLines.{AddsByHints}
 use Rattle.cdcl_search.proofs.Moves.{with_addition}
 use Rattle.cdcl_search.proofs.MoreMoves.{run_note}
@@ -189,7 +189,7 @@ pub runs_noted : (m n u : Search) (p : Input) (ls now : List LogLine) (hints : L
     → depth_of (m.engine).trail ≡ 0 → m.noted < length (m.engine).trail
     → k ≡ get_or (literals_of (m.engine).trail) m.noted k
     → AddsByHints p.given ls (record { kind = UnitKind; clause = k ∷ []; hints = hints })
-    → AddsLine m n ls now (record { kind = UnitKind; clause = k ∷ []; hints = hints })
+    → LogsLine m n ls now (record { kind = UnitKind; clause = k ∷ []; hints = hints })
     → v ≡ k.variable - 1 → r ≡ length (m.store).slots → NotesOne n u v r → Runs u p now
 runs_noted m n u p ls now hints k v r run room past flat left at adds added vis ris d =
     let w = added.stored in

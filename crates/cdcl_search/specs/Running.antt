@@ -87,7 +87,7 @@ pub record EngineMoves (old new : Search) : Type 0 where
   pub variables : (new.engine).variables ≡ (old.engine).variables
   pub rest : new ≡ record old { engine = new.engine }
 
--- the engine moved alone, to this trail: the search goes on, and any move may be next
+-- the engine moved alone, to this trail: the search goes on, and is ready for what comes next
 pub record MovesTo (old new : Search) (T : List Assigned) : Type 0 where
   pub runs : KeepsRunning old new
   pub ready : IsReady new
@@ -112,8 +112,8 @@ pub record Stores (old new : Search) (n : Name) (c : List Literal) : Type 0 wher
 
 -- The log.
 
--- a clause that follows was added, and its line was written last
-pub record AddsLine (old new : Search) (before after : List LogLine) (l : LogLine) : Type 0 where
+-- a clause came under the name of the next addition, and its line was written last
+pub record LogsLine (old new : Search) (before after : List LogLine) (l : LogLine) : Type 0 where
   pub stored : Stores old new (Added (old.additions + 1)) l.clause
   pub additions : new.additions ≡ old.additions + 1
   pub few : new.additions < LINE_LIMIT

@@ -5,7 +5,7 @@ ghost use Rattle.lrat_log.specs.declared.log.TheConstants.{LINE_LIMIT};
 ghost use Rattle.cnf.specs.Lrat.{IsId};
 ghost use Rattle.lrat_log.specs.Log.{is_delete, name_of, number_in};
 ghost use Rattle.lrat_log.specs.Steps.{added_count};
-ghost use Rattle.cdcl_search.specs.Running.{AddsLine, CanAttach, Stores};
+ghost use Rattle.cdcl_search.specs.Running.{LogsLine, CanAttach, Stores};
 
 use crate::search::Search;
 use clauses::store::CRef;
@@ -45,7 +45,7 @@ impl Search {
         requires hints { All (λ h. IsId (number_in (name_of h))) hints.now }
         requires counted { self.old.additions ≡ added_count (S.lines sink.old) }
         requires few { self.old.additions < LINE_LIMIT }
-        ensures added { OnOk result (AddsLine self.old self.new (S.lines sink.old)
+        ensures added { OnOk result (LogsLine self.old self.new (S.lines sink.old)
             (S.lines sink.new) record {
               kind = kind;
               clause = lits.now;

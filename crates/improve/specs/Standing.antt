@@ -106,9 +106,10 @@ abbrev pub by_cores_count : Option ByCores → ℕ
 by_cores_count None = 0
 by_cores_count (Some r) = learned_count r.log
 
--- On the way from one standing to the other cores were tried. A refutation by them shows what the
+-- Cores were tried on the way from one standing to another. A refutation by them shows what the
 -- best solution costs, and is given in the profile of cores alone. Without a fault the search goes
--- on; there were so many learned lines before, and so many after beside those of the refutation.
+-- on: there were so many learned lines before, and so many after beside those of the refutation.
+-- After one it fails.
 pub record TriesCores (profile : Profile) (p : Problem)
     (result : Result (Option ByCores) ImproveFault) (old new : Telling) (had left : BudgetState)
     (s t : Standing) (was now : ℕ) : Type 0 where

@@ -87,13 +87,13 @@ abbrev pub IsTrialEnd : Problem → TrialEnd → Type 0
 IsTrialEnd p (Ended a) = IsAttempt p a
 IsTrialEnd p (Goes counted) = AreRightCores p counted
 
-abbrev pub RoundShowsMore : ℕ → TrialEnd → Type 0
-RoundShowsMore n (Ended a) = ShowsMore n a
-RoundShowsMore n (Goes counted) = ⊤
+abbrev pub TrialShowsMore : ℕ → TrialEnd → Type 0
+TrialShowsMore n (Ended a) = ShowsMore n a
+TrialShowsMore n (Goes counted) = ⊤
 
-abbrev pub round_lines : TrialEnd → List LogLine
-round_lines (Ended a) = attempt_lines a
-round_lines (Goes counted) = []
+abbrev pub end_lines : TrialEnd → List LogLine
+end_lines (Ended a) = attempt_lines a
+end_lines (Goes counted) = []
 
 -- what was learned since is in what was tried since, and in these lines
 abbrev pub SpendsOn : (old new : List CoreRefutation) → List LogLine → (had left : BudgetState)

@@ -4,8 +4,8 @@ ghost use Rattle.std.specs.Prelude.{◌≡◌, ℕ, ◌+◌, ◌<◌, All, IfOk,
 ghost use Rattle.improve_cores.specs.Events.{AreRightCores};
 ghost use Rattle.improve_trials.specs.Trials.{IsCoreRefutation, IsAttempt, IsTrialEnd, SpendsOn};
 ghost use Rattle.lrat_log.specs.Steps.{learned_count};
-ghost use Rattle.improve_trials.specs.Trials.{IsTrial, attempt_lines, round_lines, tried_count};
-ghost use Rattle.improve_trials.specs.Trials.{ShowsMore, RoundShowsMore};
+ghost use Rattle.improve_trials.specs.Trials.{IsTrial, attempt_lines, end_lines, tried_count};
+ghost use Rattle.improve_trials.specs.Trials.{ShowsMore, TrialShowsMore};
 
 use crate::found::{Attempt, ByCores, CoreRefutation};
 use crate::leaving::keep_shown;
@@ -89,10 +89,10 @@ fn try_once<W: SearchWatch>(
 ) -> Result<TrialEnd, AllocError>
     requires cores { AreRightCores instance.now counted }
     requires tried { All (IsCoreRefutation instance.now) tried.old.items }
-    ensures round { IfOk result (IsTrialEnd instance.now) }
-    ensures above { IfOk result (RoundShowsMore aim.above) }
+    ensures ended { IfOk result (IsTrialEnd instance.now) }
+    ensures above { IfOk result (TrialShowsMore aim.above) }
     ensures tried { OnOk result (All (IsCoreRefutation instance.now) tried.new.items) }
-    ensures spends { IfOk result (λ r. SpendsOn tried.old.items tried.new.items (round_lines r)
+    ensures spends { IfOk result (λ r. SpendsOn tried.old.items tried.new.items (end_lines r)
         budget.old budget.new) }
     ensures answers { budget.new.answers ≡ budget.old.answers }
     ensures limit { budget.new.limit ≡ budget.old.limit }
@@ -121,10 +121,10 @@ fn end_trial(
     requires trial { IsTrial instance.now cores.items trial }
     requires kept { AreRightCores instance.now kept }
     requires tried { All (IsCoreRefutation instance.now) tried.old.items }
-    ensures round { IfOk result (IsTrialEnd instance.now) }
-    ensures above { (n : ℕ) → n < trial.worth → IfOk result (RoundShowsMore n) }
+    ensures ended { IfOk result (IsTrialEnd instance.now) }
+    ensures above { (n : ℕ) → n < trial.worth → IfOk result (TrialShowsMore n) }
     ensures tried { OnOk result (All (IsCoreRefutation instance.now) tried.new.items) }
-    ensures lines { IfOk result (λ r. tried_count tried.new.items + learned_count (round_lines r)
+    ensures lines { IfOk result (λ r. tried_count tried.new.items + learned_count (end_lines r)
         ≡ tried_count tried.old.items + learned_count trial.log) }
 {
     let log = trial.log;

@@ -55,10 +55,10 @@ Takes p (Fails cause) r bytes =
 
 -- there is at most so much: a byte for each line that was counted, what is kept, and the line that
 -- is faulty. The line behind the head is not empty
-abbrev pub IsWithin : HeadStep → HeadReading → ℕ → Type 0
-IsWithin GoesOn r most = (r.head).lines + length r.rest ≤ most
-IsWithin Ended r most = ((r.head).lines + length r.rest ≤ most) × (0 < length r.rest)
-IsWithin (Fails cause) r most = (r.head).lines + length r.rest + 1 ≤ most
+abbrev pub HasWithin : HeadStep → HeadReading → ℕ → Type 0
+HasWithin GoesOn r most = (r.head).lines + length r.rest ≤ most
+HasWithin Ended r most = ((r.head).lines + length r.rest ≤ most) × (0 < length r.rest)
+HasWithin (Fails cause) r most = (r.head).lines + length r.rest + 1 ≤ most
 
 -- what the head comes to where nothing follows the bytes
 abbrev pub EndsWith : Problem → HeadStep → HeadReading → List ℕ → Type 0

@@ -83,6 +83,7 @@ pub(crate) fn checker_over(formula: Formula, head: &CertificateHead) -> Result<C
     match checker.feed(head.rest.bytes()) {
         Ok(()) => Ok(checker),
         Err(_) => {
+            // By a call: that is proved once, and not field by field here.
             drop(checker);
             Err(CheckFault::Memory)
         }

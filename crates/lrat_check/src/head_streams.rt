@@ -1,7 +1,7 @@
 // The head of a certificate that a reader gives.
 ghost use Rattle.std.specs.Prelude.{◌≡◌, ◌+◌, ◌-◌, ◌^◌, [], length, IfOk};
 ghost use Rattle.cnf.specs.Problem.{Problem};
-ghost use Rattle.lrat_check.specs.Heads.{HasReadHead, IsOpenHead, IsWithin, head_reading};
+ghost use Rattle.lrat_check.specs.Heads.{HasReadHead, IsOpenHead, HasWithin, head_reading};
 
 use crate::core_lines::HeadStep;
 use crate::heads::CertificateHead;
@@ -20,7 +20,7 @@ pub(crate) fn read_head<R: Read>(
     ensures read { IfOk result (λ step. (p : Problem) → IsOpenHead p (head_reading head.old) []
         → HasReadHead p step (head_reading head.new) (R.remaining proof.old)
         (R.remaining proof.new)) }
-    ensures room { IfOk result (λ step. IsWithin step (head_reading head.new) (2 ^ 64 - 1)) }
+    ensures room { IfOk result (λ step. HasWithin step (head_reading head.new) (2 ^ 64 - 1)) }
 {
     let mut fed = 0u64;
     let mut chunk = [0u8; READ_SIZE];

@@ -1,13 +1,14 @@
 // The head of a certificate that comes in pieces: each line is read once its line feed is there, up
 // to the first line with a token that is no core line. Only what follows the last line feed is
-// kept, and a line that no piece boundary cuts is not copied.
+// kept, and a line of the head that no piece boundary cuts is not copied. Once the head has ended,
+// the rest of the piece is kept too.
 ghost use Rattle.std.specs.Prelude.{◌≡◌, ℕ, ◌+◌, ◌<◌, ◌≤◌, ◌^◌, ◌++◌, [], List, length, IfOk};
 ghost use Rattle.std.specs.Prelude.{drop};
 ghost use Rattle.std.specs.Str.Lines.{strip_carriage_return};
 ghost use Rattle.text.specs.Text.{tokens_of};
 ghost use Rattle.cnf.specs.Problem.{Problem};
 ghost use Rattle.lrat_check.specs.CoreLines.{CountsOn, ReadsHead};
-ghost use Rattle.lrat_check.specs.Heads.{EndsWith, IsLineLeft, IsOpenHead, IsWithin, Takes};
+ghost use Rattle.lrat_check.specs.Heads.{EndsWith, IsLineLeft, IsOpenHead, HasWithin, Takes};
 ghost use Rattle.lrat_check.specs.Heads.{head_reading};
 
 use crate::core_lines::{CoreLines, HeadStep};
@@ -45,7 +46,7 @@ impl CertificateHead {
         ensures takes { IfOk result (λ step. (p : Problem) (bytes : List ℕ)
             → IsOpenHead p (head_reading self.old) bytes
             → Takes p step (head_reading self.new) (bytes ++ piece.now)) }
-        ensures within { IfOk result (λ step. IsWithin step (head_reading self.new)
+        ensures within { IfOk result (λ step. HasWithin step (head_reading self.new)
             (self.old.cores.lines + length self.old.rest + length piece.now)) }
     {
         let mut left = piece;

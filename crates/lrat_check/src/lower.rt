@@ -107,12 +107,12 @@ fn judge_own<R: Read>(instance: &Instance, proof: &mut R) -> Result<LowerVerdict
         (λ v. IsLowerOf instance.now (R.remaining proof.old) (R.remaining proof.new) v) }
 {
     let mut head = CertificateHead::new(instance)?;
-    judge_headed(&mut head, instance, proof)
+    judge_own_head(&mut head, instance, proof)
 }
 
 // The verdict, where nothing was read before. It borrows the head, so that none of its exits has to
 // drop it.
-fn judge_headed<R: Read>(
+fn judge_own_head<R: Read>(
     head: &mut CertificateHead,
     instance: &Instance,
     proof: &mut R,

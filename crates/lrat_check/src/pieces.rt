@@ -267,7 +267,7 @@ impl Checker {
             return Ok(refused);
         }
         let judged = judge_rest(&mut self.machine, &self.rest);
-        // It was judged as a line.
+        // It may be counted as a line now: kept as well, there would be more than was fed.
         self.rest.clear();
         judged.map_err(|_| FeedFault::Memory)
     }

@@ -36,6 +36,7 @@ pub(crate) fn judge_stream<R: Read>(checker: Checker, proof: &mut R) -> Result<V
     match judge_pieces(&mut checker, proof) {
         Ok(()) => Ok(checker.finish()?),
         Err(fault) => {
+            // By a call: that is proved once, and not field by field here.
             drop(checker);
             Err(fault)
         }

@@ -123,7 +123,7 @@ WaitSays slots e r ok = MatchBool ok (IsTrueWaiting slots e r) (IsConflict slots
 -- what propagation answers: a conflict, or none, and then no attached clause is false or unit
 pub record Settles (slots : Slots) (e : EngineState) (found : Option ℕ) : Type 0 where
   pub conflict : FindsConflict slots e found
-  pub complete : IfNone found (IsAttachedFixpoint slots (is_attached e) e.trail)
+  pub fixpoint : IfNone found (IsAttachedFixpoint slots (is_attached e) e.trail)
 
 -- what is known of the clause of an entry in the row of a false literal
 pub record IsWatched (slots : Slots) (e : EngineState) (w : Literal)

@@ -289,7 +289,7 @@ impl Engine {
         ensures grows { GrowsByUnits store.now.slots self.old self.new }
         ensures conflict { IfOk result (λ found. IfSome found
             (λ r. (is_attached self.new r ≡ true) × IsFalseClause store.now.slots self.new r)) }
-        ensures complete { IfOk result (λ found. IfNone found
+        ensures fixpoint { IfOk result (λ found. IfNone found
             (IsAttachedFixpoint store.now.slots (is_attached self.new) self.new.trail)) }
         ensures attached { SameAttached self.old self.new }
         ensures variables { self.new.variables ≡ self.old.variables }

@@ -134,8 +134,8 @@ pub record EndsAs (profile : Profile) (text out out' proof proof' : Option (List
   pub run : IsRun profile text status written proved old new
 
 -- the text reads as this instance, and as no other
-abbrev pub IsReadAs : Option (List ℕ) → Problem → Type 0
-IsReadAs text p =
+abbrev pub ReadsOnlyAs : Option (List ℕ) → Problem → Type 0
+ReadsOnlyAs text p =
     IfSome text (λ bytes. Reads bytes p)
     × IfSome text (λ bytes. (q : Problem) → Reads bytes q → q ≡ p)
 

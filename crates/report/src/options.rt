@@ -350,7 +350,7 @@ struct Parameter<'a> {
     /// Its name.
     id: &'a str,
     /// How it is given.
-    form: Form<'a>,
+    form: ParameterForm<'a>,
     /// What its value has to be.
     values: ValueParser<'a>,
     /// Its value if it is not given: one, or none.
@@ -361,7 +361,7 @@ struct Parameter<'a> {
 
 /// How a parameter is given.
 #[derive(Clone, Copy)]
-enum Form<'a> {
+enum ParameterForm<'a> {
     /// As a word at its place.
     Word {
         /// Whether it has to be there.
@@ -391,7 +391,7 @@ struct Subcommand<'a> {
 /// The instance.
 const INSTANCE: Parameter<'static> = Parameter {
     id: FILE,
-    form: Form::Word { required: true },
+    form: ParameterForm::Word { required: true },
     values: ValueParser::String,
     default: &[],
     help: "The instance, a WCNF text",
@@ -400,7 +400,7 @@ const INSTANCE: Parameter<'static> = Parameter {
 /// The certificate.
 const CERTIFICATE: Parameter<'static> = Parameter {
     id: PROOF,
-    form: Form::Word { required: true },
+    form: ParameterForm::Word { required: true },
     values: ValueParser::String,
     default: &[],
     help: "The certificate, LRAT as text",
@@ -409,7 +409,7 @@ const CERTIFICATE: Parameter<'static> = Parameter {
 /// Which clauses say 'cheaper': `check` wants the profile that the certificate was made in.
 const PROFILE: Parameter<'static> = Parameter {
     id: PROFILE_OPTION,
-    form: Form::Option("1|2|3|4|5"),
+    form: ParameterForm::Option("1|2|3|4|5"),
     values: ValueParser::Names(&PROFILES),
     default: &[],
     help: PROFILE_HELP,
@@ -419,42 +419,42 @@ const PROFILE: Parameter<'static> = Parameter {
 const SOLVE_PARAMETERS: [Parameter<'static>; 8] = [
     Parameter {
         id: CONFLICTS_OPTION,
-        form: Form::Option("N"),
+        form: ParameterForm::Option("N"),
         values: ValueParser::Unsigned(0, MOST_CONFLICTS),
         default: &["1000000000"],
         help: CONFLICTS_HELP,
     },
     Parameter {
         id: PROOF_OPTION,
-        form: Form::Option("PATH"),
+        form: ParameterForm::Option("PATH"),
         values: ValueParser::String,
         default: &[],
         help: PROOF_HELP,
     },
     Parameter {
         id: BEST_OPTION,
-        form: Form::Option("PATH"),
+        form: ParameterForm::Option("PATH"),
         values: ValueParser::String,
         default: &[],
         help: BEST_HELP,
     },
     Parameter {
         id: LOWER_OPTION,
-        form: Form::Option("PATH"),
+        form: ParameterForm::Option("PATH"),
         values: ValueParser::String,
         default: &[],
         help: LOWER_HELP,
     },
     Parameter {
         id: FROM_OPTION,
-        form: Form::Option("RESULT"),
+        form: ParameterForm::Option("RESULT"),
         values: ValueParser::String,
         default: &[],
         help: FROM_HELP,
     },
     Parameter {
         id: PROGRESS_OPTION,
-        form: Form::Flag,
+        form: ParameterForm::Flag,
         values: ValueParser::Bool,
         default: &[],
         help: PROGRESS_HELP,
@@ -468,7 +468,7 @@ const CHECK_PARAMETERS: [Parameter<'static>; 4] = [
     INSTANCE,
     Parameter {
         id: RESULT,
-        form: Form::Word { required: true },
+        form: ParameterForm::Word { required: true },
         values: ValueParser::String,
         default: &[],
         help: RESULT_HELP,
@@ -476,7 +476,7 @@ const CHECK_PARAMETERS: [Parameter<'static>; 4] = [
     CERTIFICATE,
     Parameter {
         id: PROFILE_OPTION,
-        form: Form::Option("1|2|3|4|5|any"),
+        form: ParameterForm::Option("1|2|3|4|5|any"),
         values: ValueParser::Names(&PROFILES_OR_ANY),
         default: &[],
         help: PROFILE_OR_ANY_HELP,
@@ -491,14 +491,14 @@ const EXPLAIN_PARAMETERS: [Parameter<'static>; 3] = [
     INSTANCE,
     Parameter {
         id: RESULT,
-        form: Form::Word { required: false },
+        form: ParameterForm::Word { required: false },
         values: ValueParser::String,
         default: &[],
         help: RESULT_HELP,
     },
     Parameter {
         id: PROOF,
-        form: Form::Word { required: false },
+        form: ParameterForm::Word { required: false },
         values: ValueParser::String,
         default: &[],
         help: "A certificate of a lower bound, as solve --lower keeps it",
@@ -510,14 +510,14 @@ const ENCODE_PARAMETERS: [Parameter<'static>; 4] = [
     INSTANCE,
     Parameter {
         id: COST,
-        form: Form::Word { required: true },
+        form: ParameterForm::Word { required: true },
         values: ValueParser::Unsigned(0, MOST_COST),
         default: &[],
         help: "The bound: the formula says 'cheaper than COST'",
     },
     Parameter {
         id: PROOF_OPTION,
-        form: Form::Option("CERTIFICATE"),
+        form: ParameterForm::Option("CERTIFICATE"),
         values: ValueParser::String,
         default: &[],
         help: CERTIFICATE_HELP,
@@ -572,9 +572,9 @@ fn make_arg<'a>(alloc: Global, parameter: &Parameter<'a>) -> Arg<'a> {
         .default_values(parameter.default)
         .help(parameter.help);
     match parameter.form {
-        Form::Word { required } => arg.required(required),
-        Form::Option(value) => arg.long(parameter.id).value_name(value),
-        Form::Flag => arg.long(parameter.id).action(ArgAction::SetTrue),
+        ParameterForm::Word { required } => arg.required(required),
+        ParameterForm::Option(value) => arg.long(parameter.id).value_name(value),
+        ParameterForm::Flag => arg.long(parameter.id).action(ArgAction::SetTrue),
     }
 }
 

@@ -4,7 +4,7 @@ ghost use Rattle.improve.specs.Improving.{Improves};
 ghost use Rattle.improve.specs.Progress.{CanFail};
 ghost use Rattle.improve.specs.Standing.{AreFeasible};
 ghost use Rattle.improve.specs.Watch.{AreShown};
-ghost use Rattle.report.specs.Running.{EndsAs, IsReadAs, Leaves, Searches, outcome_of};
+ghost use Rattle.report.specs.Running.{EndsAs, ReadsOnlyAs, Leaves, Searches, outcome_of};
 ghost use Rattle.report.specs.Seen.{IsSeenAs, IsShownFor};
 
 use crate::answering::write_answer;
@@ -164,14 +164,14 @@ fn run_on<O: Write, P: Write, K: RunWatch>(
     profile: Profile,
     watch: &mut K,
 ) -> Result<Status, RunFault>
-    ensures ok { (text : Option (List ℕ)) → IsReadAs text instance.now
+    ensures ok { (text : Option (List ℕ)) → ReadsOnlyAs text instance.now
         → IfOk result (λ status. EndsAs profile text (O.contents out.old) (O.contents out.new)
         (P.contents proof.old) (P.contents proof.new) status budget.old budget.new) }
-    ensures fault { (text : Option (List ℕ)) → IsReadAs text instance.now
+    ensures fault { (text : Option (List ℕ)) → ReadsOnlyAs text instance.now
         → IfErr result (λ fault. Leaves profile fault text (O.contents out.old)
         (O.contents out.new) (P.contents proof.old) (P.contents proof.new) budget.new) }
     ensures same_limit { budget.new.limit ≡ budget.old.limit }
-    ensures seen { (text : Option (List ℕ)) → IsReadAs text instance.now
+    ensures seen { (text : Option (List ℕ)) → ReadsOnlyAs text instance.now
         → IfOk result (λ status. IsSeenAs profile text (O.contents out.old) (O.contents out.new)
         status (K.seen watch.old) (K.seen watch.new)) }
 {

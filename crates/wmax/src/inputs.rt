@@ -1,13 +1,14 @@
 //! What is at hand before a search begins: FILE, the solution with which it begins, and the files
 //! of earlier runs that it replaces.
 use crate::arguments::SolveRequest;
-use crate::refusals::{BEST, FROM, KeptFileFault, LOWER, Refused};
+use crate::refusals::{KeptFileFault, Refused};
 use adder::profiles::Profile;
 use explain::judging::{Judgement, read_bits};
 use lrat_check::checking::check_as;
 use lrat_check::lower::{LowerVerdict, check_lower};
 use lrat_check::verdicts::Cause;
 use report::fault::RunFault;
+use report::options::{BEST_OPTION, FROM_OPTION, LOWER_OPTION};
 use std::alloc::Global;
 use std::fs::File;
 use std::io::Read;
@@ -23,6 +24,8 @@ use wmax_onlooker::whole_file::WholePaths;
 pub(crate) struct Inputs<'a, F> {
     /// FILE.
     pub(crate) source: Source<F>,
+    /// RESULT, if there is one: it stays open, so that no other file gets its identity.
+    result: Option<F>,
     /// Where the search begins, if it has such a solution.
     pub(crate) start: Option<FirstSolution>,
     /// Where the best lower bound is kept, if it is to be kept.
@@ -79,6 +82,7 @@ impl<'a, F> Inputs<'a, F> {
     pub(crate) fn of_file(file: F) -> Self {
         Inputs {
             source: Source { file, whole: None },
+            result: None,
             start: None,
             bounds: None,
             kept: None,
@@ -86,17 +90,24 @@ impl<'a, F> Inputs<'a, F> {
     }
 }
 
-/// Takes what stands in the files that the options name. Nothing is written yet. The files that are
-/// read: FILE, and RESULT or FILE again.
+/// Takes what stands in the files of `--from`, `--lower` and `--best`; nothing is written yet. It
+/// answers which files are read: FILE and RESULT, or FILE twice.
+///
+/// # Errors
+///
+/// `Unreadable`, `Wrong`, `Lower` and `Best`, the first that is met; `Fault` with a fault of FILE,
+/// or `Memory`.
 pub(crate) fn prepare<'a, R: Files + AllocGlobal>(
     rt: &R,
     request: SolveRequest<'a>,
     inputs: &mut Inputs<'a, R::File>,
 ) -> Result<[FileId; 2], Refused<'a>> {
-    let here = find_file_id(&inputs.source.file).ok_or(UNREADABLE)?;
     let read = match request.from {
-        Some(path) => [here, take_start(rt, path, inputs)?],
-        None => [here, here],
+        Some(path) => take_start(rt, path, inputs)?,
+        None => {
+            let here = find_file_id(&inputs.source.file).ok_or(UNREADABLE)?;
+            [here, here]
+        }
     };
     if let Some(path) = request.lower {
         take_bounds(rt, request, path, read, inputs)?;
@@ -107,16 +118,26 @@ pub(crate) fn prepare<'a, R: Files + AllocGlobal>(
     Ok(read)
 }
 
-/// Takes the solution of a result, if it has one, which FILE judges; the file that was read.
+/// Takes the solution of RESULT, if it has one, which FILE judges. It answers which files these
+/// are.
 fn take_start<'a, R: Files + AllocGlobal>(
     rt: &R,
     path: &'a str,
     inputs: &mut Inputs<'a, R::File>,
-) -> Result<FileId, Refused<'a>> {
-    let mut result = File::open(rt, path).map_err(|_| Refused::of_file(UNREADABLE, FROM, path))?;
+) -> Result<[FileId; 2], Refused<'a>> {
+    let mut result = File::open(rt, path).map_err(|_| Refused::of_file(
+        UNREADABLE,
+        FROM_OPTION,
+        path,
+    ))?;
+    let here = find_file_id(&inputs.source.file).ok_or(UNREADABLE)?;
     let there = find_file_id(&result).ok_or(UNREADABLE)?;
     let text = inputs.source.read_whole(rt)?;
-    let said = read_file(rt, &mut result).map_err(|fault| Refused::of_file(fault, FROM, path))?;
+    let said = read_file(rt, &mut result).map_err(|fault| Refused::of_file(
+        fault,
+        FROM_OPTION,
+        path,
+    ))?;
     match judge_left(rt.alloc(), text, &said)? {
         Judgement::Unknown | Judgement::Unsatisfiable => {}
         Judgement::Right(cost) => inputs.start = read_start(rt.alloc(), &said, cost)?,
@@ -125,7 +146,8 @@ fn take_start<'a, R: Files + AllocGlobal>(
             return Err(Refused::Wrong(verdict.map_err(|_| RunFault::Memory)?));
         }
     }
-    Ok(there)
+    inputs.result = Some(result);
+    Ok([here, there])
 }
 
 /// The solution of a result, with which a search begins; it costs this.
@@ -150,7 +172,7 @@ fn take_bounds<'a, R: Files + AllocGlobal>(
     if are_named(rt, &paths, &[request.proof, request.best], read) {
         return Err(Refused::Lower(KeptFileFault::Taken));
     }
-    let left = read_left(rt, &paths, LOWER, path)?;
+    let left = read_left(rt, &paths, LOWER_OPTION, path)?;
     let is_free = left.is_empty();
     let lower = if is_free {
         0
@@ -169,7 +191,7 @@ fn take_bounds<'a, R: Files + AllocGlobal>(
 fn read_left<'a, R: Files + AllocGlobal>(
     rt: &R,
     paths: &WholePaths<'_>,
-    option: &'a str,
+    option: &'static str,
     path: &'a str,
 ) -> Result<Vec<u8>, Refused<'a>> {
     paths
@@ -226,7 +248,7 @@ fn take_best<'a, R: Files + AllocGlobal>(
     if is_named || paths.is_part_taken(rt, &[result]) {
         return Err(Refused::Best(KeptFileFault::Taken));
     }
-    let left = read_left(rt, &paths, BEST, path)?;
+    let left = read_left(rt, &paths, BEST_OPTION, path)?;
     let earlier = if left.is_empty() {
         None
     } else {

@@ -3,16 +3,10 @@
 use crate::checking::show;
 use lrat_check::verdicts::Verdict;
 use report::fault::RunFault;
+use report::options::{BEST_OPTION, LOWER_OPTION};
 use std::io::Write;
 use wmax_onlooker::files::refuse_file;
 use wmax_onlooker::standard_error::Messages;
-
-/// The options that name files beside that of the certificate.
-pub(crate) const FROM: &str = "--from";
-
-pub(crate) const BEST: &str = "--best";
-
-pub(crate) const LOWER: &str = "--lower";
 
 /// Why there is no run.
 #[derive(Clone, Copy, Drop)]
@@ -24,7 +18,7 @@ pub(crate) enum Refused<'a> {
     /// The file of an option cannot be opened or read.
     Unreadable {
         /// The option.
-        option: &'a str,
+        option: &'static str,
         /// The file.
         path: &'a str,
     },
@@ -42,7 +36,7 @@ impl From<RunFault> for Refused<'_> {
 
 impl<'a> Refused<'a> {
     /// Why there is no run where this file of an option cannot be read whole.
-    pub(crate) fn of_file(fault: RunFault, option: &'a str, path: &'a str) -> Self {
+    pub(crate) fn of_file(fault: RunFault, option: &'static str, path: &'a str) -> Self {
         match fault {
             RunFault::Read(_) => Refused::Unreadable { option, path },
             _ => Refused::Fault(fault),
@@ -62,7 +56,7 @@ pub(crate) enum KeptFileFault {
 }
 
 /// Tells why there is no run; the exit status.
-pub(crate) fn tell<R: Print, E: Write>(
+pub(crate) fn tell_refused<R: Print, E: Write>(
     rt: &R,
     messages: &mut Messages<'_, E>,
     refused: Refused<'_>,
@@ -71,13 +65,19 @@ pub(crate) fn tell<R: Print, E: Write>(
         Refused::Fault(fault) => Err(fault),
         Refused::Wrong(verdict) => show(rt, &verdict),
         Refused::Unreadable { option, path } => Ok(refuse_file(messages, option, path)),
-        Refused::Best(why) => Ok(refuse(messages, BEST, "correct result", why)),
-        Refused::Lower(why) => Ok(refuse(messages, LOWER, "certificate of a lower bound", why)),
+        Refused::Best(why) => Ok(refuse_kept(messages, BEST_OPTION, "correct result", why)),
+        Refused::Lower(why) => Ok(refuse_kept(
+            messages,
+            LOWER_OPTION,
+            "certificate of a lower bound",
+            why,
+        )),
     }
 }
 
-/// Tells why the file of an option cannot be kept, which wants this in it; the exit status.
-fn refuse<E: Write>(
+/// Tells why this option, whose file has to be a `wanted`, cannot have what it names; the exit
+/// status.
+fn refuse_kept<E: Write>(
     messages: &mut Messages<'_, E>,
     option: &str,
     wanted: &str,
@@ -87,13 +87,14 @@ fn refuse<E: Write>(
     let _ = match why {
         KeptFileFault::Taken => writeln!(
             out,
-            "error: {option} names another file of the run, or something other than a regular file"
+            "error: --{option} names another file of the run, or something other than a \
+             regular file"
         ),
         KeptFileFault::Other => writeln!(
             out,
-            "error: {option} names a file that is not a {wanted} for FILE"
+            "error: --{option} names a file that is not a {wanted} for FILE"
         ),
-        KeptFileFault::Unwritable => writeln!(out, "error: {option} cannot be written"),
+        KeptFileFault::Unwritable => writeln!(out, "error: --{option} cannot be written"),
     };
     match why {
         KeptFileFault::Taken | KeptFileFault::Other => 2,

@@ -2,7 +2,7 @@
 use crate::arguments::SolveRequest;
 use crate::inputs::{Inputs, Kept, Source, are_named, prepare};
 use crate::profiles::{choose_profile, refuse_profile};
-use crate::refusals::{KeptFileFault, Refused, tell};
+use crate::refusals::{KeptFileFault, Refused, tell_refused};
 use adder::profiles::Profile;
 use cdcl::budget::Budget;
 use report::best::RunWatch;
@@ -49,7 +49,7 @@ fn solve_file<'a, R: Files + AllocGlobal + Print + Clock, E: Write>(
     let mut inputs = Inputs::of_file(file);
     match prepare(rt, request, &mut inputs) {
         Ok(read) => solve_into(rt, messages, request, profile, inputs, read),
-        Err(refused) => tell(rt, messages, refused),
+        Err(refused) => tell_refused(rt, messages, refused),
     }
 }
 
@@ -76,20 +76,20 @@ fn solve_into<'a, R: Files + AllocGlobal + Print + Clock, E: Write>(
                     keepers,
                 )
             }
-            Err(refused) => tell(rt, messages, refused),
+            Err(refused) => tell_refused(rt, messages, refused),
         };
     };
     match open_outputs(rt, request, path, &mut inputs, read) {
-        Ok(Outputs { mut proof, keepers }) => {
+        Ok(RunOutputs { mut proof, keepers }) => {
             solve_over(rt, messages, request, profile, inputs, &mut proof, keepers)
         }
-        Err(refused) => tell(rt, messages, refused),
+        Err(refused) => tell_refused(rt, messages, refused),
     }
 }
 
 /// What is written.
 #[derive(Drop)]
-struct Outputs<'a, R: Files> {
+struct RunOutputs<'a, R: Files> {
     /// The certificate.
     proof: R::File,
     /// What keeps the best solution and the best lower bound.
@@ -112,7 +112,7 @@ fn open_outputs<'a, R: Files>(
     path: &str,
     inputs: &mut Inputs<'a, R::File>,
     read: [FileId; 2],
-) -> Result<Outputs<'a, R>, Refused<'a>> {
+) -> Result<RunOutputs<'a, R>, Refused<'a>> {
     let [here, _] = read;
     let proof = open_proof(rt, path, read)?;
     let there = find_file_id(&proof).ok_or(RunFault::ProofOutput)?;
@@ -120,7 +120,7 @@ fn open_outputs<'a, R: Files>(
     if !empty(&proof) {
         return Err(Refused::Fault(RunFault::ProofOutput));
     }
-    Ok(Outputs { proof, keepers })
+    Ok(RunOutputs { proof, keepers })
 }
 
 /// What keeps the best solution and the best lower bound, each of which can be written. Once that
@@ -131,6 +131,7 @@ fn start_keepers<'a, R: Files>(
     inputs: &mut Inputs<'a, R::File>,
     others: [FileId; 2],
 ) -> Result<Keepers<'a, R>, Refused<'a>> {
+    // The borrow checker covers no `map_err` with a variant.
     let keeper = match start_keeper(rt, inputs.kept.take(), others) {
         Ok(keeper) => keeper,
         Err(why) => return Err(Refused::Best(why)),

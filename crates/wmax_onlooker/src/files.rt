@@ -35,7 +35,7 @@ pub fn refuse_file<E: Write>(messages: &mut Messages<'_, E>, option: &str, path:
 {
     let _ = writeln!(
         messages.below(),
-        "error: Read: cannot open or read '{path}' ({option})"
+        "error: Read: cannot open or read '{path}' (--{option})"
     );
     3
 }

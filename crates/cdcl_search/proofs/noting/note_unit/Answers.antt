@@ -8,7 +8,7 @@ use Rattle.clauses.specs.Slots.{clause_at}
 use Rattle.propagate.specs.Trail.{Assigned, literals_of, reason_in}
 use Rattle.propagate.specs.Watches.{is_attached, IsVariable}
 use Rattle.cdcl_search.specs.declared.search.Search.{Search}
-use Rattle.cdcl_search.specs.Running.{HasRoom, AddsLine, Writes}
+use Rattle.cdcl_search.specs.Running.{HasRoom, LogsLine, Writes}
 use Rattle.cdcl_search.proofs.HintNames.{hint_ids}
 use Rattle.cdcl_search.proofs.Placing.{literal_small}
 use Rattle.cdcl_search.proofs.UnitLines.{flat_reason, IsNext, is_next, next_noted, adds_unit}
@@ -154,8 +154,8 @@ returns-clause-notes g c =
     let now = g.S.Sink.lines c.add_line.new.sink in
     let l : LogLine =
     record { kind = UnitKind; clause = k ∷ []; hints = c.deref.result.now } in
-    let added : AddsLine stamped c.add_line.new.self ls now l =
-    subst (λ (x : Search). AddsLine x c.add_line.new.self ls now l) only
+    let added : LogsLine stamped c.add_line.new.self ls now l =
+    subst (λ (x : Search). LogsLine x c.add_line.new.self ls now l) only
     c.in_ok-unit.ensures.added in
     let stored = added.stored in
     record {

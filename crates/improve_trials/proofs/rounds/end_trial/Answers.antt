@@ -6,13 +6,13 @@ use Rattle.improve_trials.specs.Trials.{IsCoreRefutation}
 use Rattle.improve_trials.proofs.CoreEnds.{shown, left_open}
 use Rattle.improve_trials.proofs.rounds.end_trial.Goals as goal
 
-pub returns-in-Yes-clause-round : goal.returns-in-Yes-clause-round
-returns-in-Yes-clause-round c =
+pub returns-in-Yes-clause-ended : goal.returns-in-Yes-clause-ended
+returns-in-Yes-clause-ended c =
     let h = c.requires.trial in
     shown c.args.instance.now c.args.cores c.args.trial h (rw c.in-Yes.is at h.end_is)
 
-pub returns-in_ok-push-in-Model-clause-round : goal.returns-in_ok-push-in-Model-clause-round
-returns-in_ok-push-in-Model-clause-round c =
+pub returns-in_ok-push-in-Model-clause-ended : goal.returns-in_ok-push-in-Model-clause-ended
+returns-in_ok-push-in-Model-clause-ended c =
     let h = c.requires.trial in
     let met = rw c.in-Model.is at h.end_is in
     refuted_feasible c.args.instance.now c.args.cores.items h.leaves c.in-Model.bits.items

@@ -47,7 +47,7 @@ loop-falsified-preserved c =
 pub returns-clause-settles : goal.returns-clause-settles
 returns-clause-settles c = record {
   conflict = tt;
-  complete =
+  fixpoint =
       complete c.loop-falsified.self c.args.store.now.slots c.in_default.ensures
       c.loop-falsified.invariant.waiting c.loop-falsified.invariant.goes_on.fits;
 }

@@ -4,7 +4,7 @@ use Rattle.std.proofs.lemmas.Result.{IfOk-weaker}
 use Rattle.lrat_check.specs.Lower.{lower_at}
 use Rattle.lrat_check.specs.declared.lower.LowerVerdict.TheVariants.{No}
 use Rattle.lrat_check.proofs.LowerLaws.{head_is_all, head_is_faulty}
-use Rattle.lrat_check.proofs.lower.judge_headed.Goals as goal
+use Rattle.lrat_check.proofs.lower.judge_own_head.Goals as goal
 
 pub end_own-requires-clause-is : goal.end_own-requires-clause-is
 end_own-requires-clause-is g c =
