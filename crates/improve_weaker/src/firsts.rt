@@ -141,7 +141,7 @@ fn rows_of(
     start: usize,
     counts: &[u32],
 ) -> Result<Vec<u32>, AllocError>
-    requires few { length counts.now < 2 ^ 28 }
+    requires few { length counts.now < 2 * VARIABLE_LIMIT }
     requires within { start ≤ length given.now }
     requires places { HavePlaces (length counts.now) given.now start (length given.now) }
     ensures rows { IfOk result (λ rows.
@@ -158,7 +158,7 @@ fn rows_of(
 
 /// The row of a clause, where so many clauses have each literal.
 fn row_of(counts: &[u32], lits: &[Lit]) -> u32
-    requires few { length counts.now < 2 ^ 28 }
+    requires few { length counts.now < 2 * VARIABLE_LIMIT }
     requires places { All (HasPlace (length counts.now)) lits.now }
     ensures row { IsRowOf (length counts.now) lits.now result }
     ensures within { result ≤ length counts.now }

@@ -24,7 +24,7 @@ Statuses:
   20  s UNSATISFIABLE    no assignment satisfies the hard clauses
   10  s SATISFIABLE      the effort ran out; the bits cost the last COST
    0  s UNKNOWN          the effort ran out before any solution was found
-   1  NO and its fault   the RESULT of --from is not correct for FILE
+   1  NO and the fault   the RESULT of --from is not correct for FILE
    2  FILE or the command line is faulty
    3  a file cannot be opened, read or written, or memory ran out
 
@@ -67,7 +67,7 @@ Faults:
   error: Memory              memory ran out
   error: Output              standard output cannot be written
   error: ProofOutput         the certificate cannot be written, or is an input
-docs/FAULTS.md and the manual page have the others.";
+docs/FAULTS.md and the manual page list the others.";
 
 const CHECK_NOTES: &str = "\
 Prints YES, or NO with the first fault and its line. For OPTIMUM FOUND, PROOF
@@ -103,7 +103,7 @@ Faults:
   NO CoreForm N             line N of PROOF: bad core line, or too many clauses
   NO CoreWeight N           the core on line N is worth 0, or more than is left
   NO CoreSum N              the cores before line N are worth less than the cost
-docs/FAULTS.md and the manual page have the others.";
+docs/FAULTS.md and the manual page list the others.";
 
 const LOWER_NOTES: &str = "\
 Prints 'at least L' if PROOF begins with core lines and is correct: no solution
@@ -130,7 +130,7 @@ Faults:
   NO NoEmptyClause 0  PROOF ends too soon
   NO CoreForm N       line N of PROOF: bad core line, or too many clauses
   NO CoreWeight N     the core on line N is worth 0, or more than is left
-docs/FAULTS.md and the manual page have the others.";
+docs/FAULTS.md and the manual page list the others.";
 
 const EXPLAIN_NOTES: &str = "\
 With RESULT: prints its cost, each soft clause that its bits give up, each hard
@@ -158,8 +158,8 @@ Faults:
   error: Read            a file cannot be opened or read
   error: Memory          memory ran out
   error: Output          standard output cannot be written
-'wmax solve --help' has more faults of FILE.
-docs/FAULTS.md and the manual page have all.";
+'wmax solve --help' lists more faults of FILE.
+docs/FAULTS.md and the manual page list all.";
 
 const ENCODE_NOTES: &str = "\
 The formula is satisfiable exactly when some solution costs less than COST. So a
@@ -185,8 +185,8 @@ Faults:
   error: Read                a file cannot be opened or read
   error: Memory              memory ran out
   error: Output              standard output cannot be written
-'wmax solve --help' has more faults of FILE.
-docs/FAULTS.md and the manual page have all.";
+'wmax solve --help' lists more faults of FILE.
+docs/FAULTS.md and the manual page list all.";
 
 const NOTES: &str = "\
 Statuses: solve 30, 20, 10, 0, 1; check, lower and explain 0, 1; encode 0; all
