@@ -94,11 +94,22 @@ mkdir -p "$work/folder"
 refused 'a folder' 2 "$taken" --lower folder --proof proof text
 refused 'a missing folder' 3 'cannot be written' --lower none/bound --proof proof text
 refused 'no name' 3 'cannot be written' --lower '' --proof proof text
+ok 'no name leaves nothing' [ ! -e "$work/.part" ]
 ln -s elsewhere "$work/linked"
 refused 'a link' 2 "$taken" --lower linked --proof proof text
 refused 'what the best solution is written to first' 2 "$taken" --lower best.part --best best text
 refused 'what the bound is written to first' 2 "$taken" --lower best --best best.part text
 refused 'the best solution by another name' 2 "$taken" --lower ./best --best best text
+cp "$work/bound" "$work/before"
+ln "$work/bound" "$work/best.part"
+for earlier in '' "$(printf 's SATISFIABLE\nv 10')"; do
+    rm -f "$work/best"
+    [ -z "$earlier" ] || printf 'o 3\n%s\n' "$earlier" > "$work/best"
+    call solve --best best --lower bound text
+    expect 'the bound, where the best solution is written to first' 2 '' "error: --best $taken"
+    ok 'the bound stays' cmp -s "$work/bound" "$work/before"
+done
+rm -f "$work/best.part"
 ok 'the link is one' [ -L "$work/linked" -a ! -e "$work/elsewhere" ]
 rm -f "$work/best"
 lines other 'core 3 1 3 4 0' '7 0 6 4 5 2 3 0'

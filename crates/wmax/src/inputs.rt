@@ -233,8 +233,9 @@ fn judge_bound<'a>(alloc: Global, text: &[u8], left: &[u8]) -> Result<u64, Refus
     }
 }
 
-/// Takes the file of `--best`, which may be none that are read and not that of the certificate.
-/// Where it has something already, that is judged by FILE, all of which is in memory then.
+/// Takes the file of `--best`. It may be RESULT, but neither it nor the file by way of which it is
+/// written may be any other of the run. Where it has something already, that is judged by FILE, all
+/// of which is in memory then.
 fn take_best<'a, R: Files + AllocGlobal>(
     rt: &R,
     request: SolveRequest<'a>,
@@ -244,7 +245,7 @@ fn take_best<'a, R: Files + AllocGlobal>(
 ) -> Result<(), Refused<'a>> {
     let [here, result] = read;
     let paths = WholePaths::new(rt.alloc(), path).map_err(|_| RunFault::Memory)?;
-    let is_named = are_named(rt, &paths, &[request.proof], [here, here]);
+    let is_named = are_named(rt, &paths, &[request.proof, request.lower], [here, here]);
     if is_named || paths.is_part_taken(rt, &[result]) {
         return Err(Refused::Best(KeptFileFault::Taken));
     }

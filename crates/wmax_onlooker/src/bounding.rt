@@ -61,6 +61,7 @@ impl<'a, R: Files> Bounder<'a, R> {
             file.try_drop()
         };
         if !is_written {
+            let _ = file.try_drop();
             return None;
         }
         Some(Bounder {
