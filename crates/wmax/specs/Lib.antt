@@ -1,1 +1,3 @@
 pub mod Checking
+pub mod Inputs
+pub mod Refusals

@@ -1,5 +1,10 @@
 //! What is at hand before a search begins: FILE, the solution with which it begins, and the files
 //! of earlier runs that it replaces.
+ghost use Rattle.std.specs.Prelude.{◌≡◌, ◌⊎◌, Some, None, IfOk, IfErr, IfSome, option_map};
+ghost use Rattle.explain.specs.Judging.{TellsBits};
+ghost use Rattle.lrat_check.specs.Lower.{lower_verdict};
+ghost use Rattle.wmax.specs.Inputs.{bound_left, undercuts};
+
 use crate::arguments::SolveRequest;
 use crate::refusals::{KeptFileFault, Refused};
 use adder::profiles::Profile;
@@ -151,7 +156,12 @@ fn take_start<'a, R: Files + AllocGlobal>(
 }
 
 /// The solution of a result, with which a search begins; it costs this.
-fn read_start(alloc: Global, said: &[u8], cost: u64) -> Result<Option<FirstSolution>, RunFault> {
+fn read_start(alloc: Global, said: &[u8], cost: u64) -> Result<Option<FirstSolution>, RunFault>
+    ensures bits { IfOk result
+        (λ start. TellsBits said.now (option_map (λ s. s.bits.items) start)) }
+    ensures cost { IfOk result (λ start. IfSome start (λ s. s.cost ≡ cost)) }
+    ensures fault { IfErr result (λ fault. fault ≡ RunFault.Memory) }
+{
     match read_bits(alloc, said) {
         Ok(Some(bits)) => Ok(Some(FirstSolution { cost, bits })),
         Ok(None) => Ok(None),
@@ -223,7 +233,13 @@ pub(crate) fn are_named<R: Files>(
 /// # Errors
 ///
 /// `Lower` where it proves nothing; `Memory`.
-fn judge_bound<'a>(alloc: Global, text: &[u8], left: &[u8]) -> Result<u64, Refused<'a>> {
+fn judge_bound<'a>(alloc: Global, text: &[u8], left: &[u8]) -> Result<u64, Refused<'a>>
+    ensures bound { IfOk result
+        (λ lower. bound_left (lower_verdict text.now left.now) ≡ Some lower) }
+    ensures other { IfErr result (λ why. (why ≡ Refused.Fault RunFault.Memory)
+        ⊎ ((why ≡ Refused.Lower KeptFileFault.Other)
+        × (bound_left (lower_verdict text.now left.now) ≡ None))) }
+{
     match check_lower(alloc, text, left) {
         Ok(LowerVerdict::AtLeast(lower)) => Ok(lower),
         Ok(LowerVerdict::NoSolution) => Ok(u64::MAX),
@@ -283,7 +299,9 @@ fn take_earlier<'a, R: AllocGlobal, F: Read>(
 }
 
 /// Whether this cost is less than that of the solution with which the search begins, if it has one.
-fn is_cheaper(cost: u64, start: &Option<FirstSolution>) -> bool {
+fn is_cheaper(cost: u64, start: &Option<FirstSolution>) -> bool
+    ensures { result ≡ undercuts cost start.now }
+{
     match start {
         Some(start) => cost < start.cost,
         None => true,

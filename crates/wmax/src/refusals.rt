@@ -1,5 +1,8 @@
 //! Why there is no run of `wmax solve`, beside the faults that every command has, and what is said
 //! of it.
+ghost use Rattle.std.specs.Prelude.{◌≡◌};
+ghost use Rattle.wmax.specs.Refusals.{kept_status};
+
 use crate::checking::show;
 use lrat_check::verdicts::Verdict;
 use report::fault::RunFault;
@@ -82,7 +85,9 @@ fn refuse_kept<E: Write>(
     option: &str,
     wanted: &str,
     why: KeptFileFault,
-) -> u8 {
+) -> u8
+    ensures status { result ≡ kept_status why }
+{
     let out = messages.below();
     let _ = match why {
         KeptFileFault::Taken => writeln!(
