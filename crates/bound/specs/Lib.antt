@@ -1,5 +1,6 @@
 pub mod Bound
 pub mod Relaxed
+pub mod Weighted
 pub mod Adding
 pub mod Vectors
 pub mod Encoding

@@ -44,6 +44,13 @@ pub enum Cause {
     CoreWeight,
     /// The cores are worth less together than the cost.
     CoreSum,
+    /// A line names a variable, clause, count, group or form that is not there, a variable twice,
+    /// or more outputs than a count has literals.
+    LineName,
+    /// With the line counts make more than 2^22 clauses, or facts have more than 2^32 terms.
+    LineLimit,
+    /// The form is not worth the cost of which a cut or a bound speaks.
+    CutWorth,
 }
 
 /// What a check found.

@@ -6,3 +6,4 @@ pub mod Blocks
 pub mod Plain
 pub mod Batch
 pub mod Blanks
+pub mod Words

@@ -1,0 +1,274 @@
+-- Linear lower bounds of the cost, and what follows from them (valid inequalities, Chvátal 1973).
+-- A fact is a linear function of the variables that is at least 0 in each solution that is cheap
+-- enough. A form is a multiple of the cost, less multiples of facts. So it is at most that multiple
+-- of the cost, and what its least value exceeds is too dear.
+use Rattle.std.specs.Prelude.{◌≡◌, ℕ, zero, suc, ℤ, pos, negsuc, ◌+ℤ◌, ◌-ℤ◌, ◌*ℤ◌, ◌+◌, ◌-◌, ◌*◌}
+use Rattle.std.specs.Prelude.{◌/◌, min, Bool, true, false, not, ◌&&◌, ◌||◌, List, [], ◌∷◌, ◌++◌}
+use Rattle.std.specs.Prelude.{length, map, Option, Some, None, Result, Ok, Err, nat_le, ◌==◌}
+use Rattle.std.specs.Prelude.{slice_get, slice_set, if◌then◌else◌}
+use Rattle.std.specs.List.{list_all, list_any}
+use Rattle.cnf.specs.Literal.{Literal, negation}
+use Rattle.cnf.specs.Clause.{contains_literal, greatest_variable, has_repeat, is_tautology}
+use Rattle.cnf.specs.declared.limits.TheConstants.{NUMBER_LIMIT}
+use Rattle.totalizer.specs.Stages.{Tree, Staged, outputs_of, size_of, stage, totalizer_of}
+use Rattle.linear.specs.Linear.{Linear, plus_constant, plus_literals}
+use Rattle.linear.specs.Costs.{CostForm, fixed_by, falsified, form_of, least, least_where, restarted}
+use Rattle.linear.specs.Costs.{widened}
+use Rattle.forms.specs.declared.faults.LineFault.{LineFault}
+use Rattle.forms.specs.declared.faults.LineFault.TheVariants.{Name, Limit, Worth}
+use Rattle.forms.specs.declared.faults.TheConstants.{MOST_COUNT_CLAUSES, MOST_TERMS}
+
+-- what has a number: facts with a number are said of these
+pub data Numbered : Type 0 where
+  -- a count: the number of its literals that are true, less that of its outputs that are; the
+  -- present form has it so many times
+  Count : (inputs : List Literal) (tree : Tree) (multiplier : ℕ) → Numbered
+  -- a group: 1, less the number of its literals that are true
+  Group : (inputs : List Literal) → Numbered
+
+-- what the lines so far leave
+pub record Forms : Type 0 where
+  -- the greatest variable of the formula and of counts
+  pub variables : ℕ
+  -- the present form, and the variables that a unit clause has given a value
+  pub form : CostForm
+  -- there was a form line
+  pub has_form : Bool
+  -- counts and groups, that with number 1 first
+  pub numbered : List Numbered
+  -- how many clauses counts have made
+  pub made : ℕ
+  -- how many terms the facts of form lines have had
+  pub terms : ℕ
+
+-- before the first line: a formula with variables up to a number, and the weights of the
+-- relaxation literals
+abbrev pub forms_of : ℕ → List (ℕ × Literal) → Forms
+forms_of variables weights = record {
+  variables = variables;
+  form = form_of (variables + 1) weights;
+  has_form = false;
+  numbered = [];
+  made = 0;
+  terms = 0;
+}
+
+-- a clause is live from now on: where it is a unit clause its variable has a value
+abbrev pub heard : List Literal → Forms → Forms
+heard (l ∷ []) s =
+    let wide = widened (l.variable + 1) s.form in
+    record s { form = record wide { fixed = fixed_by l wide.fixed } }
+heard c s = s
+
+-- literals of different variables, all of which are there
+abbrev pub are_known : Forms → List Literal → Bool
+are_known s c =
+    nat_le (greatest_variable c) s.variables && not (has_repeat c || is_tautology c)
+
+-- a line's clauses, and what it leaves
+pub record Made : Type 0 where
+  pub forms : Forms
+  pub clauses : List (List Literal)
+
+-- the variables of a stage are there, unless its clauses would be too many
+abbrev pub with_stage : Forms → Staged → (Forms → Forms) → Result Made LineFault
+with_stage s g next =
+    if nat_le (s.made + length g.clauses) MOST_COUNT_CLAUSES then Ok (record {
+      forms = next (record s {
+        variables = g.fresh - 1;
+        form = widened g.fresh s.form;
+        made = s.made + length g.clauses;
+      });
+      clauses = g.clauses;
+    }) else Err Limit
+
+-- a count of these literals, with so many outputs
+abbrev pub count_line : ℕ → List Literal → Forms → Result Made LineFault
+count_line outputs inputs s =
+    if are_known s inputs && nat_le 1 outputs && nat_le outputs (length inputs) then
+    counted (totalizer_of outputs (s.variables + 1) inputs) else Err Name
+  where
+    counted : Staged → Result Made LineFault
+    counted g = with_stage s g (λ t. record t {
+      numbered = s.numbered ++ Count inputs g.tree 0 ∷ [];
+    })
+
+-- by number from 1
+abbrev pub at_number : List Numbered → ℕ → Option Numbered
+at_number ns zero = None
+at_number ns (suc j) = slice_get ns j
+
+-- the form with so many times these literals more
+abbrev pub plus : ℤ → List Literal → CostForm → CostForm
+plus w ls f = record f { rest = plus_literals w ls f.rest }
+
+-- one more output of the count with this number, which belongs to the count's fact in the form
+abbrev pub more_line : ℕ → Forms → Result Made LineFault
+more_line number s = by (at_number s.numbered number)
+  where
+    -- the outputs of the last stage
+    latest : Tree → List Literal
+    latest t = lasts (outputs_of t)
+      where
+        lasts : List Literal → List Literal
+        lasts [] = []
+        lasts (l ∷ []) = l ∷ []
+        lasts (l ∷ k ∷ more) = lasts (k ∷ more)
+
+    grown : List Literal → ℕ → Staged → Result Made LineFault
+    grown inputs multiplier g = with_stage s g (λ t. record t {
+      form = plus (pos multiplier) (latest g.tree) t.form;
+      numbered = slice_set s.numbered (number - 1) (Count inputs g.tree multiplier);
+    })
+
+    by : Option Numbered → Result Made LineFault
+    by None = Err Name
+    by (Some (Group inputs)) = Err Name
+    by (Some (Count inputs tree multiplier)) =
+        if nat_le (size_of tree) (length (outputs_of tree)) then Err Name else
+        grown inputs multiplier (stage (length (outputs_of tree) + 1) (s.variables + 1) tree)
+
+-- the pairs of each literal with those before it
+abbrev pub pairs_with : Literal → List Literal → List (Literal × Literal)
+pairs_with l before = map (λ k. (k, l)) before
+
+abbrev pub pairs_after : List Literal → List Literal → List (Literal × Literal)
+pairs_after before [] = []
+pairs_after before (l ∷ ls) = pairs_with l before ++ pairs_after (before ++ l ∷ []) ls
+
+abbrev pub pairs_of : List Literal → List (Literal × Literal)
+pairs_of ls = pairs_after [] ls
+
+-- the clause has no literal but the negations of the pair
+abbrev pub excludes : Literal × Literal → List Literal → Bool
+excludes pair c = list_all (λ l. contains_literal l (negation pair.0 ∷ negation pair.1 ∷ [])) c
+
+-- each pair has a clause of its own
+abbrev pub are_excluded : List (Literal × Literal) → List (List Literal) → Bool
+are_excluded [] [] = true
+are_excluded (p ∷ ps) (c ∷ cs) = excludes p c && are_excluded ps cs
+are_excluded ps cs = false
+
+-- a group of these literals, at most one of which is true, as these clauses say of each pair
+abbrev pub group_line : List Literal → List (List Literal) → Forms → Result Forms LineFault
+group_line inputs clauses s =
+    if are_known s inputs && nat_le 2 (length inputs) && are_excluded (pairs_of inputs) clauses
+    then Ok (record s { numbered = s.numbered ++ Group inputs ∷ [] }) else Err Name
+
+-- a fact: of a clause, the number of its literals that are true, less 1; or that of a count or
+-- group
+pub data Fact : Type 0 where
+  Clause : List Literal → Fact
+  Number : ℕ → Fact
+
+pub record Term : Type 0 where
+  pub weight : ℕ
+  pub fact : Fact
+
+-- how many terms a fact has; none where it is not there
+abbrev pub fact_size : List Numbered → Fact → Option ℕ
+fact_size ns (Clause c) = Some (length c)
+fact_size ns (Number j) = by (at_number ns j)
+  where
+    by : Option Numbered → Option ℕ
+    by None = None
+    by (Some (Group inputs)) = Some (length inputs)
+    by (Some (Count inputs tree multiplier)) = Some (length inputs + length (outputs_of tree))
+
+-- of all facts, where they are there
+abbrev pub facts_size : List Numbered → List Term → Option ℕ
+facts_size ns [] = Some 0
+facts_size ns (f ∷ fs) = add (fact_size ns f.fact) (facts_size ns fs)
+  where
+    add : Option ℕ → Option ℕ → Option ℕ
+    add None n = None
+    add (Some m) None = None
+    add (Some m) (Some n) = Some (m + n)
+
+abbrev pub less : ℕ → List Literal → CostForm → CostForm
+less w ls f = plus (pos 0 -ℤ pos w) ls f
+
+abbrev pub plus_number : ℤ → CostForm → CostForm
+plus_number w f = record f { rest = plus_constant w f.rest }
+
+-- the form less so many times a fact, which is there
+abbrev pub less_fact : Forms → Term → Forms
+less_fact s e = by e.fact
+  where
+    numbered : ℕ → Option Numbered → Forms
+    numbered j None = s
+    numbered j (Some (Group inputs)) =
+        record s { form = plus_number (pos 0 -ℤ pos e.weight) (plus (pos e.weight) inputs s.form) }
+    numbered j (Some (Count inputs tree multiplier)) = record s {
+      form = plus (pos e.weight) (outputs_of tree) (less e.weight inputs s.form);
+      numbered = slice_set s.numbered (j - 1) (Count inputs tree (multiplier + e.weight));
+    }
+
+    by : Fact → Forms
+    by (Clause c) =
+        record s {
+          form = plus_number (pos e.weight)
+              (less e.weight c (widened (greatest_variable c + 1) s.form));
+        }
+    by (Number j) = numbered j (at_number s.numbered j)
+
+abbrev pub less_facts : Forms → List Term → Forms
+less_facts s [] = s
+less_facts s (e ∷ es) = less_facts (less_fact s e) es
+
+-- no fact belongs to a form that is gone
+abbrev pub cleared : List Numbered → List Numbered
+cleared ns = map clear ns
+  where
+    clear : Numbered → Numbered
+    clear (Count inputs tree multiplier) = Count inputs tree 0
+    clear (Group inputs) = Group inputs
+
+-- so many times the cost, in place of the present form, or that form itself
+abbrev pub begun : Option ℕ → Forms → Forms
+begun None s = s
+begun (Some scale) s =
+    record s { form = restarted scale s.form; has_form = true; numbered = cleared s.numbered }
+
+-- a form: so many times the cost or the present form, less these facts
+abbrev pub form_line : Option ℕ → List Term → Forms → Result Forms LineFault
+form_line scale facts s =
+    if goes_on scale && not s.has_form then Err Name else by (facts_size s.numbered facts)
+  where
+    goes_on : Option ℕ → Bool
+    goes_on None = true
+    goes_on (Some d) = false
+
+    by : Option ℕ → Result Forms LineFault
+    by None = Err Name
+    by (Some size) =
+        if nat_le (s.terms + size) MOST_TERMS then
+        Ok (record (less_facts (begun scale s) facts) { terms = s.terms + size })
+        else Err Limit
+
+-- what a least value is worth: the greatest cost k up to 2^62 for which it is above the scale times
+-- k - 1. None where it is so for no cost
+abbrev pub worth_of : ℕ → ℤ → Option ℕ
+worth_of zero low = by low
+  where
+    by : ℤ → Option ℕ
+    by (pos zero) = None
+    by (pos (suc n)) = Some NUMBER_LIMIT
+    by (negsuc n) = None
+worth_of (suc d) low = by (low +ℤ pos d)
+  where
+    by : ℤ → Option ℕ
+    by (pos n) = Some (min NUMBER_LIMIT (n / suc d))
+    by (negsuc n) = None
+
+-- what the cut is worth, a clause of these literals: in a cheaper solution it is true, since else
+-- the form would be too great
+abbrev pub cut_line : List Literal → Forms → Result (Option ℕ) LineFault
+cut_line c s =
+    if are_known s c && s.has_form then
+    Ok (worth_of (s.form).scale (least_where s.form (falsified c (s.form).fixed)))
+    else Err Name
+
+-- what the form is worth by itself
+abbrev pub bound_line : Forms → Result (Option ℕ) LineFault
+bound_line s = if s.has_form then Ok (worth_of (s.form).scale (least s.form)) else Err Name

@@ -1,0 +1,52 @@
+-- Worked lines.
+use Rattle.std.specs.Prelude.{◌≡◌, ℕ, List, [], ◌∷◌, Option, Some, None, Result, Ok, Err, refl}
+use Rattle.cnf.specs.Literal.{Literal, positive as p, negative as n}
+use Rattle.forms.specs.declared.faults.LineFault.{LineFault}
+use Rattle.forms.specs.declared.faults.LineFault.TheVariants.{Name, Limit, Worth}
+use Rattle.forms.specs.Forms.{Forms, Made, Term, Clause, Number, forms_of, heard, count_line}
+use Rattle.forms.specs.Forms.{more_line, group_line, form_line, cut_line, bound_line}
+
+-- 3 for the first variable, 4 for the second
+abbrev shop : Forms
+shop = forms_of 2 ((3, p 1) ∷ (4, p 2) ∷ [])
+
+abbrev term : ℕ → List Literal → Term
+term w c = record { weight = w; fact = Clause c }
+
+abbrev worth : Result Forms LineFault → List Literal → Result (Option ℕ) LineFault
+worth (Err e) c = Err e
+worth (Ok s) c = cut_line c s
+
+-- three times the first clause
+all : worth (form_line (Some 1) (term 3 (p 1 ∷ p 2 ∷ []) ∷ []) shop) [] ≡ Ok (Some 3)
+all = refl
+
+coffee : worth (form_line (Some 1) [] shop) (n 2 ∷ []) ≡ Ok (Some 4)
+coffee = refl
+
+tea : worth (form_line (Some 1) [] (heard (p 1 ∷ []) shop)) [] ≡ Ok (Some 3)
+tea = refl
+
+no_form : cut_line [] shop ≡ Err Name
+no_form = refl
+
+twice : worth (form_line (Some 1) [] shop) (p 1 ∷ n 1 ∷ []) ≡ Err Name
+twice = refl
+
+unknown : worth (form_line (Some 1) [] shop) (p 3 ∷ []) ≡ Err Name
+unknown = refl
+
+-- half of 7, rounded up
+half : worth (form_line (Some 2) (term 7 (p 1 ∷ p 2 ∷ []) ∷ []) shop) [] ≡ Ok (Some 3)
+half = refl
+
+on : Result Made LineFault → (Forms → Result (Option ℕ) LineFault) → Result (Option ℕ) LineFault
+on (Err e) next = Err e
+on (Ok m) next = next m.forms
+
+-- a count of both with one output, which is known to be true
+counted : on (count_line 1 (p 1 ∷ p 2 ∷ []) shop)
+    (λ s. worth (form_line (Some 1) (record { weight = 3; fact = Number 1 } ∷ []) (heard (p 3 ∷ []) s)) [])
+    ≡ Ok (Some 3)
+unfolding on
+counted = refl

@@ -1,0 +1,4 @@
+//! Forms and cuts: linear lower bounds of the cost, and the clauses that follow from them.
+#![tactic(auto)]
+
+pub mod faults;

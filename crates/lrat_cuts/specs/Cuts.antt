@@ -1,0 +1,213 @@
+-- Certificates of forms and cuts: LRAT whose additions are RUP alone, with lines that bring linear
+-- lower bounds of the cost and the clauses that follow from them. The first fault decides.
+use Rattle.std.specs.Prelude.{ℕ, zero, suc, ◌+◌, min, max, Bool, true, false, not, ◌||◌, List, []}
+use Rattle.std.specs.Prelude.{◌∷◌, ◌++◌, length, map, Option, Some, None, Result, Ok, Err}
+use Rattle.std.specs.Prelude.{nat_le, ◌==◌, is_some, if◌then◌else◌}
+use Rattle.std.specs.List.{list_any}
+use Rattle.cnf.specs.Literal.{Literal, negation}
+use Rattle.cnf.specs.Clause.{has_repeat, is_tautology}
+use Rattle.cnf.specs.Lrat.{Live, CandidateHints}
+use Rattle.cnf.specs.Problem.{Problem}
+use Rattle.cnf.specs.declared.limits.TheConstants.{NUMBER_LIMIT, VARIABLE_LIMIT}
+use Rattle.bound.specs.Weighted.{weighted_cnf, weights_of}
+use Rattle.forms.specs.Forms.{Forms, Made, Fact, Clause, Number, Term, forms_of, heard, count_line}
+use Rattle.forms.specs.Forms.{more_line, group_line, form_line, cut_line, bound_line}
+use Rattle.forms.specs.declared.faults.LineFault.{LineFault}
+use Rattle.forms.specs.declared.faults.LineFault.TheVariants.{Name, Limit, Worth}
+use Rattle.lrat_live.specs.Listed.{Listed, listed_at, without_id}
+use Rattle.lrat_read.specs.Form.{Parsed, Addition, Deletion, Malformed, line_of, leading, groups_of}
+use Rattle.lrat_read.specs.Words.{NamedFact, Word, WordLine, CountLine, MoreLine, GroupLine, FormLine}
+use Rattle.lrat_read.specs.Words.{CutLine, BoundLine, word_of, after_word}
+use Rattle.lrat_machine.specs.Steps.{live_of}
+use Rattle.lrat_machine.specs.Verdict.{HintWalk, Open, Refuted, Fault, walk}
+use Rattle.lrat_machine.specs.declared.verdicts.Cause.{Cause}
+use Rattle.lrat_machine.specs.declared.verdicts.Cause.TheVariants.{LineForm, IdOrder, DeadId}
+use Rattle.lrat_machine.specs.declared.verdicts.Cause.TheVariants.{HintAfterConflict, NoConflict}
+use Rattle.lrat_machine.specs.declared.verdicts.Cause.TheVariants.{NoEmptyClause, TrailingLine}
+use Rattle.lrat_machine.specs.declared.verdicts.Cause.TheVariants.{ClauseForm, LineName, LineLimit}
+use Rattle.lrat_machine.specs.declared.verdicts.Cause.TheVariants.{CutWorth}
+
+-- what the lines so far leave
+pub record CutsState : Type 0 where
+  -- the live clauses with their ids
+  pub live : Listed
+  pub last : ℕ
+  pub forms : Forms
+  -- the empty clause was added
+  pub ended : Bool
+  -- the least that a cut so far is worth: what is live holds in each solution that costs less
+  pub worth : ℕ
+  -- the greatest lower bound of the cost that was proved
+  pub proved : ℕ
+
+abbrev pub cause_of : LineFault → Cause
+cause_of Name = LineName
+cause_of Limit = LineLimit
+cause_of Worth = CutWorth
+
+abbrev pub is_empty : List Literal → Bool
+is_empty [] = true
+is_empty (l ∷ c) = false
+
+-- a clause is live under an id above the last. The empty clause refutes all that costs less than
+-- the cuts are worth
+abbrev pub put : ℕ → List Literal → CutsState → CutsState
+put id c s = record s {
+  live = s.live ++ (id, c) ∷ [];
+  last = id;
+  forms = heard c s.forms;
+  ended = is_empty c;
+  proved = if is_empty c then max s.proved s.worth else s.proved;
+}
+
+-- clauses that a line makes, under the ids that follow the last one
+abbrev pub put_all : List (List Literal) → CutsState → CutsState
+put_all [] s = s
+put_all (c ∷ cs) s = put_all cs (put (s.last + 1) c s)
+
+-- before the first line: an empty clause of the formula ends nothing
+abbrev pub cuts_start : Problem → CutsState
+cuts_start p =
+    let blank : CutsState = record {
+      live = [];
+      last = 0;
+      forms = forms_of (weighted_cnf p).variables (weights_of p);
+      ended = false;
+      worth = NUMBER_LIMIT;
+      proved = 0;
+    } in
+    record (put_all (weighted_cnf p).clauses blank) { ended = false; proved = 0 }
+
+-- an addition has to have a conflict by its hints, and no groups
+abbrev pub rup_fault : Live → ℕ → List Literal → List (Bool × ℕ) → Option Cause
+rup_fault live id c hints =
+    if nat_le id live.last then Some IdOrder
+    else if has_repeat c || is_tautology c
+    || list_any (λ l. nat_le VARIABLE_LIMIT l.variable) c then Some ClauseForm
+    else by (walk live.clause_at (map negation c) (leading hints)) (groups_of hints)
+  where
+    by : HintWalk → List CandidateHints → Option Cause
+    by (Fault f) gs = Some f
+    by Refuted [] = None
+    by Refuted (g ∷ gs) = Some HintAfterConflict
+    by (Open B) gs = Some NoConflict
+
+-- after the ids of a deletion, in order
+abbrev pub deleted_from : Listed → List ℕ → Option Listed
+deleted_from es [] = Some es
+deleted_from es (i ∷ is) =
+    if is_some (listed_at es i) then deleted_from (without_id i es) is else None
+
+abbrev pub judged_plain : Parsed → CutsState → Result CutsState Cause
+judged_plain Malformed s = Err LineForm
+judged_plain (Deletion ids) s = left (deleted_from s.live ids)
+  where
+    left : Option Listed → Result CutsState Cause
+    left None = Err DeadId
+    left (Some es) = Ok (record s { live = es })
+judged_plain (Addition id c hints) s = by (rup_fault (live_of s.last s.live) id c hints)
+  where
+    by : Option Cause → Result CutsState Cause
+    by None = Ok (put id c s)
+    by (Some f) = Err f
+
+-- the clauses with these ids
+abbrev pub clauses_at : Listed → List ℕ → Option (List (List Literal))
+clauses_at es [] = Some []
+clauses_at es (i ∷ is) = by (listed_at es i) (clauses_at es is)
+  where
+    by : Option (List Literal) → Option (List (List Literal)) → Option (List (List Literal))
+    by None cs = None
+    by (Some c) None = None
+    by (Some c) (Some cs) = Some (c ∷ cs)
+
+-- the facts with these names
+abbrev pub facts_at : Listed → List NamedFact → Option (List Term)
+facts_at es [] = Some []
+facts_at es (f ∷ fs) = by (if f.is_numbered then Some (Number f.number) else clause (listed_at es f.number)) (facts_at es fs)
+  where
+    clause : Option (List Literal) → Option Fact
+    clause None = None
+    clause (Some c) = Some (Clause c)
+
+    by : Option Fact → Option (List Term) → Option (List Term)
+    by None es = None
+    by (Some e) None = None
+    by (Some e) (Some es) = Some (record { weight = f.weight; fact = e } ∷ es)
+
+abbrev pub on_clauses : CutsState → Result Made LineFault → Result CutsState Cause
+on_clauses s (Err e) = Err (cause_of e)
+on_clauses s (Ok m) = Ok (put_all m.clauses (record s { forms = m.forms }))
+
+abbrev pub on_forms : CutsState → Result Forms LineFault → Result CutsState Cause
+on_forms s (Err e) = Err (cause_of e)
+on_forms s (Ok f) = Ok (record s { forms = f })
+
+-- what a cut is taken for: where it has to hold for a cost, it has to be worth that. Else it is
+-- right if it is so for any cost, or says of a multiple of the cost that it is not below 0
+abbrev pub taken_worth : Option ℕ → ℕ → Option ℕ → Option ℕ
+taken_worth (Some cost) scale None = None
+taken_worth (Some cost) scale (Some w) = if nat_le cost w then Some w else None
+taken_worth None scale (Some w) = Some w
+taken_worth None zero None = None
+taken_worth None (suc d) None = Some 0
+
+abbrev pub judged_cut : Option ℕ → List Literal → CutsState → Result CutsState Cause
+judged_cut cost c s = by (cut_line c s.forms)
+  where
+    taken : Option ℕ → Result CutsState Cause
+    taken None = Err CutWorth
+    taken (Some w) = Ok (put (s.last + 1) c (record s { worth = min s.worth w }))
+
+    by : Result (Option ℕ) LineFault → Result CutsState Cause
+    by (Err e) = Err (cause_of e)
+    by (Ok w) = taken (taken_worth cost ((s.forms).form).scale w)
+
+-- a lower bound holds up to what the cuts are worth, since unit clauses may come from these
+abbrev pub judged_bound : ℕ → CutsState → Result CutsState Cause
+judged_bound lower s = by (bound_line s.forms)
+  where
+    by : Result (Option ℕ) LineFault → Result CutsState Cause
+    by (Err e) = Err (cause_of e)
+    by (Ok None) = Err CutWorth
+    by (Ok (Some w)) =
+        if nat_le lower w then Ok (record s { proved = max s.proved (min lower s.worth) })
+        else Err CutWorth
+
+abbrev pub judged_word : Option ℕ → Option WordLine → CutsState → Result CutsState Cause
+judged_word cost None s = Err LineForm
+judged_word cost (Some (CountLine outputs inputs)) s = on_clauses s (count_line outputs inputs s.forms)
+judged_word cost (Some (MoreLine number)) s = on_clauses s (more_line number s.forms)
+judged_word cost (Some (GroupLine inputs ids)) s = by (clauses_at s.live ids)
+  where
+    by : Option (List (List Literal)) → Result CutsState Cause
+    by None = Err LineName
+    by (Some cs) = on_forms s (group_line inputs cs s.forms)
+judged_word cost (Some (FormLine scale facts)) s = by (facts_at s.live facts)
+  where
+    by : Option (List Term) → Result CutsState Cause
+    by None = Err LineName
+    by (Some es) = on_forms s (form_line scale es s.forms)
+judged_word cost (Some (CutLine c)) s = judged_cut cost c s
+judged_word cost (Some (BoundLine lower)) s = judged_bound lower s
+
+-- one line, as its tokens. Cuts have to hold for a cost, if there is one
+abbrev pub judged_line : Option ℕ → CutsState → List (List ℕ) → Result CutsState Cause
+judged_line cost s [] = Ok s
+judged_line cost s (t ∷ ts) = if s.ended then Err TrailingLine else by (word_of t)
+  where
+    by : Option Word → Result CutsState Cause
+    by None = judged_plain (line_of (t ∷ ts)) s
+    by (Some w) = judged_word cost (after_word w ts) s
+
+-- the lines that are left, the first of which has number n
+abbrev pub judged_lines : Option ℕ → CutsState → ℕ → List (List (List ℕ))
+    → Result CutsState (Cause × ℕ)
+judged_lines cost s n [] = Ok s
+judged_lines cost s n (ts ∷ more) =
+    by (judged_line cost s ts) (λ next. judged_lines cost next (n + 1) more)
+  where
+    by : Result CutsState Cause → (CutsState → Result CutsState (Cause × ℕ))
+        → Result CutsState (Cause × ℕ)
+    by (Err f) next = Err (f, n)
+    by (Ok t) next = next t

@@ -1,0 +1,57 @@
+-- Worked certificates.
+use Rattle.std.specs.Prelude.{◌≡◌, ℕ, List, [], ◌∷◌, map, Option, Some, None, Result, Ok, Err, refl}
+use lib.Chars.{codes}
+use Rattle.cnf.specs.Literal.{positive as p, negative as n}
+use Rattle.cnf.specs.Problem.{Problem}
+use Rattle.text.specs.Text.{tokens_of}
+use Rattle.lrat_machine.specs.declared.verdicts.Cause.{Cause}
+use Rattle.lrat_machine.specs.declared.verdicts.Cause.TheVariants.{CutWorth, LineName, LineForm}
+use Rattle.lrat_machine.specs.declared.verdicts.Cause.TheVariants.{TrailingLine, NoConflict}
+use Rattle.lrat_cuts.specs.Cuts.{CutsState, cuts_start, judged_lines}
+
+-- one of both is needed; the first costs 3, the second 4
+abbrev shop : Problem
+shop = record {
+  variables = 2;
+  hard = (p 1 ∷ p 2 ∷ []) ∷ [];
+  soft =
+      record { weight = 3; clause = n 1 ∷ [] } ∷ record { weight = 4; clause = n 2 ∷ [] } ∷ [];
+}
+
+-- the greatest bound that was proved, where all lines are right
+abbrev proved : Option ℕ → List (List ℕ) → Result ℕ (Cause × ℕ)
+proved cost lines = by (judged_lines cost (cuts_start shop) 1 (map tokens_of lines))
+  where
+    by : Result CutsState (Cause × ℕ) → Result ℕ (Cause × ℕ)
+    by (Err e) = Err e
+    by (Ok s) = Ok s.proved
+
+three : proved (Some 3) (codes "form 1 3 1 0" ∷ codes "cut 0" ∷ []) ≡ Ok 3
+three = refl
+
+found : proved (Some 3)
+    (codes "form 1 0" ∷ codes "cut -2 0" ∷ codes "3 1 0 2 1 0" ∷ codes "cut 0" ∷ []) ≡ Ok 3
+found = refl
+
+four : proved (Some 4) (codes "form 1 3 1 0" ∷ codes "cut 0" ∷ []) ≡ Err (CutWorth, 2)
+four = refl
+
+none : proved None (codes "form 1 3 1 0" ∷ codes "bound 2 0" ∷ []) ≡ Ok 2
+none = refl
+
+dear : proved None (codes "form 1 3 1 0" ∷ codes "bound 4 0" ∷ []) ≡ Err (CutWorth, 2)
+dear = refl
+
+dead : proved None (codes "form 1 3 2 0" ∷ []) ≡ Err (LineName, 1)
+dead = refl
+
+open_line : proved None (codes "form 1 3 1" ∷ []) ≡ Err (LineForm, 1)
+open_line = refl
+
+trailing : proved None (codes "form 1 3 1 0" ∷ codes "cut 0" ∷ [] ∷ codes "cut 0" ∷ [])
+    ≡ Err (TrailingLine, 4)
+trailing = refl
+
+-- no RAT line
+no_rat : proved None (codes "2 3 1 0 0" ∷ []) ≡ Err (NoConflict, 1)
+no_rat = refl
