@@ -14,6 +14,8 @@ use Rattle.totalizer.specs.Stages.{Tree, Staged, outputs_of, size_of, stage, tot
 use Rattle.linear.specs.Linear.{Linear, plus_constant, plus_literals}
 use Rattle.linear.specs.Costs.{CostForm, fixed_by, falsified, form_of, least, least_where, restarted}
 use Rattle.linear.specs.Costs.{widened}
+use Rattle.cnf.specs.Refute.{Clauses}
+use Rattle.forms.specs.declared.types.NamedFact.{NamedFact}
 use Rattle.forms.specs.declared.faults.LineFault.{LineFault}
 use Rattle.forms.specs.declared.faults.LineFault.TheVariants.{Name, Limit, Worth}
 use Rattle.forms.specs.declared.faults.TheConstants.{MOST_COUNT_CLAUSES, MOST_TERMS}
@@ -143,42 +145,42 @@ pairs_of ls = pairs_after [] ls
 abbrev pub excludes : Literal × Literal → List Literal → Bool
 excludes pair c = list_all (λ l. contains_literal l (negation pair.0 ∷ negation pair.1 ∷ [])) c
 
--- each pair has a clause of its own
-abbrev pub are_excluded : List (Literal × Literal) → List (List Literal) → Bool
-are_excluded [] [] = true
-are_excluded (p ∷ ps) (c ∷ cs) = excludes p c && are_excluded ps cs
-are_excluded ps cs = false
+-- each pair has a clause of its own, by its number
+abbrev pub are_excluded : Clauses → List (Literal × Literal) → List ℕ → Bool
+are_excluded at [] [] = true
+are_excluded at [] (i ∷ is) = false
+are_excluded at (p ∷ ps) [] = false
+are_excluded at (p ∷ ps) (i ∷ is) = by (at i) && are_excluded at ps is
+  where
+    by : Option (List Literal) → Bool
+    by None = false
+    by (Some c) = excludes p c
 
--- a group of these literals, at most one of which is true, as these clauses say of each pair
-abbrev pub group_line : List Literal → List (List Literal) → Forms → Result Forms LineFault
-group_line inputs clauses s =
-    if are_known s inputs && nat_le 2 (length inputs) && are_excluded (pairs_of inputs) clauses
+-- a group of these literals, at most one of which is true, as the clauses with these numbers say,
+-- one for each pair
+abbrev pub group_line : Clauses → List Literal → List ℕ → Forms → Result Forms LineFault
+group_line at inputs ids s =
+    if are_known s inputs && nat_le 2 (length inputs) && are_excluded at (pairs_of inputs) ids
     then Ok (record s { numbered = s.numbered ++ Group inputs ∷ [] }) else Err Name
 
--- a fact: of a clause, the number of its literals that are true, less 1; or that of a count or
--- group
-pub data Fact : Type 0 where
-  Clause : List Literal → Fact
-  Number : ℕ → Fact
-
-pub record Term : Type 0 where
-  pub weight : ℕ
-  pub fact : Fact
-
--- how many terms a fact has; none where it is not there
-abbrev pub fact_size : List Numbered → Fact → Option ℕ
-fact_size ns (Clause c) = Some (length c)
-fact_size ns (Number j) = by (at_number ns j)
+-- how many terms a fact has: that of a clause is the number of its literals that are true, less 1;
+-- or it is that of a count or group. None where it is not there
+abbrev pub fact_size : Clauses → List Numbered → NamedFact → Option ℕ
+fact_size at ns f = if f.is_numbered then by (at_number ns f.number) else clause (at f.number)
   where
+    clause : Option (List Literal) → Option ℕ
+    clause None = None
+    clause (Some c) = Some (length c)
+
     by : Option Numbered → Option ℕ
     by None = None
     by (Some (Group inputs)) = Some (length inputs)
     by (Some (Count inputs tree multiplier)) = Some (length inputs + length (outputs_of tree))
 
 -- of all facts, where they are there
-abbrev pub facts_size : List Numbered → List Term → Option ℕ
-facts_size ns [] = Some 0
-facts_size ns (f ∷ fs) = add (fact_size ns f.fact) (facts_size ns fs)
+abbrev pub facts_size : Clauses → List Numbered → List NamedFact → Option ℕ
+facts_size at ns [] = Some 0
+facts_size at ns (f ∷ fs) = add (fact_size at ns f) (facts_size at ns fs)
   where
     add : Option ℕ → Option ℕ → Option ℕ
     add None n = None
@@ -191,30 +193,36 @@ less w ls f = plus (pos 0 -ℤ pos w) ls f
 abbrev pub plus_number : ℤ → CostForm → CostForm
 plus_number w f = record f { rest = plus_constant w f.rest }
 
--- the form less so many times a fact, which is there
-abbrev pub less_fact : Forms → Term → Forms
-less_fact s e = by e.fact
+-- the form less so many times the fact of a clause
+abbrev pub less_clause : ℕ → List Literal → Forms → Forms
+less_clause w c s = record s {
+  form = plus_number (pos w) (less w c (widened (greatest_variable c + 1) s.form))
+}
+
+-- less so many times the fact of a count or group
+abbrev pub less_numbered : ℕ → ℕ → Forms → Forms
+less_numbered w j s = by (at_number s.numbered j)
   where
-    numbered : ℕ → Option Numbered → Forms
-    numbered j None = s
-    numbered j (Some (Group inputs)) =
-        record s { form = plus_number (pos 0 -ℤ pos e.weight) (plus (pos e.weight) inputs s.form) }
-    numbered j (Some (Count inputs tree multiplier)) = record s {
-      form = plus (pos e.weight) (outputs_of tree) (less e.weight inputs s.form);
-      numbered = slice_set s.numbered (j - 1) (Count inputs tree (multiplier + e.weight));
+    by : Option Numbered → Forms
+    by None = s
+    by (Some (Group inputs)) =
+        record s { form = plus_number (pos 0 -ℤ pos w) (plus (pos w) inputs s.form) }
+    by (Some (Count inputs tree multiplier)) = record s {
+      form = plus (pos w) (outputs_of tree) (less w inputs s.form);
+      numbered = slice_set s.numbered (j - 1) (Count inputs tree (multiplier + w))
     }
 
-    by : Fact → Forms
-    by (Clause c) =
-        record s {
-          form = plus_number (pos e.weight)
-              (less e.weight c (widened (greatest_variable c + 1) s.form));
-        }
-    by (Number j) = numbered j (at_number s.numbered j)
+-- less so many times a fact, which is there
+abbrev pub less_fact : Clauses → Forms → NamedFact → Forms
+less_fact at s f = if f.is_numbered then less_numbered f.weight f.number s else by (at f.number)
+  where
+    by : Option (List Literal) → Forms
+    by None = s
+    by (Some c) = less_clause f.weight c s
 
-abbrev pub less_facts : Forms → List Term → Forms
-less_facts s [] = s
-less_facts s (e ∷ es) = less_facts (less_fact s e) es
+abbrev pub less_facts : Clauses → Forms → List NamedFact → Forms
+less_facts at s [] = s
+less_facts at s (f ∷ fs) = less_facts at (less_fact at s f) fs
 
 -- no fact belongs to a form that is gone
 abbrev pub cleared : List Numbered → List Numbered
@@ -231,9 +239,9 @@ begun (Some scale) s =
     record s { form = restarted scale s.form; has_form = true; numbered = cleared s.numbered }
 
 -- a form: so many times the cost or the present form, less these facts
-abbrev pub form_line : Option ℕ → List Term → Forms → Result Forms LineFault
-form_line scale facts s =
-    if goes_on scale && not s.has_form then Err Name else by (facts_size s.numbered facts)
+abbrev pub form_line : Clauses → Option ℕ → List NamedFact → Forms → Result Forms LineFault
+form_line at scale facts s =
+    if goes_on scale && not s.has_form then Err Name else by (facts_size at s.numbered facts)
   where
     goes_on : Option ℕ → Bool
     goes_on None = true
@@ -243,7 +251,7 @@ form_line scale facts s =
     by None = Err Name
     by (Some size) =
         if nat_le (s.terms + size) MOST_TERMS then
-        Ok (record (less_facts (begun scale s) facts) { terms = s.terms + size })
+        Ok (record (less_facts at (begun scale s) facts) { terms = s.terms + size })
         else Err Limit
 
 -- what a least value is worth: the greatest cost k up to 2^62 for which it is above the scale times

@@ -2,3 +2,4 @@
 #![tactic(auto)]
 
 pub mod faults;
+pub mod types;

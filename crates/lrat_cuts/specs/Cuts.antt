@@ -10,7 +10,8 @@ use Rattle.cnf.specs.Lrat.{Live, CandidateHints}
 use Rattle.cnf.specs.Problem.{Problem}
 use Rattle.cnf.specs.declared.limits.TheConstants.{NUMBER_LIMIT, VARIABLE_LIMIT}
 use Rattle.bound.specs.Weighted.{weighted_cnf, weights_of}
-use Rattle.forms.specs.Forms.{Forms, Made, Fact, Clause, Number, Term, forms_of, heard, count_line}
+use Rattle.forms.specs.Forms.{Forms, Made, forms_of, heard, count_line}
+use Rattle.forms.specs.declared.types.NamedFact.{NamedFact as FormFact}
 use Rattle.forms.specs.Forms.{more_line, group_line, form_line, cut_line, bound_line}
 use Rattle.forms.specs.declared.faults.LineFault.{LineFault}
 use Rattle.forms.specs.declared.faults.LineFault.TheVariants.{Name, Limit, Worth}
@@ -111,29 +112,9 @@ judged_plain (Addition id c hints) s = by (rup_fault (live_of s.last s.live) id 
     by None = Ok (put id c s)
     by (Some f) = Err f
 
--- the clauses with these ids
-abbrev pub clauses_at : Listed → List ℕ → Option (List (List Literal))
-clauses_at es [] = Some []
-clauses_at es (i ∷ is) = by (listed_at es i) (clauses_at es is)
-  where
-    by : Option (List Literal) → Option (List (List Literal)) → Option (List (List Literal))
-    by None cs = None
-    by (Some c) None = None
-    by (Some c) (Some cs) = Some (c ∷ cs)
-
--- the facts with these names
-abbrev pub facts_at : Listed → List NamedFact → Option (List Term)
-facts_at es [] = Some []
-facts_at es (f ∷ fs) = by (if f.is_numbered then Some (Number f.number) else clause (listed_at es f.number)) (facts_at es fs)
-  where
-    clause : Option (List Literal) → Option Fact
-    clause None = None
-    clause (Some c) = Some (Clause c)
-
-    by : Option Fact → Option (List Term) → Option (List Term)
-    by None es = None
-    by (Some e) None = None
-    by (Some e) (Some es) = Some (record { weight = f.weight; fact = e } ∷ es)
+-- the facts of a form line, as the forms name them
+abbrev pub fact_of : NamedFact → FormFact
+fact_of f = record { weight = f.weight; is_numbered = f.is_numbered; number = f.number }
 
 abbrev pub on_clauses : CutsState → Result Made LineFault → Result CutsState Cause
 on_clauses s (Err e) = Err (cause_of e)
@@ -178,16 +159,10 @@ abbrev pub judged_word : Option ℕ → Option WordLine → CutsState → Result
 judged_word cost None s = Err LineForm
 judged_word cost (Some (CountLine outputs inputs)) s = on_clauses s (count_line outputs inputs s.forms)
 judged_word cost (Some (MoreLine number)) s = on_clauses s (more_line number s.forms)
-judged_word cost (Some (GroupLine inputs ids)) s = by (clauses_at s.live ids)
-  where
-    by : Option (List (List Literal)) → Result CutsState Cause
-    by None = Err LineName
-    by (Some cs) = on_forms s (group_line inputs cs s.forms)
-judged_word cost (Some (FormLine scale facts)) s = by (facts_at s.live facts)
-  where
-    by : Option (List Term) → Result CutsState Cause
-    by None = Err LineName
-    by (Some es) = on_forms s (form_line scale es s.forms)
+judged_word cost (Some (GroupLine inputs ids)) s =
+    on_forms s (group_line (listed_at s.live) inputs ids s.forms)
+judged_word cost (Some (FormLine scale facts)) s =
+    on_forms s (form_line (listed_at s.live) scale (map fact_of facts) s.forms)
 judged_word cost (Some (CutLine c)) s = judged_cut cost c s
 judged_word cost (Some (BoundLine lower)) s = judged_bound lower s
 
