@@ -18,8 +18,8 @@ pub use Rattle.cnf.proofs.Marking.{places_each, places_within}
 pub use Rattle.cnf.proofs.Members.{absent_above, contains-append, contains_back, contains_front}
 pub use Rattle.cnf.proofs.Members.{contains_negation, member_pushed, subset_at, subset_from}
 pub use Rattle.cnf.proofs.Numbers.{numbered_past, one_if_le, same_number, tests_agree}
-pub use Rattle.cnf.proofs.Complements.{contained_true, tautologies_true}
-pub use Rattle.cnf.proofs.Repeats.{absent_own, repeat_distinct, repeat_push}
+pub use Rattle.cnf.proofs.Complements.{contained_true, tautologies-more, tautologies_true}
+pub use Rattle.cnf.proofs.Repeats.{absent_own, repeat_distinct, repeat_push, repeats-more}
 pub use Rattle.cnf.proofs.Results.{on_err_at, on_ok_at}
 pub use Rattle.cnf.proofs.Rising.{rises_least, rises_weaker, rising_from}
 pub use Rattle.cnf.proofs.Sound.{literal_eq-true, negation-value}

@@ -1,10 +1,13 @@
 -- A clause less one literal, with each literal once, and with one more.
-use Rattle.std.proofs.Common.{◌≡◌, false, List, [], ◌∷◌, ◌++◌, refl, sym, ◌∙◌}
+use Rattle.std.proofs.Common.{◌≡◌, Bool, true, false, ◌&&◌, ◌||◌, List, [], ◌∷◌, ◌++◌, refl, sym}
+use Rattle.std.proofs.Common.{◌∙◌, ap}
 use Rattle.std.proofs.Common.{inl, inr}
 use Rattle.std.proofs.lemmas.Bool.{cases_Bool, or_from, or_parts}
-use Rattle.cnf.specs.Literal.{Literal, literal_eq}
+use Rattle.std.proofs.lemmas.List.Folds.{list_any-append}
+use Rattle.cnf.specs.Literal.{Literal, literal_eq, same_bool}
 use Rattle.cnf.specs.Clause.{contains_literal, without_literal, distinct, has_repeat}
 use Rattle.cnf.proofs.Literals.{contains-push, literal_eq_ne, literal_ne}
+use Rattle.cnf.proofs.Numbers.{same_number}
 
 pub absent_own : (l : Literal) (c : List Literal) → contains_literal l (without_literal l c) ≡ false
 absent_own l [] = refl
@@ -51,3 +54,28 @@ repeat_push (k ∷ c) l n h =
     let other : literal_eq k l ≡ false = literal_eq_ne k l (λ e. literal_ne l k p.0 (sym e)) in
     or_from (contains_literal k (c ++ l ∷ [])) (has_repeat (c ++ l ∷ [])) (contains-push k c l
     ∙ or_from (contains_literal k c) (literal_eq k l) q.0 other) (repeat_push c l p.1 q.1)
+
+-- one more literal, at the end
+pub repeats-more : (c : List Literal) (l : Literal)
+    → has_repeat (c ++ l ∷ []) ≡ (has_repeat c || contains_literal l c)
+repeats-more [] l = refl
+repeats-more (k ∷ c) l =
+    (λ i. list_any-append (literal_eq k) c (l ∷ []) i || repeats-more c l i)
+    ∙ ap (λ b. (contains_literal k c || (b || false)) ||
+    (has_repeat c || contains_literal l c)) swapped
+    ∙ by (contains_literal k c) (literal_eq l k) (has_repeat c) (contains_literal l c)
+  where
+    signs : (a b : Bool) → same_bool a b ≡ same_bool b a
+    signs true true = refl
+    signs true false = refl
+    signs false true = refl
+    signs false false = refl
+
+    swapped : literal_eq k l ≡ literal_eq l k
+    swapped = λ i. same_number k.variable l.variable i && signs k.negated l.negated i
+
+    by : (a b c d : Bool) → ((a || (b || false)) || (c || d)) ≡ ((a || c) || (b || d))
+    by true b c d = refl
+    by false true true d = refl
+    by false true false d = refl
+    by false false c d = refl

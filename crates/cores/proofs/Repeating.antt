@@ -3,36 +3,10 @@ use Rattle.std.proofs.Common.{◌≡◌, ℕ, ◌+◌, ◌<◌, Bool, true, fals
 use Rattle.std.proofs.Common.{◌∷◌, ◌++◌}
 use Rattle.std.proofs.Common.{length, map, take, get_or, set, refl, sym, ◌∙◌, ap, subst}
 use Rattle.std.proofs.lemmas.List.{take_more}
-use Rattle.std.proofs.lemmas.List.Folds.{list_any-append}
-use Rattle.cnf.specs.Literal.{Literal, literal_eq, same_bool, index_of, positive}
-use Rattle.cnf.specs.Clause.{contains_literal, has_repeat}
+use Rattle.cnf.specs.Literal.{Literal, index_of, positive}
+use Rattle.cnf.specs.Clause.{has_repeat}
 use Rattle.cnf.specs.Marks.{mark_of, IsMarked, HasPlace}
-use Rattle.cnf.proofs.Laws.{marked_one, same_number}
-
--- one more literal, at the end
-pub repeats-more : (c : List Literal) (l : Literal)
-    → has_repeat (c ++ l ∷ []) ≡ (has_repeat c || contains_literal l c)
-repeats-more [] l = refl
-repeats-more (k ∷ c) l =
-    (λ i. list_any-append (literal_eq k) c (l ∷ []) i || repeats-more c l i)
-    ∙ ap (λ b. (contains_literal k c || (b || false)) ||
-    (has_repeat c || contains_literal l c)) swapped
-    ∙ by (contains_literal k c) (literal_eq l k) (has_repeat c) (contains_literal l c)
-  where
-    signs : (a b : Bool) → same_bool a b ≡ same_bool b a
-    signs true true = refl
-    signs true false = refl
-    signs false true = refl
-    signs false false = refl
-
-    swapped : literal_eq k l ≡ literal_eq l k
-    swapped = λ i. same_number k.variable l.variable i && signs k.negated l.negated i
-
-    by : (a b c d : Bool) → ((a || (b || false)) || (c || d)) ≡ ((a || c) || (b || d))
-    by true b c d = refl
-    by false true true d = refl
-    by false true false d = refl
-    by false false c d = refl
+use Rattle.cnf.proofs.Laws.{marked_one, repeats-more}
 
 pub positives-more : (xs : List ℕ) (i : ℕ) (l : Literal) → i < length xs
     → l ≡ positive (get_or xs i 0)

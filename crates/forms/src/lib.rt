@@ -3,3 +3,7 @@
 
 pub mod faults;
 pub mod types;
+mod known;
+mod worth;
+mod groups;
+pub mod table;

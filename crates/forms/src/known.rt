@@ -1,0 +1,25 @@
+// Which literals a line may name.
+ghost use Rattle.std.specs.Prelude.{◌≡◌, ◌||◌, length, All};
+ghost use Rattle.cnf.specs.Clause.{has_repeat, is_tautology};
+ghost use Rattle.cnf.specs.Marks.{HasPlace};
+
+use cnf::marks::Marks;
+use cnf::types::Lit;
+
+/// Whether some variable stands twice, in time linear in the number of literals: each is compared
+/// with the marks of those before it.
+pub(crate) fn repeats_variable(marks: &mut Marks, lits: &[Lit]) -> bool
+    requires { All (HasPlace (length marks.old)) lits.now }
+    ensures value { result ≡ (has_repeat lits.now || is_tautology lits.now) }
+    ensures marks { length marks.new ≡ length marks.old }
+{
+    marks.clear();
+    let mut is_repeated = false;
+    let mut is_complemented = false;
+    for lit in lits {
+        is_repeated |= marks.is_marked(*lit);
+        is_complemented |= marks.is_marked(lit.negation());
+        marks.mark(*lit);
+    }
+    is_repeated || is_complemented
+}
