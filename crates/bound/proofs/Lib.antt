@@ -15,6 +15,8 @@ mod Columns
 mod Relaxations
 mod Parts
 mod RelaxedParts
+mod WeightedParts
+mod Weights
 mod RelaxedHold
 mod Lines
 mod Streams

@@ -14,3 +14,4 @@ mod kept_clauses;
 mod relaxed;
 mod relaxing;
 pub mod repeats;
+pub mod weighted;
