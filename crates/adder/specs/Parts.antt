@@ -20,6 +20,10 @@ own_relaxation EachByVariable c = None
 abbrev pub relaxation_of : Relaxed → Relaxation
 relaxation_of e = record { lit = e.literal; weight = (e.soft).weight }
 
+-- a weight with the literal that gives it up
+abbrev pub weight_in : Relaxation → ℕ × Literal
+weight_in r = (r.weight, r.lit)
+
 -- the literals of the weights with bit j
 abbrev pub literals_with : ℕ → List Relaxation → List Literal
 literals_with j rs = map (λ r. r.lit) (filter (λ r. bit r.weight j) rs)

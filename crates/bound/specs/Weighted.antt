@@ -7,7 +7,6 @@ use Rattle.cnf.specs.Formula.{Cnf}
 use Rattle.cnf.specs.Problem.{Problem, SoftClause}
 use Rattle.adder.specs.declared.profiles.Profile.TheVariants.{Two}
 use Rattle.adder.specs.Network.{Relaxed, relaxed_as, relaxed_variables}
-use Rattle.adder.specs.declared.relaxations.Relaxation.{Relaxation}
 use Rattle.bound.specs.Bound.{kept, relaxed_clauses}
 
 -- the hard clauses, and the soft ones with their relaxation variables
@@ -25,9 +24,6 @@ weights_in es =
 
 abbrev pub weights_of : Problem → List (ℕ × Literal)
 weights_of p = weights_in (relaxed_as Two p)
-
-abbrev pub weight_in : Relaxation → ℕ × Literal
-weight_in r = (r.weight, r.lit)
 
 -- the weight of a soft clause that this literal relaxes; none of a tautology
 abbrev pub weight_unless_true : SoftClause → Literal → List (ℕ × Literal)

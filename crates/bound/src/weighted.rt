@@ -5,7 +5,8 @@ ghost use Rattle.cnf.specs.declared.limits.TheConstants.{FORMULA_VARIABLE_LIMIT}
 ghost use Rattle.adder.specs.Network.{relaxed_one};
 ghost use Rattle.adder.specs.declared.profiles.Relaxing.TheVariants.{UnitsByNegation};
 ghost use Rattle.cnf.specs.Marks.{HasPlace};
-ghost use Rattle.bound.specs.Weighted.{weighted_cnf, weights_of, weight_in, weight_unless_true};
+ghost use Rattle.adder.specs.Parts.{weight_in};
+ghost use Rattle.bound.specs.Weighted.{weighted_cnf, weights_of, weight_unless_true};
 
 use crate::formulas::keep_given;
 use adder::profiles::Profile;

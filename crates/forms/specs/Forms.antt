@@ -3,7 +3,7 @@
 -- enough. A form is a multiple of the cost, less multiples of facts. So it is at most that multiple
 -- of the cost, and what its least value exceeds is too dear.
 use Rattle.std.specs.Prelude.{◌≡◌, ℕ, zero, suc, ℤ, pos, negsuc, ◌+ℤ◌, ◌-ℤ◌, ◌*ℤ◌, ◌+◌, ◌-◌, ◌*◌}
-use Rattle.std.specs.Prelude.{◌/◌, min, Bool, true, false, not, ◌&&◌, ◌||◌, List, [], ◌∷◌, ◌++◌}
+use Rattle.std.specs.Prelude.{◌/◌, min, max, Bool, true, false, not, ◌&&◌, ◌||◌, List, [], ◌∷◌, ◌++◌}
 use Rattle.std.specs.Prelude.{length, map, Option, Some, None, Result, Ok, Err, nat_le, ◌==◌}
 use Rattle.std.specs.Prelude.{slice_get, slice_set, if◌then◌else◌}
 use Rattle.std.specs.List.{list_all, list_any}
@@ -163,19 +163,25 @@ group_line at inputs ids s =
     if are_known s inputs && nat_le 2 (length inputs) && are_excluded at (pairs_of inputs) ids
     then Ok (record s { numbered = s.numbered ++ Group inputs ∷ [] }) else Err Name
 
--- how many terms a fact has: that of a clause is the number of its literals that are true, less 1;
--- or it is that of a count or group. None where it is not there
+abbrev pub clause_size : List Literal → ℕ
+clause_size c = max 1 (length c)
+
+abbrev pub numbered_size : Numbered → ℕ
+numbered_size (Group inputs) = length inputs
+numbered_size (Count inputs tree multiplier) = length inputs + length (outputs_of tree)
+
+-- how many terms a fact has, at least one: that of a clause is the number of its literals that are
+-- true, less 1; or it is that of a count or group. None where it is not there
 abbrev pub fact_size : Clauses → List Numbered → NamedFact → Option ℕ
 fact_size at ns f = if f.is_numbered then by (at_number ns f.number) else clause (at f.number)
   where
     clause : Option (List Literal) → Option ℕ
     clause None = None
-    clause (Some c) = Some (length c)
+    clause (Some c) = Some (clause_size c)
 
     by : Option Numbered → Option ℕ
     by None = None
-    by (Some (Group inputs)) = Some (length inputs)
-    by (Some (Count inputs tree multiplier)) = Some (length inputs + length (outputs_of tree))
+    by (Some n) = Some (numbered_size n)
 
 -- of all facts, where they are there
 abbrev pub facts_size : Clauses → List Numbered → List NamedFact → Option ℕ
@@ -196,7 +202,8 @@ plus_number w f = record f { rest = plus_constant w f.rest }
 -- the form less so many times the fact of a clause
 abbrev pub less_clause : ℕ → List Literal → Forms → Forms
 less_clause w c s = record s {
-  form = plus_number (pos w) (less w c (widened (greatest_variable c + 1) s.form))
+  form = plus_number (pos w) (less w c (widened (greatest_variable c + 1) s.form));
+  terms = s.terms + clause_size c;
 }
 
 -- less so many times the fact of a count or group
@@ -205,11 +212,14 @@ less_numbered w j s = by (at_number s.numbered j)
   where
     by : Option Numbered → Forms
     by None = s
-    by (Some (Group inputs)) =
-        record s { form = plus_number (pos 0 -ℤ pos w) (plus (pos w) inputs s.form) }
+    by (Some (Group inputs)) = record s {
+      form = plus_number (pos 0 -ℤ pos w) (plus (pos w) inputs s.form);
+      terms = s.terms + numbered_size (Group inputs);
+    }
     by (Some (Count inputs tree multiplier)) = record s {
       form = plus (pos w) (outputs_of tree) (less w inputs s.form);
-      numbered = slice_set s.numbered (j - 1) (Count inputs tree (multiplier + w))
+      numbered = slice_set s.numbered (j - 1) (Count inputs tree (multiplier + w));
+      terms = s.terms + numbered_size (Count inputs tree multiplier);
     }
 
 -- less so many times a fact, which is there
@@ -225,12 +235,12 @@ less_facts at s [] = s
 less_facts at s (f ∷ fs) = less_facts at (less_fact at s f) fs
 
 -- no fact belongs to a form that is gone
+abbrev pub without_multiplier : Numbered → Numbered
+without_multiplier (Count inputs tree multiplier) = Count inputs tree 0
+without_multiplier (Group inputs) = Group inputs
+
 abbrev pub cleared : List Numbered → List Numbered
-cleared ns = map clear ns
-  where
-    clear : Numbered → Numbered
-    clear (Count inputs tree multiplier) = Count inputs tree 0
-    clear (Group inputs) = Group inputs
+cleared ns = map without_multiplier ns
 
 -- so many times the cost, in place of the present form, or that form itself
 abbrev pub begun : Option ℕ → Forms → Forms
@@ -250,8 +260,7 @@ form_line at scale facts s =
     by : Option ℕ → Result Forms LineFault
     by None = Err Name
     by (Some size) =
-        if nat_le (s.terms + size) MOST_TERMS then
-        Ok (record (less_facts at (begun scale s) facts) { terms = s.terms + size })
+        if nat_le (s.terms + size) MOST_TERMS then Ok (less_facts at (begun scale s) facts)
         else Err Limit
 
 -- what a least value is worth: the greatest cost k up to 2^62 for which it is above the scale times

@@ -1,2 +1,5 @@
 pub mod Forms
+pub mod Stamped
+pub mod Kept
+pub mod Answers
 pub mod Vectors

@@ -1,6 +1,7 @@
 // Which literals a line may name.
-ghost use Rattle.std.specs.Prelude.{◌≡◌, ◌||◌, length, All};
-ghost use Rattle.cnf.specs.Clause.{has_repeat, is_tautology};
+ghost use Rattle.std.specs.Prelude.{◌≡◌, ◌<◌, ◌||◌, length, All};
+ghost use Rattle.cnf.specs.Clause.{greatest_variable, has_repeat, is_tautology};
+ghost use Rattle.cnf.specs.declared.limits.TheConstants.{VARIABLE_LIMIT};
 ghost use Rattle.cnf.specs.Marks.{HasPlace};
 
 use cnf::marks::Marks;
@@ -22,4 +23,18 @@ pub(crate) fn repeats_variable(marks: &mut Marks, lits: &[Lit]) -> bool
         marks.mark(*lit);
     }
     is_repeated || is_complemented
+}
+
+/// The greatest variable, or 0 where there is none.
+pub(crate) fn greatest_variable(lits: &[Lit]) -> u32
+    ensures greatest { result ≡ greatest_variable lits.now }
+    ensures small { result < VARIABLE_LIMIT }
+{
+    let mut greatest = 0;
+    for lit in lits {
+        if lit.variable() > greatest {
+            greatest = lit.variable();
+        }
+    }
+    greatest
 }

@@ -6,4 +6,5 @@ pub mod types;
 mod known;
 mod worth;
 mod groups;
+mod numbered;
 pub mod table;

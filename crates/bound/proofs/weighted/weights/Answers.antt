@@ -7,7 +7,7 @@ use Rattle.cnf.specs.Instance.{IsClauseWithin}
 use Rattle.cnf.proofs.Laws.{places_within}
 use Rattle.adder.specs.declared.profiles.Relaxing.TheVariants.{UnitsByNegation}
 use Rattle.adder.specs.Network.{Relaxed, relaxed_one}
-use Rattle.bound.specs.Weighted.{weight_in}
+use Rattle.adder.specs.Parts.{weight_in}
 use Rattle.bound.proofs.Relaxations.{soft_within}
 use Rattle.bound.proofs.Weights.{weights_step}
 use Rattle.bound.proofs.weighted.weights.Goals as goal

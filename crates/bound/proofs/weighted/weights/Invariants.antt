@@ -2,7 +2,8 @@
 use Rattle.std.proofs.Common.{◌≡◌, ◌+◌, ◌*◌, ◌≤◌, ◌<◌, ◌++◌, length, map, drop}
 use Rattle.adder.specs.Network.{relaxed_from}
 use Rattle.adder.specs.declared.profiles.Relaxing.TheVariants.{UnitsByNegation}
-use Rattle.bound.specs.Weighted.{weights_in, weights_of, weight_in}
+use Rattle.adder.specs.Parts.{weight_in}
+use Rattle.bound.specs.Weighted.{weights_in, weights_of}
 use Rattle.bound.proofs.weighted.weights.Given as goal
 
 abbrev pub invariant-loop-soft : goal.invariant-loop-soft

@@ -1,0 +1,11 @@
+-- The greatest so far, with that of the literals that are left, is the greatest of all.
+use Rattle.std.proofs.Common.{◌≡◌, ◌<◌, ◌^◌, drop}
+use Rattle.std.specs.Prelude.{max}
+use Rattle.cnf.specs.Clause.{greatest_variable}
+use Rattle.forms.proofs.known.greatest_variable.Given as goal
+
+abbrev pub invariant-loop-lit : goal.invariant-loop-lit
+invariant-loop-lit l = record {
+  whole : max l.greatest (greatest_variable (drop l.lit-index l.lits)) ≡ greatest_variable l.lits;
+  small : l.greatest < 2 ^ 27;
+}

@@ -1,0 +1,14 @@
+-- The counts so far are forgotten, and the others are as they were.
+use Rattle.std.proofs.Common.{◌≡◌, ℕ, ◌<◌, length, take, drop}
+use Rattle.std.specs.Prelude.{All}
+use Rattle.forms.specs.Forms.{cleared}
+use Rattle.forms.specs.Stamped.{AreStamped, numbered_in}
+use Rattle.forms.proofs.numbered.next_stamp.Given as goal
+
+abbrev pub invariant-loop-place : goal.invariant-loop-place
+invariant-loop-place l = record {
+  cleared : numbered_in 1 (take l.place l.numbered)
+      ≡ cleared (numbered_in l.present (take l.place l.initial.numbered));
+  others : drop l.place l.numbered ≡ drop l.place l.initial.numbered;
+  stamped : AreStamped 1 (take l.place l.numbered);
+}
