@@ -1,12 +1,14 @@
 -- Trees in flat memory: more depth changes nothing, and a node is made of its halves.
-use Rattle.std.proofs.Common.{◌≡◌, ℕ, zero, suc, ◌+◌, ◌-◌, ◌/◌, ◌<◌, ◌≤◌, List, [], ◌∷◌}
+use Rattle.std.proofs.Common.{◌≡◌, ℕ, zero, suc, ◌+◌, ◌-◌, ◌/◌, ◌<◌, ◌≤◌, List, [], ◌∷◌, ◌++◌}
 use Rattle.std.proofs.Common.{length, take, drop, refl, sym, ◌∙◌, ap, arith}
-use Rattle.std.specs.Prelude.{All, slice_index_or}
-use Rattle.std.proofs.lemmas.List.{length-take, length-drop}
+use Rattle.std.specs.Prelude.{All, slice_index_or, map}
+use Rattle.std.specs.declared.vec.Vec.{Vec}
+use Rattle.std.specs.declared.alloc.Global.{Global}
+use Rattle.std.proofs.lemmas.List.{length-take, length-drop, length-map, map-append, take_at, drop_at}
 use Rattle.std.proofs.lemmas.List.Elements.{All-take, All-drop}
 use Rattle.cnf.specs.Literal.{Literal, positive}
 use Rattle.totalizer.specs.Stages.{Tree, Leaf, Node, size_of, tree_within, tree_of}
-use Rattle.totalizer.specs.Laid.{laid_within, laid_tree}
+use Rattle.totalizer.specs.Laid.{laid_within, laid_tree, tree_at}
 
 -- more depth than the number of inputs changes nothing
 deeper : (d e : ℕ) (xs : List Literal) (outputs : List (List Literal)) → length xs ≤ d
@@ -77,7 +79,7 @@ IsEmpty o = o ≡ []
 first_empty : (outputs : List (List Literal)) → All IsEmpty outputs
     → slice_index_or outputs 0 [] ≡ []
 first_empty [] h = refl
-first_empty (o ∷ outputs) h = ?
+first_empty (o ∷ outputs) h = h zero [] (omega arith)
 
 bare_within : (d : ℕ) (xs : List Literal) (outputs : List (List Literal)) → All IsEmpty outputs
     → laid_within d xs outputs ≡ tree_within d xs
@@ -98,3 +100,26 @@ bare_within (suc d) (x ∷ y ∷ more) outputs h =
 pub laid_bare : (xs : List Literal) (outputs : List (List Literal)) → All IsEmpty outputs
     → laid_tree xs outputs ≡ tree_of xs
 laid_bare xs outputs h = bare_within (length xs) xs outputs h
+
+-- a node, where the outputs of its halves stand one after the other
+pub laid_halves : (xs : List Literal) (own : List Literal) (lo ro : List (List Literal))
+    → 1 < length xs → length lo + 1 ≡ length xs / 2
+    → laid_tree xs (own ∷ (lo ++ ro))
+    ≡ Node (laid_tree (take (length xs / 2) xs) lo) (laid_tree (drop (length xs / 2) xs) ro) own
+laid_halves xs own lo ro h e =
+    let n = length xs / 2 - 1 in
+    let long : length lo ≡ n = omega arith in
+    laid_node xs own (lo ++ ro) h
+    ∙ (λ i. Node (laid_tree (take (length xs / 2) xs) (take_at lo ro n long i))
+    (laid_tree (drop (length xs / 2) xs) (drop_at lo ro n long i)) own)
+
+-- the same in memory
+pub tree_halves : (xs : List Literal) (own : Vec Literal Global) (lo ro : List (Vec Literal Global))
+    → 1 < length xs → length lo + 1 ≡ length xs / 2
+    → tree_at xs (own ∷ (lo ++ ro))
+    ≡ Node (tree_at (take (length xs / 2) xs) lo) (tree_at (drop (length xs / 2) xs) ro) own.items
+tree_halves xs own lo ro h e =
+    let items : Vec Literal Global → List Literal = λ o. o.items in
+    ap (λ below. laid_tree xs (own.items ∷ below)) (map-append items lo ro)
+    ∙ laid_halves xs own.items (map items lo) (map items ro) h
+    (omega (arith, length-map lo items))

@@ -1,2 +1,3 @@
 mod Sums
 mod Laid
+mod Staging

@@ -1,9 +1,9 @@
 // Stages of totalizers in flat memory.
-ghost use Rattle.std.specs.Prelude.{false, ◌≡◌, ◌+◌, ◌<◌, ◌≤◌, ◌++◌, [], ◌∷◌, length, map, OnOk, IfOk};
+ghost use Rattle.std.specs.Prelude.{false, ◌≡◌, ◌+◌, ◌<◌, ◌≤◌, ◌++◌, [], ◌∷◌, length, OnOk, IfOk};
 ghost use Rattle.cnf.specs.declared.limits.TheConstants.{VARIABLE_LIMIT};
 ghost use Rattle.cnf.specs.Literal.{positive, negative};
 ghost use Rattle.totalizer.specs.Stages.{outputs_of, stage, sum_clauses, order_clause};
-ghost use Rattle.totalizer.specs.Laid.{laid_tree, IsLaid};
+ghost use Rattle.totalizer.specs.Laid.{tree_at, IsLaid};
 
 use cnf::clause_list::ClauseList;
 use cnf::types::Lit;
@@ -17,15 +17,16 @@ pub(crate) fn add_outputs(
     fresh: u32,
     clauses: &mut ClauseList,
 ) -> Result<u32, AllocError>
-    requires laid { IsLaid inputs.now (map (λ o. o.items) outputs.old) }
+    requires laid { IsLaid inputs.now outputs.old }
+    requires some { 0 < at_least }
     requires from_one { 0 < fresh }
     requires room { fresh + length outputs.old ≤ VARIABLE_LIMIT }
-    ensures tree { OnOk result (laid_tree inputs.now (map (λ o. o.items) outputs.new)
-        ≡ (stage at_least fresh (laid_tree inputs.now (map (λ o. o.items) outputs.old))).tree) }
+    ensures tree { OnOk result (tree_at inputs.now outputs.new
+        ≡ (stage at_least fresh (tree_at inputs.now outputs.old)).tree) }
     ensures clauses { OnOk result (clauses.new ≡ clauses.old
-        ++ (stage at_least fresh (laid_tree inputs.now (map (λ o. o.items) outputs.old))).clauses) }
+        ++ (stage at_least fresh (tree_at inputs.now outputs.old)).clauses) }
     ensures fresh { IfOk result (λ next. next
-        ≡ (stage at_least fresh (laid_tree inputs.now (map (λ o. o.items) outputs.old))).fresh) }
+        ≡ (stage at_least fresh (tree_at inputs.now outputs.old)).fresh) }
 {
     if inputs.len() < at_least {
         return Ok(fresh);
@@ -42,17 +43,15 @@ pub(crate) fn add_outputs(
     let right = outputs_at(right, right_outputs);
     let sum = Lit::new(fresh, false);
     push_sums(left, right, sum, at_least, clauses)?;
-    if let Some(before) = own.last() {
-        clauses.push(&[sum.negation(), *before])?;
-    }
+    push_order(own, sum, clauses)?;
     own.push(sum)?;
     Ok(fresh + 1)
 }
 
 /// The outputs of a node.
 pub(crate) fn outputs_at<'a>(inputs: &'a [Lit], outputs: &'a [Vec<Lit>]) -> &'a [Lit]
-    requires laid { IsLaid inputs.now (map (λ o. o.items) outputs.now) }
-    ensures { result.now ≡ outputs_of (laid_tree inputs.now (map (λ o. o.items) outputs.now)) }
+    requires laid { IsLaid inputs.now outputs.now }
+    ensures { result.now ≡ outputs_of (tree_at inputs.now outputs.now) }
 {
     match outputs {
         [] => inputs,
@@ -86,4 +85,15 @@ fn push_sums(
         }
     }
     Ok(())
+}
+
+/// The clause by which the sum is true only where the last of the outputs before it is.
+fn push_order(own: &[Lit], sum: Lit, clauses: &mut ClauseList) -> Result<(), AllocError>
+    requires { sum.negated ≡ false }
+    ensures { OnOk result (clauses.new ≡ clauses.old ++ order_clause own.now sum.variable) }
+{
+    match own.last() {
+        Some(before) => clauses.push(&[sum.negation(), *before]),
+        None => Ok(()),
+    }
 }

@@ -18,18 +18,17 @@ pub struct Totalizer {
 }
 
 impl Model for Totalizer {
-    ghost use Rattle.std.specs.Prelude.{map};
     ghost use Rattle.totalizer.specs.Stages.{Tree};
     ghost use Rattle.totalizer.specs.TreeCode.{tree_code};
-    ghost use Rattle.totalizer.specs.Laid.{laid_tree, IsLaid};
+    ghost use Rattle.totalizer.specs.Laid.{tree_at, IsLaid};
 
     ghost Value = { Tree };
 
     ghost coded = { tree_code };
 
-    ghost view = { λ t. laid_tree t.inputs.items (map (λ o. o.items) t.outputs.items) };
+    ghost view = { λ t. tree_at t.inputs.items t.outputs.items };
 
-    ghost invariant = { λ t. IsLaid t.inputs.items (map (λ o. o.items) t.outputs.items) };
+    ghost invariant = { λ t. IsLaid t.inputs.items t.outputs.items };
 }
 
 impl Totalizer {
