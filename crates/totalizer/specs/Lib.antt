@@ -1,2 +1,4 @@
 pub mod Stages
 pub mod Vectors
+pub mod Laid
+pub mod TreeCode

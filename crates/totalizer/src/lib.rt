@@ -1,11 +1,6 @@
-//! Totalizers that grow by stages.
+//! Totalizers that grow by stages: counts of true literals, each output of which is a literal that
+//! is true where at least so many inputs are.
 #![tactic(auto)]
 
-/// One.
-pub fn one() -> u32
-    ensures { result ≡ 1 }
-{
-    1
-}
-
-ghost use Rattle.std.specs.Prelude.{◌≡◌};
+mod stages;
+pub mod totalizer;

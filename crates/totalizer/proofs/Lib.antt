@@ -1,0 +1,3 @@
+mod Sums
+mod Laid
+mod Staging

@@ -1,0 +1,99 @@
+// Stages of totalizers in flat memory.
+ghost use Rattle.std.specs.Prelude.{false, ◌≡◌, ◌+◌, ◌<◌, ◌≤◌, ◌++◌, [], ◌∷◌, length, OnOk, IfOk};
+ghost use Rattle.cnf.specs.declared.limits.TheConstants.{VARIABLE_LIMIT};
+ghost use Rattle.cnf.specs.Literal.{positive, negative};
+ghost use Rattle.totalizer.specs.Stages.{outputs_of, stage, sum_clauses, order_clause};
+ghost use Rattle.totalizer.specs.Laid.{tree_at, IsLaid};
+
+use cnf::clause_list::ClauseList;
+use cnf::types::Lit;
+use std::alloc::AllocError;
+
+/// Makes the next outputs of the nodes that have at least so many inputs.
+pub(crate) fn add_outputs(
+    inputs: &[Lit],
+    outputs: &mut [Vec<Lit>],
+    at_least: usize,
+    fresh: u32,
+    clauses: &mut ClauseList,
+) -> Result<u32, AllocError>
+    requires laid { IsLaid inputs.now outputs.old }
+    requires some { 0 < at_least }
+    requires from_one { 0 < fresh }
+    requires room { fresh + length outputs.old ≤ VARIABLE_LIMIT }
+    ensures tree { OnOk result (tree_at inputs.now outputs.new
+        ≡ (stage at_least fresh (tree_at inputs.now outputs.old)).tree) }
+    ensures clauses { OnOk result (clauses.new ≡ clauses.old
+        ++ (stage at_least fresh (tree_at inputs.now outputs.old)).clauses) }
+    ensures fresh { IfOk result (λ next. next
+        ≡ (stage at_least fresh (tree_at inputs.now outputs.old)).fresh) }
+{
+    if inputs.len() < at_least {
+        return Ok(fresh);
+    }
+    let Some((own, below)) = outputs.split_first_mut() else {
+        return Ok(fresh);
+    };
+    let half = inputs.len() / 2;
+    let (left, right) = inputs.split_at(half);
+    let (left_outputs, right_outputs) = below.split_at_mut(half - 1);
+    let fresh = add_outputs(left, left_outputs, at_least, fresh, clauses)?;
+    let fresh = add_outputs(right, right_outputs, at_least, fresh, clauses)?;
+    let left = outputs_at(left, left_outputs);
+    let right = outputs_at(right, right_outputs);
+    let sum = Lit::new(fresh, false);
+    push_sums(left, right, sum, at_least, clauses)?;
+    push_order(own, sum, clauses)?;
+    own.push(sum)?;
+    Ok(fresh + 1)
+}
+
+/// The outputs of a node.
+pub(crate) fn outputs_at<'a>(inputs: &'a [Lit], outputs: &'a [Vec<Lit>]) -> &'a [Lit]
+    requires laid { IsLaid inputs.now outputs.now }
+    ensures { result.now ≡ outputs_of (tree_at inputs.now outputs.now) }
+{
+    match outputs {
+        [] => inputs,
+        [own, ..] => own,
+    }
+}
+
+/// The clauses by which so many inputs on both sides make the sum true.
+fn push_sums(
+    left: &[Lit],
+    right: &[Lit],
+    sum: Lit,
+    at_least: usize,
+    clauses: &mut ClauseList,
+) -> Result<(), AllocError>
+    requires some { 0 < at_least }
+    requires positive { sum.negated ≡ false }
+    ensures { OnOk result
+        (clauses.new ≡ clauses.old ++ sum_clauses left.now right.now sum.variable 0 at_least) }
+{
+    let first = at_least.saturating_sub(right.len());
+    let end = left.len().min(at_least) + 1;
+    for i in first..end {
+        let j = at_least - i;
+        if i == 0 {
+            clauses.push(&[right[j - 1].negation(), sum])?;
+        } else if j == 0 {
+            clauses.push(&[left[i - 1].negation(), sum])?;
+        } else {
+            clauses.push(&[left[i - 1].negation(), right[j - 1].negation(), sum])?;
+        }
+    }
+    Ok(())
+}
+
+/// The clause by which the sum is true only where the last of the outputs before it is.
+fn push_order(own: &[Lit], sum: Lit, clauses: &mut ClauseList) -> Result<(), AllocError>
+    requires { sum.negated ≡ false }
+    ensures { OnOk result (clauses.new ≡ clauses.old ++ order_clause own.now sum.variable) }
+{
+    match own.last() {
+        Some(before) => clauses.push(&[sum.negation(), *before]),
+        None => Ok(()),
+    }
+}
