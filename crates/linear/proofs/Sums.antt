@@ -4,6 +4,7 @@ use Rattle.std.specs.List.{sum_by}
 use Rattle.std.specs.Int.RustNames.{unsigned_abs}
 use Rattle.std.proofs.Math.IntN.{suc_ℤ-*ℤ, zero-*ℤ, *ℤ-zero}
 use Rattle.std.proofs.lemmas.Int.{ints, unsigned_abs-mul}
+use Rattle.std.proofs.lemmas.List.{set-get_or}
 use Rattle.std.proofs.lemmas.List.Sums.{sum_by-cons}
 use Rattle.linear.specs.Linear.{least_term, shortfall}
 use Rattle.linear.specs.Costs.{least_sum}
@@ -52,6 +53,34 @@ sum_set s (b ∷ cs) (q ∷ rs) (g ∷ fs) (suc v) c r f d e lt =
     let i = sum_set s cs rs fs v c r f (omega (arith, d)) (omega (arith, e)) (omega (arith, lt)) in
     omega (arith, ints, i)
 
+-- where one of the three changes
+pub sum_set_cost : (s : ℕ) (cs rs : List ℤ) (fs : List (Option Bool)) (v : ℕ) (c : ℤ)
+    → length cs ≡ length fs → length rs ≡ length fs → v < length fs
+    → least_sum s (set cs v c) rs fs
+    +ℤ least_at s (get_or cs v (pos 0)) (get_or rs v (pos 0)) (get_or fs v None)
+    ≡ least_sum s cs rs fs +ℤ least_at s c (get_or rs v (pos 0)) (get_or fs v None)
+sum_set_cost s cs rs fs v c d e lt =
+    rw (set-get_or rs v (pos 0), set-get_or fs v None)
+    at (sum_set s cs rs fs v c (get_or rs v (pos 0)) (get_or fs v None) d e lt)
+
+pub sum_set_rest : (s : ℕ) (cs rs : List ℤ) (fs : List (Option Bool)) (v : ℕ) (r : ℤ)
+    → length cs ≡ length fs → length rs ≡ length fs → v < length fs
+    → least_sum s cs (set rs v r) fs
+    +ℤ least_at s (get_or cs v (pos 0)) (get_or rs v (pos 0)) (get_or fs v None)
+    ≡ least_sum s cs rs fs +ℤ least_at s (get_or cs v (pos 0)) r (get_or fs v None)
+sum_set_rest s cs rs fs v r d e lt =
+    rw (set-get_or cs v (pos 0), set-get_or fs v None)
+    at (sum_set s cs rs fs v (get_or cs v (pos 0)) r (get_or fs v None) d e lt)
+
+pub sum_set_value : (s : ℕ) (cs rs : List ℤ) (fs : List (Option Bool)) (v : ℕ)
+    (f : Option Bool) → length cs ≡ length fs → length rs ≡ length fs → v < length fs
+    → least_sum s cs rs (set fs v f)
+    +ℤ least_at s (get_or cs v (pos 0)) (get_or rs v (pos 0)) (get_or fs v None)
+    ≡ least_sum s cs rs fs +ℤ least_at s (get_or cs v (pos 0)) (get_or rs v (pos 0)) f
+sum_set_value s cs rs fs v f d e lt =
+    rw (set-get_or cs v (pos 0), set-get_or rs v (pos 0))
+    at (sum_set s cs rs fs v (get_or cs v (pos 0)) (get_or rs v (pos 0)) f d e lt)
+
 -- the cost is of no account where it is taken no times
 pub sum_none : (cs bs rs : List ℤ) (fs : List (Option Bool)) → length cs ≡ length bs
     → least_sum 0 cs rs fs ≡ least_sum 0 bs rs fs
@@ -65,7 +94,7 @@ sum_none (c ∷ cs) (b ∷ bs) (r ∷ rs) (f ∷ fs) e =
     let i = sum_none cs bs rs fs (omega (arith, e)) in
     omega (arith, ints, i, ap (λ x. least_term x f) d)
 
-distributes : (s : ℕ) (a b : ℤ) → pos s *ℤ (a +ℤ b) ≡ (pos s *ℤ a) +ℤ (pos s *ℤ b)
+pub distributes : (s : ℕ) (a b : ℤ) → pos s *ℤ (a +ℤ b) ≡ (pos s *ℤ a) +ℤ (pos s *ℤ b)
 distributes zero a b = omega (arith, ints, zero-*ℤ (a +ℤ b), zero-*ℤ a, zero-*ℤ b)
 distributes (suc s) a b =
     let n = pos s in

@@ -3,7 +3,7 @@ ghost use Rattle.std.specs.Prelude.{◌≡◌, ◌+◌, ◌<◌, ◌≤◌, ◌^
 ghost use Rattle.std.specs.Int.RustNames.{unsigned_abs};
 ghost use Rattle.linear.specs.Linear.{least_term, shortfall};
 ghost use Rattle.std.specs.Prelude.{All, length, replicate};
-ghost use Rattle.linear.specs.Terms.{rest_of, costs, rests, values};
+ghost use Rattle.linear.specs.Terms.{AreSmall, rest_of, costs, rests, values};
 
 /// What stands at a variable.
 #[derive(Clone, Copy, Drop)]
@@ -37,9 +37,7 @@ pub fn rest_at(term: &Term, present: u32) -> i128
 
 /// The coefficient of so many times the cost, with what stands beside it.
 pub fn coefficient(scale: u64, cost: i64, rest: i128) -> i128
-    requires scale { scale < 2 ^ 62 }
-    requires cost { unsigned_abs cost < 2 ^ 62 }
-    requires rest { unsigned_abs rest ≤ 2 ^ 120 }
+    requires { AreSmall scale cost rest }
     ensures value { result ≡ (pos scale *ℤ cost) +ℤ rest }
     ensures bound { unsigned_abs result ≤ 2 ^ 125 }
 {
@@ -89,9 +87,7 @@ pub fn raised(sum: i128, by: i128) -> i128
 
 /// The least that a variable gives: so many times its coefficient of the cost, with one beside it.
 pub fn least_at(scale: u64, term: &Term, rest: i128) -> i128
-    requires scale { scale < 2 ^ 62 }
-    requires cost { unsigned_abs term.now.cost < 2 ^ 62 }
-    requires rest { unsigned_abs rest ≤ 2 ^ 120 }
+    requires { AreSmall scale term.now.cost rest }
     ensures value {
         result ≡ least_term ((pos scale *ℤ term.now.cost) +ℤ rest) term.now.value
     }
@@ -139,9 +135,7 @@ pub fn scaled(scale: u64, least: i128) -> i128
 /// A least value where a variable's literal, negated or not, becomes false.
 pub fn where_false(least: i128, scale: u64, term: &Term, present: u32, negated: bool) -> i128
     requires least { unsigned_abs least < 2 ^ 126 }
-    requires scale { scale < 2 ^ 62 }
-    requires cost { unsigned_abs term.now.cost < 2 ^ 62 }
-    requires rest { unsigned_abs (rest_of present term.now) ≤ 2 ^ 120 }
+    requires parts { AreSmall scale term.now.cost (rest_of present term.now) }
     ensures {
         let c = (pos scale *ℤ term.now.cost) +ℤ rest_of present term.now in
         result +ℤ least_term c term.now.value ≡ least +ℤ least_term c (Some negated)
