@@ -17,6 +17,11 @@ pub record CostForm : Type 0 where
   -- the variables that have a value, and which
   pub fixed : List (Option Bool)
 
+-- the three lists have one length
+pub record HasOneWidth (f : CostForm) : Type 0 where
+  pub cost : length (f.cost).coefficients ≡ length f.fixed
+  pub rest : length (f.rest).coefficients ≡ length f.fixed
+
 -- the weights of these literals, over the variables below a number
 abbrev pub cost_from : Linear → List (ℕ × Literal) → Linear
 cost_from f [] = f
@@ -88,3 +93,8 @@ least f = least_where f f.fixed
 -- its value under an assignment
 abbrev pub form_value : CostForm → Assignment → ℤ
 form_value f t = (pos f.scale *ℤ value f.cost t) +ℤ value f.rest t
+
+-- each variable that has a value has it under the assignment
+abbrev pub AgreesWith : List (Option Bool) → Assignment → Type 0
+AgreesWith fixed t =
+    (v : ℕ) (b : Bool) → slice_index_or fixed v None ≡ Some b → t v ≡ b

@@ -1,3 +1,6 @@
 pub mod Linear
 pub mod Costs
+pub mod Terms
+pub mod Bounds
+pub mod Kept
 pub mod Vectors

@@ -1,11 +1,6 @@
-//! Totalizers that grow by stages.
+//! Linear functions of variables that are 0 or 1: so many times what a solution costs, and something
+//! beside it, with the least value at hand.
 #![tactic(auto)]
 
-/// One.
-pub fn one() -> u32
-    ensures { result ≡ 1 }
-{
-    1
-}
-
-ghost use Rattle.std.specs.Prelude.{◌≡◌};
+pub mod bounds;
+mod terms;
