@@ -5,7 +5,7 @@ use Rattle.std.specs.Prelude.{All, slice_index_or, map}
 use Rattle.std.specs.declared.vec.Vec.{Vec}
 use Rattle.std.specs.declared.alloc.Global.{Global}
 use Rattle.std.proofs.lemmas.List.{length-take, length-drop, length-map, map-append, take_at, drop_at}
-use Rattle.std.proofs.lemmas.List.Elements.{All-take, All-drop}
+use Rattle.std.proofs.lemmas.List.Elements.{All-take, All-drop, All-map}
 use Rattle.cnf.specs.Literal.{Literal, positive}
 use Rattle.totalizer.specs.Stages.{Tree, Leaf, Node, size_of, tree_within, tree_of}
 use Rattle.totalizer.specs.Laid.{laid_within, laid_tree, tree_at}
@@ -73,7 +73,7 @@ pub laid_size : (xs : List Literal) (outputs : List (List Literal)) → 0 < leng
     → size_of (laid_tree xs outputs) ≡ length xs
 laid_size xs outputs h = size_within (length xs) xs outputs h (omega arith)
 
-abbrev pub IsEmpty : List Literal → Type 0
+abbrev IsEmpty : List Literal → Type 0
 IsEmpty o = o ≡ []
 
 first_empty : (outputs : List (List Literal)) → All IsEmpty outputs
@@ -97,9 +97,18 @@ bare_within (suc d) (x ∷ y ∷ more) outputs h =
     (first_empty outputs h i)
 
 -- before the first stage there are no outputs
-pub laid_bare : (xs : List Literal) (outputs : List (List Literal)) → All IsEmpty outputs
+laid_bare : (xs : List Literal) (outputs : List (List Literal)) → All IsEmpty outputs
     → laid_tree xs outputs ≡ tree_of xs
 laid_bare xs outputs h = bare_within (length xs) xs outputs h
+
+-- a node that no stage has made an output of
+abbrev pub HasNone : Vec Literal Global → Type 0
+HasNone o = o.items ≡ []
+
+-- before the first stage there are no outputs
+pub tree_bare : (xs : List Literal) (os : List (Vec Literal Global)) → All HasNone os
+    → tree_at xs os ≡ tree_of xs
+tree_bare xs os h = laid_bare xs (map (λ o. o.items) os) (All-map IsEmpty (λ o. o.items) os h)
 
 -- a node, where the outputs of its halves stand one after the other
 pub laid_halves : (xs : List Literal) (own : List Literal) (lo ro : List (List Literal))

@@ -1,3 +1,4 @@
 mod Sums
 mod Laid
 mod Staging
+mod Counting

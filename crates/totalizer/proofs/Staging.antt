@@ -1,6 +1,6 @@
 -- What a stage makes of a leaf, of a node that is too small for it, and of other nodes.
 use Rattle.std.proofs.Common.{◌≡◌, ℕ, suc, ◌+◌, ◌-◌, ◌<◌, ◌≤◌, Bool, true, false, List, [], ◌∷◌}
-use Rattle.std.proofs.Common.{◌++◌, refl, sym, ◌∙◌, ap, arith, nat_le, append_assoc}
+use Rattle.std.proofs.Common.{◌++◌, refl, sym, ◌∙◌, ap, arith, nat_le, append_assoc, length, length-append}
 use Rattle.std.specs.Prelude.{if◌then◌else◌}
 use Rattle.std.proofs.lemmas.Bool.{le-leb, lt-leb, leb-false}
 use Rattle.cnf.specs.Literal.{Literal, positive}
@@ -60,6 +60,13 @@ stage_takes h v (Node a b own) =
     by false e left right =
         let some = size_positive a in
         rw e record { from = omega arith; few = omega arith; same_size = refl }
+
+-- such a node gets one output more
+pub outputs_grow : (h v : ℕ) (a b : Tree) (own : List Literal) → h ≤ size_of a + size_of b
+    → length (outputs_of (stage h v (Node a b own)).tree) ≡ length own + 1
+outputs_grow h v a b own g =
+    ap (λ s. length (outputs_of s.tree)) (stage_node h v a b own g)
+    ∙ length-append own (positive (stage h (stage h v a).fresh b).fresh ∷ [])
 
 -- a stage that was made of the halves, as memory has it
 module _ (h v f r : ℕ) (a b na nb : Tree) (own : List Literal) (many : h ≤ size_of a + size_of b)

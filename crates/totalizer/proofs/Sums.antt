@@ -13,13 +13,13 @@ sums_left left right v i zero = []
 sums_left left right v i (suc j) = sum_clauses left right v i j
 
 module _ (left right : List Literal) (v : ℕ) where
-  sums_step : (i j : ℕ) → sums_left left right v i (suc j)
+  pub sums_step : (i j : ℕ) → sums_left left right v i (suc j)
       ≡ sum_clause left right v i j ++ sums_left left right v (i + 1) j
   sums_step i zero = sym (append-nil (sum_clause left right v i 0))
   sums_step i (suc j) = refl
 
   -- past the right list there is no clause
-  past_right : (i j : ℕ) → length right < j → sum_clause left right v i j ≡ []
+  pub past_right : (i j : ℕ) → length right < j → sum_clause left right v i j ≡ []
   past_right i zero h = absurd (omega arith)
   past_right zero (suc j) h = rw (slice_get_past right j (omega arith)) refl
   past_right (suc i) (suc j) h = by (slice_get left i) refl
@@ -30,7 +30,7 @@ module _ (left right : List Literal) (v : ℕ) where
       by (Some l) e = rw (e, slice_get_past right j (omega arith)) refl
 
   -- past the left list there is none
-  past_left : (i j : ℕ) → length left < i → sum_clause left right v i j ≡ []
+  pub past_left : (i j : ℕ) → length left < i → sum_clause left right v i j ≡ []
   past_left zero j h = absurd (omega arith)
   past_left (suc i) j h = rw (slice_get_past left i (omega arith)) refl
 

@@ -1,5 +1,5 @@
 // Stages of totalizers in flat memory.
-ghost use Rattle.std.specs.Prelude.{false, ◌≡◌, ◌+◌, ◌<◌, ◌≤◌, ◌++◌, [], ◌∷◌, length, OnOk, IfOk};
+ghost use Rattle.std.specs.Prelude.{false, ◌≡◌, ℕ, ◌+◌, ◌-◌, ◌*◌, ◌^◌, ◌<◌, ◌≤◌, min, ◌++◌, length, OnOk, IfOk};
 ghost use Rattle.cnf.specs.declared.limits.TheConstants.{VARIABLE_LIMIT};
 ghost use Rattle.cnf.specs.Literal.{positive, negative};
 ghost use Rattle.totalizer.specs.Stages.{outputs_of, stage, sum_clauses, order_clause};
@@ -48,6 +48,50 @@ pub(crate) fn add_outputs(
     Ok(fresh + 1)
 }
 
+/// How many clauses the next outputs take, where each node with so many inputs gets one.
+pub(crate) fn count_clauses(inputs: &[Lit], outputs: &[Vec<Lit>], at_least: usize) -> usize
+    requires laid { IsLaid inputs.now outputs.now }
+    requires room { length inputs.now * (at_least + 2) < 2 ^ 64 }
+    ensures count { (v : ℕ)
+        → result ≡ length (stage at_least v (tree_at inputs.now outputs.now)).clauses }
+    ensures few { result + (at_least + 2) ≤ length inputs.now * (at_least + 2) }
+{
+    if inputs.len() < at_least {
+        return 0;
+    }
+    let Some((own, below)) = outputs.split_first() else {
+        return 0;
+    };
+    let half = inputs.len() / 2;
+    let (left, right) = inputs.split_at(half);
+    let (left_outputs, right_outputs) = below.split_at(half - 1);
+    let before = count_clauses(left, left_outputs, at_least)
+        + count_clauses(right, right_outputs, at_least);
+    let left = count_outputs(left, left_outputs, at_least);
+    let right = count_outputs(right, right_outputs, at_least);
+    before + count_sums(left, right, at_least) + count_order(own)
+}
+
+/// How many outputs a node has once each node with so many inputs got its next one.
+fn count_outputs(inputs: &[Lit], outputs: &[Vec<Lit>], at_least: usize) -> usize
+    requires laid { IsLaid inputs.now outputs.now }
+    ensures { (v : ℕ) → result
+        ≡ length (outputs_of (stage at_least v (tree_at inputs.now outputs.now)).tree) }
+{
+    let Some((own, _)) = outputs.split_first() else {
+        return 1;
+    };
+    if inputs.len() < at_least { own.len() } else { own.len() + 1 }
+}
+
+/// How many clauses `push_sums` pushes, for so many outputs on each side.
+fn count_sums(left: usize, right: usize, at_least: usize) -> usize
+    requires { at_least + 1 < 2 ^ 64 }
+    ensures { result ≡ min left at_least + 1 - (at_least - right) }
+{
+    (left.min(at_least) + 1).saturating_sub(at_least.saturating_sub(right))
+}
+
 /// The outputs of a node.
 pub(crate) fn outputs_at<'a>(inputs: &'a [Lit], outputs: &'a [Vec<Lit>]) -> &'a [Lit]
     requires laid { IsLaid inputs.now outputs.now }
@@ -56,6 +100,17 @@ pub(crate) fn outputs_at<'a>(inputs: &'a [Lit], outputs: &'a [Vec<Lit>]) -> &'a 
     match outputs {
         [] => inputs,
         [own, ..] => own,
+    }
+}
+
+/// How many clauses `push_order` pushes, for these outputs.
+fn count_order(own: &[Lit]) -> usize
+    ensures count { (v : ℕ) → result ≡ length (order_clause own.now v) }
+    ensures few { result ≤ 1 }
+{
+    match own {
+        [] => 0,
+        [..] => 1,
     }
 }
 
