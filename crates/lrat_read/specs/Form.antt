@@ -18,6 +18,15 @@ signed_of (b ∷ bs) =
     tagged s None = None
     tagged s (Some n) = if nat_lt n NUMBER_LIMIT then Some (s, n) else None
 
+-- a number without a dash
+abbrev pub unsigned_of : List ℕ → Option ℕ
+unsigned_of t = undashed (signed_of t)
+  where
+    undashed : Option (Bool × ℕ) → Option ℕ
+    undashed None = None
+    undashed (Some (true, n)) = None
+    undashed (Some (false, n)) = Some n
+
 -- numbers that are not 0, up to the first 0, and what follows that
 abbrev pub block_of : List (List ℕ) → Option (List (Bool × ℕ) × List (List ℕ))
 block_of [] = None

@@ -7,3 +7,7 @@ pub mod Plain
 pub mod Batch
 pub mod Blanks
 pub mod Words
+pub mod WordReader
+pub mod Facts
+pub mod WordAt
+pub mod LastLits
