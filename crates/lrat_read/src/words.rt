@@ -1,7 +1,6 @@
 // The word that begins a line.
-ghost use Rattle.std.specs.Prelude.{◌≡◌, ◌≤◌, ◌<◌, length, drop, slice_range, slice_index, not, true};
-ghost use Rattle.std.specs.Prelude.{false};
-ghost use Rattle.std.specs.List.{list_any};
+ghost use Rattle.std.specs.Prelude.{◌≡◌, ◌≤◌, length, drop, slice_range, not, true, false};
+ghost use Rattle.std.specs.List.{list_all};
 ghost use Rattle.text.specs.Text.{is_blank, begins_with_token};
 ghost use Rattle.lrat_read.specs.Words.{word_of};
 ghost use Rattle.lrat_read.specs.WordAt.{IsWordAt, IsAfterPlus};
@@ -39,7 +38,7 @@ fn token_end(line: &[u8], start: usize) -> usize
     requires { start ≤ length line.now }
     ensures from { start ≤ result }
     ensures within { result ≤ length line.now }
-    ensures solid { list_any is_blank (slice_range line.now start result) ≡ false }
+    ensures solid { list_all (λ b. not (is_blank b)) (slice_range line.now start result) ≡ true }
     ensures stops { begins_with_token (drop result line.now) ≡ false }
 {
     let mut end = start;
