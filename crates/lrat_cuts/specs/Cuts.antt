@@ -16,8 +16,9 @@ use Rattle.forms.specs.declared.faults.LineFault.{LineFault}
 use Rattle.forms.specs.declared.faults.LineFault.TheVariants.{Name, Limit, Worth}
 use Rattle.lrat_live.specs.Listed.{Listed, listed_at, without_id}
 use Rattle.lrat_read.specs.Form.{Parsed, Addition, Deletion, Malformed, line_of, leading, groups_of}
-use Rattle.lrat_read.specs.Words.{NamedFact, Word, WordLine, CountLine, MoreLine, GroupLine, FormLine}
+use Rattle.lrat_read.specs.Words.{NamedFact, WordLine, CountLine, MoreLine, GroupLine, FormLine}
 use Rattle.lrat_read.specs.Words.{CutLine, BoundLine, word_of, after_word}
+use Rattle.lrat_read.specs.declared.words.Word.{Word}
 use Rattle.lrat_machine.specs.Steps.{live_of}
 use Rattle.lrat_machine.specs.Verdict.{HintWalk, Open, Refuted, Fault, walk}
 use Rattle.lrat_machine.specs.declared.verdicts.Cause.{Cause}
