@@ -1,18 +1,18 @@
 -- Tokens that are read whole, and the end of a line.
 use Rattle.std.proofs.Common.{◌≡◌, ℕ, zero, suc, ◌<◌, ◌≤◌, ◌&&◌, Bool, true, false, not, List, []}
-use Rattle.std.proofs.Common.{◌∷◌, ◌++◌, length, take, drop, ◌-◌, get_or, slice_range, Option, Some, None, inl}
-use Rattle.std.proofs.Common.{inr, refl, sym, ◌∙◌, ap, subst, arith, ◌+◌}
+use Rattle.std.proofs.Common.{◌∷◌, ◌++◌, length, take, drop, ◌-◌, get_or, slice_range, Some, None}
+use Rattle.std.proofs.Common.{inl, inr, refl, sym, ◌∙◌, ap, subst, arith, ◌+◌}
 use Rattle.std.specs.Prelude.{◌==◌}
 use Rattle.std.specs.Bool.{then_some}
 use Rattle.std.specs.List.{list_all}
 use Rattle.std.specs.Str.{bytes_eq}
 use Rattle.std.proofs.lemmas.Bool.{and_parts, both_ways, cases_lt, eq-eqb, ne_eqb}
-use Rattle.std.proofs.lemmas.List.{drop_all, drop_more, length-take}
+use Rattle.std.proofs.lemmas.List.{drop_all, drop_more}
 use Rattle.std.proofs.lemmas.Slice.Eq.{bytes_eq-Decides}
 use lib.Chars.{codes}
 use Rattle.text.specs.Text.{is_blank, begins_with_token, tokens_of}
 use Rattle.lrat_read.specs.Form.{unsigned_of}
-use Rattle.lrat_read.specs.WordAt.{IsAfterPlus, begins_with_plus}
+use Rattle.lrat_read.specs.Words.{IsAfterPlus, begins_with_plus}
 use Rattle.lrat_read.specs.Words.{ended_number, word_line_of, word_of}
 use Rattle.lrat_read.proofs.Scan.{Solid, split_at, token_front, token_whole}
 
@@ -153,7 +153,9 @@ plus_at line at start end same within blank from inside solid stops b e =
     some : (b : Bool) (u : List ℕ) → b ≡ bytes_eq u (codes "+")
         → tokens_of (drop at line) ≡ u ∷ tokens_of (drop end line)
         → IsAfterPlus line at (then_some b end)
-    some true u e h =
-        (h ∙ ap (λ t. t ∷ tokens_of (drop end line))
-        ((bytes_eq-Decides u (codes "+")).0 (sym e)), inside)
+    some true u e h = (
+      h ∙ ap (λ t. t ∷ tokens_of (drop end line))
+          ((bytes_eq-Decides u (codes "+")).0 (sym e)),
+      inside,
+    )
     some false u e h = ap begins_with_plus h ∙ sym e

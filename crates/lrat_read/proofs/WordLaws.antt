@@ -1,5 +1,5 @@
 -- Lines that begin with a word, by what their blocks are.
-use Rattle.std.proofs.Common.{◌≡◌, ℕ, Bool, List, [], ◌∷◌, Option, Some, None, refl}
+use Rattle.std.proofs.Common.{◌≡◌, ℕ, List, [], ◌∷◌, Some, None, refl}
 use Rattle.lrat_read.specs.Form.{block_of}
 use Rattle.lrat_read.specs.Words.{ended_ids, after_word}
 use Rattle.lrat_read.specs.declared.words.Word.TheVariants.{Group}

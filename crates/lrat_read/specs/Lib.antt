@@ -9,5 +9,3 @@ pub mod Blanks
 pub mod Words
 pub mod WordReader
 pub mod Facts
-pub mod WordAt
-pub mod LastLits

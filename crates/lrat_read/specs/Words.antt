@@ -1,15 +1,16 @@
 -- The lines that begin with a word: counts, groups, forms, cuts and bounds. Numbers are spelled
 -- plainly and lie below 2^62, and a line ends with 0.
-use Rattle.std.specs.Prelude.{ℕ, zero, suc, Bool, true, false, List, [], ◌∷◌, map, Option}
-use Rattle.std.specs.Prelude.{Some, None, if◌then◌else◌}
+use Rattle.std.specs.Prelude.{◌≡◌, ℕ, zero, suc, ◌≤◌, Bool, true, false, List, [], ◌∷◌, map, length}
+use Rattle.std.specs.Prelude.{drop, Option, Some, None, if◌then◌else◌}
 use Rattle.std.specs.List.{list_any}
 use Rattle.std.specs.Str.{bytes_eq}
 use lib.Chars.{codes}
 use Rattle.cnf.specs.Literal.{Literal}
-use Rattle.lrat_read.specs.Blocks.{literal_from}
-use Rattle.lrat_read.specs.Form.{signed_of, unsigned_of, block_of}
+use Rattle.text.specs.Text.{tokens_of}
+use Rattle.lrat_read.specs.Form.{signed_of, unsigned_of, block_of, literal_from}
 use Rattle.lrat_read.specs.declared.words.Word.{Word}
 use Rattle.lrat_read.specs.declared.words.Word.TheVariants.{Count, More, Group, Form, Cut, Bound}
+use Rattle.lrat_read.specs.declared.words.WordAt.{WordAt}
 
 -- so many times a fact: that of the clause with this id, or of the count or group with this number
 -- where there is a dash
@@ -150,3 +151,21 @@ word_line_of (t ∷ ts) = by (word_of t)
     by : Option Word → Option (Option WordLine)
     by None = None
     by (Some w) = Some (after_word w ts)
+
+-- which word begins a line, and where what follows it begins
+abbrev pub IsWordAt : List ℕ → Option WordAt → Type 0
+IsWordAt line None = word_line_of (tokens_of line) ≡ None
+IsWordAt line (Some w) =
+    (t : List ℕ) × (tokens_of line ≡ t ∷ tokens_of (drop w.end line)) × (word_of t ≡ Some w.word)
+    × (w.end ≤ length line)
+
+-- the first token is a plus sign
+abbrev pub begins_with_plus : List (List ℕ) → Bool
+begins_with_plus [] = false
+begins_with_plus (t ∷ ts) = bytes_eq t (codes "+")
+
+-- the place behind a plus sign, where that is the next token
+abbrev pub IsAfterPlus : List ℕ → ℕ → Option ℕ → Type 0
+IsAfterPlus line at None = begins_with_plus (tokens_of (drop at line)) ≡ false
+IsAfterPlus line at (Some end) =
+    (tokens_of (drop at line) ≡ codes "+" ∷ tokens_of (drop end line)) × (end ≤ length line)

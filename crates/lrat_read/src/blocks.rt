@@ -1,8 +1,7 @@
 // The blocks of a line: numbers up to the first 0.
 ghost use Rattle.std.specs.Prelude.{◌≡◌, ◌≤◌, length, IfOk};
 ghost use Rattle.std.specs.List.{list_any};
-ghost use Rattle.lrat_read.specs.Blocks.{IsLitsRead, IsHintsRead, IsLastRead};
-ghost use Rattle.lrat_read.specs.LastLits.{AreLastLitsRead};
+ghost use Rattle.lrat_read.specs.Blocks.{IsLitsRead, AreLastLitsRead, IsHintsRead, IsLastRead};
 
 use crate::numbers::{NumberAt, number_at, skip_blanks};
 use crate::types::SignedId;

@@ -3,7 +3,7 @@ ghost use Rattle.std.specs.Prelude.{◌≡◌, ◌≤◌, length, drop, slice_ra
 ghost use Rattle.std.specs.List.{list_all};
 ghost use Rattle.text.specs.Text.{is_blank, begins_with_token};
 ghost use Rattle.lrat_read.specs.Words.{word_of};
-ghost use Rattle.lrat_read.specs.WordAt.{IsWordAt, IsAfterPlus};
+ghost use Rattle.lrat_read.specs.Words.{IsWordAt, IsAfterPlus};
 
 use crate::numbers::{is_blank_byte, skip_blanks};
 

@@ -12,8 +12,8 @@ returns-clause-number c =
     let zero = c.in_ok-zero.zero in
     let first = c.in_ok-number.ensures in
     let second = c.in_ok-zero.ensures in
-    let last : c.if-zero-eq0.is_last ≡ ((zero.value == 0) && is_done (tokens_of (drop zero.end line)))
-    = elim c.if-zero-eq0.branch [
+    let rest = tokens_of (drop zero.end line) in
+    let last : c.if-zero-eq0.is_last ≡ ((zero.value == 0) && is_done rest) = elim c.if-zero-eq0.branch [
       | then-zero-eq0 w ↦ zero_and zero.value c.if-zero-eq0.is_last _ w.if-zero-eq0.true
           (w.is_last-is ∙ done_at line w.skip_blanks.result zero.end w.skip_blanks.ensures.tokens
           w.skip_blanks.ensures.within w.skip_blanks.ensures.stops)
@@ -22,5 +22,5 @@ returns-clause-number c =
     ] in
     c.then_some.ensures
     ∙ number_last (tokens_of (drop c.args.at line)) (tokens_of (drop number.end line))
-    (tokens_of (drop zero.end line)) first.0 second.0 number.value zero.value
+    rest first.0 second.0 number.value zero.value
     c.if-zero-eq0.is_last first.1 second.1 first.2 second.2 last

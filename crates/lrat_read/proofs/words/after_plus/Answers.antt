@@ -1,6 +1,6 @@
 use Rattle.std.proofs.Common.{◌∙◌, ap, slice_range, subst, sym}
 use Rattle.std.specs.Str.{bytes_eq}
-use Rattle.lrat_read.specs.WordAt.{IsAfterPlus}
+use Rattle.lrat_read.specs.Words.{IsAfterPlus}
 use Rattle.lrat_read.proofs.Ends.{plus_at}
 use Rattle.lrat_read.proofs.words.after_plus.Goals as goal
 

@@ -1,5 +1,5 @@
 -- One byte more.
-use Rattle.std.proofs.Common.{arith, ap, sym, ◌∙◌, not}
+use Rattle.std.proofs.Common.{arith, ap, sym, not}
 use Rattle.text.specs.Text.{is_blank}
 use Rattle.lrat_read.proofs.Scan.{run_push}
 use Rattle.lrat_read.proofs.words.token_end.Goals as goal
