@@ -17,10 +17,11 @@ use Rattle.forms.specs.declared.faults.LineFault.{LineFault}
 use Rattle.forms.specs.declared.faults.LineFault.TheVariants.{Name, Limit, Worth}
 use Rattle.lrat_live.specs.Listed.{Listed, listed_at, without_id}
 use Rattle.lrat_read.specs.Form.{Parsed, Addition, Deletion, Malformed, line_of, leading, groups_of}
-use Rattle.lrat_read.specs.Words.{NamedFact, Word, WordLine, CountLine, MoreLine, GroupLine, FormLine}
+use Rattle.lrat_read.specs.Words.{NamedFact, WordLine, CountLine, MoreLine, GroupLine, FormLine}
 use Rattle.lrat_read.specs.Words.{CutLine, BoundLine, word_of, after_word}
+use Rattle.lrat_read.specs.declared.words.Word.{Word}
+use Rattle.lrat_machine.specs.Rup.{deleted_from, rup_fault}
 use Rattle.lrat_machine.specs.Steps.{live_of}
-use Rattle.lrat_machine.specs.Verdict.{HintWalk, Open, Refuted, Fault, walk}
 use Rattle.lrat_machine.specs.declared.verdicts.Cause.{Cause}
 use Rattle.lrat_machine.specs.declared.verdicts.Cause.TheVariants.{LineForm, IdOrder, DeadId}
 use Rattle.lrat_machine.specs.declared.verdicts.Cause.TheVariants.{HintAfterConflict, NoConflict}
@@ -78,26 +79,6 @@ cuts_start p =
       proved = 0;
     } in
     record (put_all (weighted_cnf p).clauses blank) { ended = false; proved = 0 }
-
--- an addition has to have a conflict by its hints, and no groups
-abbrev pub rup_fault : Live → ℕ → List Literal → List (Bool × ℕ) → Option Cause
-rup_fault live id c hints =
-    if nat_le id live.last then Some IdOrder
-    else if has_repeat c || is_tautology c
-    || list_any (λ l. nat_le VARIABLE_LIMIT l.variable) c then Some ClauseForm
-    else by (walk live.clause_at (map negation c) (leading hints)) (groups_of hints)
-  where
-    by : HintWalk → List CandidateHints → Option Cause
-    by (Fault f) gs = Some f
-    by Refuted [] = None
-    by Refuted (g ∷ gs) = Some HintAfterConflict
-    by (Open B) gs = Some NoConflict
-
--- after the ids of a deletion, in order
-abbrev pub deleted_from : Listed → List ℕ → Option Listed
-deleted_from es [] = Some es
-deleted_from es (i ∷ is) =
-    if is_some (listed_at es i) then deleted_from (without_id i es) is else None
 
 abbrev pub judged_plain : Parsed → CutsState → Result CutsState Cause
 judged_plain Malformed s = Err LineForm

@@ -11,4 +11,5 @@ mod Base
 mod Proofs
 mod Whole
 mod Judged
+mod RupLaws
 pub mod Laws

@@ -4,8 +4,10 @@
 mod additions;
 mod ahead;
 mod assumed;
+mod deletions;
 mod hints;
 pub mod machine;
 mod rat;
+pub mod rup;
 mod state;
 pub mod verdicts;

@@ -12,6 +12,7 @@ ghost use Rattle.lrat_read.specs.Reader.{IsReadAs};
 use crate::additions::addition_fault;
 use crate::ahead::read_ahead;
 use crate::assumed::AssumedLits;
+use crate::deletions::delete_all;
 use crate::state::{ClauseBase, Scratch};
 use crate::verdicts::{Cause, Verdict};
 use cnf::types::Formula;
@@ -19,7 +20,7 @@ use lrat_live::live::LiveClauses;
 use lrat_read::batch::Batch;
 use lrat_read::line::{LineView, ReadLine};
 use lrat_read::reader::LineReader;
-use lrat_read::types::{Form, SignedId};
+use lrat_read::types::Form;
 use std::alloc::AllocError;
 use std::marker::Model;
 
@@ -49,24 +50,6 @@ impl Model for Machine {
     ghost view = { λ m. state_with m.base m.lines };
 
     ghost invariant = { λ m. IsBase m.scratch.assumed.variables m.base.last m.base.live };
-}
-
-// Deletes the clauses of these ids in turn, up to one that is not live.
-fn delete_all(live: &mut LiveClauses, hints: &[SignedId]) -> Option<Cause>
-    ensures deleted { (last : ℕ) → MatchOption result
-        (deleted (live_of last live.old) (map (λ h. h.1) hints.now)
-        ≡ Some (live_of last live.new))
-        (λ cause. (cause ≡ Cause.DeadId)
-        × (deleted (live_of last live.old) (map (λ h. h.1) hints.now) ≡ None)) }
-    ensures base { (variables : ℕ) (last : ℕ) → IsBase variables last live.old
-        → IsBase variables last live.new }
-{
-    for hint in hints {
-        if !live.delete(hint.id()) {
-            return Some(Cause::DeadId);
-        }
-    }
-    None
 }
 
 // Adds the line's clause, if its hints allow it.

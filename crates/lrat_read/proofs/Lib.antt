@@ -2,6 +2,9 @@ mod Tokens
 mod Lines
 mod Scan
 mod Places
+mod Ends
+mod FactLaws
+mod WordLaws
 mod Prefixes
 mod PlainLaws
 mod PlainLoops

@@ -17,9 +17,8 @@ use Rattle.cnf.specs.Lrat.{IsId}
 use Rattle.text.specs.LratText.{group_tokens, line_tokens, HasNumbers}
 use Rattle.cnf.proofs.Laws.{GroupHasIds}
 use Rattle.lrat_read.specs.Form.{signed_of, block_of, Parsed, Addition, Deletion, Malformed}
-use Rattle.lrat_read.specs.Form.{line_of, leading, groups_of}
+use Rattle.lrat_read.specs.Form.{line_of, literal_from, leading, groups_of}
 use lib.Chars.{codes}
-use Rattle.lrat_read.specs.Blocks.{literal_from}
 use Rattle.lrat_read.proofs.Tokens.{spell, Signed, HasIds, signed_means, signed_from, block_means}
 use Rattle.lrat_read.proofs.Tokens.{block_from}
 

@@ -8,9 +8,9 @@ use Rattle.std.proofs.lemmas.List.{map_push, drop_all, drop_more}
 use Rattle.std.proofs.Math.Bool.{or-false, or-true}
 use Rattle.cnf.specs.Literal.{Literal}
 use Rattle.text.specs.Text.{is_blank, tokens_of}
-use Rattle.lrat_read.specs.Form.{signed_of, block_of}
+use Rattle.lrat_read.specs.Form.{signed_of, block_of, literal_from}
 use Rattle.lrat_read.specs.Reader.{is_large_clause}
-use Rattle.lrat_read.specs.Blocks.{literal_from, IsHintsRead, IsLastRead}
+use Rattle.lrat_read.specs.Blocks.{IsHintsRead, IsLastRead}
 use Rattle.lrat_read.proofs.Scan.{token_front}
 use Rattle.lrat_read.proofs.Tokens.{Signed, Rest, block_more, block_more_none}
 

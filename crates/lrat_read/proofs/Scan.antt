@@ -29,7 +29,7 @@ digits_solid (b ∷ bs) e = let h = and_parts (is_digit b) (list_all is_digit bs
     (digit_is_no_blank b h.0, digits_solid bs h.1)
 
 -- a token, up to a blank or the end
-token_whole : (b : ℕ) (bs rest : List ℕ) → is_blank b ≡ false → Solid bs
+pub token_whole : (b : ℕ) (bs rest : List ℕ) → is_blank b ≡ false → Solid bs
     → begins_with_token rest ≡ false → tokens_of (b ∷ (bs ++ rest)) ≡ (b ∷ bs) ∷ tokens_of rest
 token_whole b [] rest h s e = rw (h, e) refl
 token_whole b (c ∷ cs) rest h s e =

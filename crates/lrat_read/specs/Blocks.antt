@@ -3,12 +3,10 @@ use Rattle.std.specs.Prelude.{◌≡◌, ℕ, ◌≤◌, Bool, false, true, List
 use Rattle.std.specs.Prelude.{Some, None}
 use Rattle.cnf.specs.Literal.{Literal}
 use Rattle.text.specs.Text.{tokens_of}
-use Rattle.lrat_read.specs.Form.{block_of}
+use Rattle.lrat_read.specs.Form.{block_of, literal_from}
 use Rattle.lrat_read.specs.Reader.{is_large_clause}
+use Rattle.lrat_read.specs.Words.{ended_literals}
 use Rattle.lrat_read.specs.declared.blocks.LitsEnd.{LitsEnd}
-
-abbrev pub literal_from : Bool × ℕ → Literal
-literal_from x = record { variable = x.1; negated = x.0 }
 
 -- the block that begins at a place, as literals
 abbrev pub IsLitsRead : List ℕ → ℕ → List Literal → Option LitsEnd → Type 0
@@ -19,6 +17,13 @@ IsLitsRead line at lits (Some e) =
     × (e.end ≤ length line)
     × (is_large_clause (map literal_from xs) ≡ e.is_large)
     × (e.is_large ≡ false → map literal_from xs ≡ lits)
+
+-- the last block of a line, as literals
+abbrev pub AreLastLitsRead : List ℕ → ℕ → List Literal → Option LitsEnd → Type 0
+AreLastLitsRead line at lits None = ended_literals (tokens_of (drop at line)) ≡ None
+AreLastLitsRead line at lits (Some e) =
+    (c : List Literal) × (ended_literals (tokens_of (drop at line)) ≡ Some c)
+    × (is_large_clause c ≡ e.is_large) × (e.is_large ≡ false → c ≡ lits)
 
 -- the block that begins at a place, as hints
 abbrev pub IsHintsRead : List ℕ → ℕ → List (Bool × ℕ) → Option ℕ → Type 0

@@ -18,6 +18,19 @@ signed_of (b ∷ bs) =
     tagged s None = None
     tagged s (Some n) = if nat_lt n NUMBER_LIMIT then Some (s, n) else None
 
+-- a number without a dash
+abbrev pub unsigned_of : List ℕ → Option ℕ
+unsigned_of t = undashed (signed_of t)
+  where
+    undashed : Option (Bool × ℕ) → Option ℕ
+    undashed None = None
+    undashed (Some (true, n)) = None
+    undashed (Some (false, n)) = Some n
+
+-- a dash is a negation
+abbrev pub literal_from : Bool × ℕ → Literal
+literal_from x = record { variable = x.1; negated = x.0 }
+
 -- numbers that are not 0, up to the first 0, and what follows that
 abbrev pub block_of : List (List ℕ) → Option (List (Bool × ℕ) × List (List ℕ))
 block_of [] = None
@@ -44,9 +57,6 @@ abbrev pub line_of : List (List ℕ) → Parsed
 line_of [] = Malformed
 line_of (t ∷ ts) = led (signed_of t) ts
   where
-    literal_of : Bool × ℕ → Literal
-    literal_of (s, n) = record { variable = n; negated = s }
-
     ends : Option (List (Bool × ℕ) × List (List ℕ)) → Option (List (Bool × ℕ))
     ends None = None
     ends (Some (xs, [])) = Some xs
@@ -58,7 +68,7 @@ line_of (t ∷ ts) = led (signed_of t) ts
 
     hinted : ℕ → List (Bool × ℕ) → Option (List (Bool × ℕ)) → Parsed
     hinted id c None = Malformed
-    hinted id c (Some hs) = Addition id (map literal_of c) hs
+    hinted id c (Some hs) = Addition id (map literal_from c) hs
 
     addition : ℕ → Option (List (Bool × ℕ) × List (List ℕ)) → Parsed
     addition id None = Malformed

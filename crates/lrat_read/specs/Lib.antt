@@ -7,3 +7,5 @@ pub mod Plain
 pub mod Batch
 pub mod Blanks
 pub mod Words
+pub mod WordReader
+pub mod Facts

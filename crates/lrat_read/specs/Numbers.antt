@@ -4,10 +4,11 @@ use Rattle.std.specs.Prelude.{slice_index, slice_range, Option, Some, None}
 use Rattle.std.specs.List.{list_all}
 use Rattle.cnf.specs.declared.limits.TheConstants.{NUMBER_LIMIT}
 use Rattle.text.specs.Text.{tokens_of, begins_with_token, is_digit, value_on}
-use Rattle.lrat_read.specs.Form.{signed_of}
+use Rattle.lrat_read.specs.Form.{signed_of, unsigned_of}
 use Rattle.lrat_read.specs.declared.numbers.Digits.{Digits}
 use Rattle.lrat_read.specs.declared.numbers.NumberAt.{NumberAt}
 use Rattle.lrat_read.specs.declared.numbers.NumberAt.TheVariants.{End, Malformed, Number}
+use Rattle.lrat_read.specs.declared.numbers.UnsignedAt.{UnsignedAt}
 
 -- the longest run of digits from a place on, of which at most 19 are taken
 pub record IsDigitsAt (line : List ℕ) (start : ℕ) (d : Digits) : Type 0 where
@@ -45,3 +46,15 @@ abbrev pub IsAfterLetter : List ℕ → ℕ → Option ℕ → Type 0
 IsAfterLetter line at None = (ts : List (List ℕ)) → tokens_of (drop at line) ≡ (100 ∷ []) ∷ ts → ⊥
 IsAfterLetter line at (Some end) =
     (tokens_of (drop at line) ≡ (100 ∷ []) ∷ tokens_of (drop end line)) × (end ≤ length line)
+
+-- the number without a dash that the first token spells
+abbrev pub first_unsigned : List (List ℕ) → Option ℕ
+first_unsigned [] = None
+first_unsigned (t ∷ ts) = unsigned_of t
+
+abbrev pub IsUnsignedAt : List ℕ → ℕ → Option UnsignedAt → Type 0
+IsUnsignedAt line at None = first_unsigned (tokens_of (drop at line)) ≡ None
+IsUnsignedAt line at (Some n) =
+    (t : List ℕ) × (tokens_of (drop at line) ≡ t ∷ tokens_of (drop n.end line))
+    × (unsigned_of t ≡ Some n.value) × (n.value < NUMBER_LIMIT) × (at < n.end)
+    × (n.end ≤ length line)

@@ -1,12 +1,16 @@
--- The lines that begin with a word: counts, groups, forms, cuts and bounds. Numbers are plain and
--- below 2^62, and a line ends with 0.
-use Rattle.std.specs.Prelude.{ℕ, zero, suc, Bool, true, false, ◌&&◌, List, [], ◌∷◌, map, Option}
-use Rattle.std.specs.Prelude.{Some, None, nat_lt, ◌==◌, if◌then◌else◌}
+-- The lines that begin with a word: counts, groups, forms, cuts and bounds. Numbers are spelled
+-- plainly and lie below 2^62, and a line ends with 0.
+use Rattle.std.specs.Prelude.{◌≡◌, ℕ, zero, suc, ◌≤◌, Bool, true, false, List, [], ◌∷◌, map, length}
+use Rattle.std.specs.Prelude.{drop, Option, Some, None, if◌then◌else◌}
+use Rattle.std.specs.List.{list_any}
+use Rattle.std.specs.Str.{bytes_eq}
 use lib.Chars.{codes}
 use Rattle.cnf.specs.Literal.{Literal}
-use Rattle.cnf.specs.declared.limits.TheConstants.{NUMBER_LIMIT}
-use Rattle.text.specs.Text.{number_of}
-use Rattle.lrat_read.specs.Form.{signed_of, block_of}
+use Rattle.text.specs.Text.{tokens_of}
+use Rattle.lrat_read.specs.Form.{signed_of, unsigned_of, block_of, literal_from}
+use Rattle.lrat_read.specs.declared.words.Word.{Word}
+use Rattle.lrat_read.specs.declared.words.Word.TheVariants.{Count, More, Group, Form, Cut, Bound}
+use Rattle.lrat_read.specs.declared.words.WordAt.{WordAt}
 
 -- so many times a fact: that of the clause with this id, or of the count or group with this number
 -- where there is a dash
@@ -29,40 +33,16 @@ pub data WordLine : Type 0 where
   -- bound L 0
   BoundLine : (lower : ℕ) → WordLine
 
-pub data Word : Type 0 where
-  Count : Word
-  More : Word
-  Group : Word
-  Form : Word
-  Cut : Word
-  Bound : Word
-
-abbrev pub same_bytes : List ℕ → List ℕ → Bool
-same_bytes [] [] = true
-same_bytes (b ∷ bs) (c ∷ cs) = (b == c) && same_bytes bs cs
-same_bytes bs cs = false
-
 -- the word that a token is
 abbrev pub word_of : List ℕ → Option Word
 word_of t =
-    if same_bytes t (codes "cut") then Some Cut
-    else if same_bytes t (codes "form") then Some Form
-    else if same_bytes t (codes "bound") then Some Bound
-    else if same_bytes t (codes "count") then Some Count
-    else if same_bytes t (codes "more") then Some More
-    else if same_bytes t (codes "group") then Some Group
+    if bytes_eq t (codes "cut") then Some Cut
+    else if bytes_eq t (codes "form") then Some Form
+    else if bytes_eq t (codes "bound") then Some Bound
+    else if bytes_eq t (codes "count") then Some Count
+    else if bytes_eq t (codes "more") then Some More
+    else if bytes_eq t (codes "group") then Some Group
     else None
-
--- a number below 2^62
-abbrev pub plain : List ℕ → Option ℕ
-plain t = below (number_of t)
-  where
-    below : Option ℕ → Option ℕ
-    below None = None
-    below (Some n) = if nat_lt n NUMBER_LIMIT then Some n else None
-
-abbrev pub literal_of : Bool × ℕ → Literal
-literal_of (s, n) = record { variable = n; negated = s }
 
 -- literals up to the first 0, and what follows that
 abbrev pub literals_of : List (List ℕ) → Option (List Literal × List (List ℕ))
@@ -70,7 +50,7 @@ literals_of ts = by (block_of ts)
   where
     by : Option (List (Bool × ℕ) × List (List ℕ)) → Option (List Literal × List (List ℕ))
     by None = None
-    by (Some (xs, rest)) = Some (map literal_of xs, rest)
+    by (Some (xs, rest)) = Some (map literal_from xs, rest)
 
 -- literals, and after them a 0, which is the last token
 abbrev pub ended_literals : List (List ℕ) → Option (List Literal)
@@ -81,24 +61,18 @@ ended_literals ts = by (literals_of ts)
     by (Some (ls, [])) = Some ls
     by (Some (ls, t ∷ rest)) = None
 
--- numbers from 1, and after them a 0, which is the last token
+-- numbers from 1 without dashes, and after them a 0, which is the last token
 abbrev pub ended_ids : List (List ℕ) → Option (List ℕ)
-ended_ids [] = None
-ended_ids (t ∷ ts) = on (plain t) ts (ended_ids ts)
+ended_ids ts = by (block_of ts)
   where
-    onto : ℕ → Option (List ℕ) → Option (List ℕ)
-    onto n None = None
-    onto n (Some ns) = Some (n ∷ ns)
-
-    on : Option ℕ → List (List ℕ) → Option (List ℕ) → Option (List ℕ)
-    on None us more = None
-    on (Some zero) [] more = Some []
-    on (Some zero) (u ∷ us) more = None
-    on (Some (suc n)) us more = onto (suc n) more
+    by : Option (List (Bool × ℕ) × List (List ℕ)) → Option (List ℕ)
+    by None = None
+    by (Some (xs, [])) = if list_any (λ x. x.0) xs then None else Some (map (λ x. x.1) xs)
+    by (Some (xs, t ∷ rest)) = None
 
 -- one number, and after it a 0, which is the last token
 abbrev pub ended_number : List (List ℕ) → Option ℕ
-ended_number (t ∷ u ∷ []) = by (plain t) (plain u)
+ended_number (t ∷ u ∷ []) = by (unsigned_of t) (unsigned_of u)
   where
     by : Option ℕ → Option ℕ → Option ℕ
     by (Some n) (Some zero) = Some n
@@ -108,12 +82,12 @@ ended_number ts = None
 -- weights from 1, each with a fact, and after them a 0, which is the last token
 abbrev pub ended_facts : List (List ℕ) → Option (List NamedFact)
 ended_facts [] = None
-ended_facts (t ∷ []) = by (plain t)
+ended_facts (t ∷ []) = by (unsigned_of t)
   where
     by : Option ℕ → Option (List NamedFact)
     by (Some zero) = Some []
     by n = None
-ended_facts (t ∷ u ∷ ts) = by (plain t) (signed_of u) (ended_facts ts)
+ended_facts (t ∷ u ∷ ts) = by (unsigned_of t) (signed_of u) (ended_facts ts)
   where
     by : Option ℕ → Option (Bool × ℕ) → Option (List NamedFact) → Option (List NamedFact)
     by (Some (suc w)) (Some (s, suc n)) (Some fs) =
@@ -129,8 +103,8 @@ after_word Cut ts = by (ended_literals ts)
     by (Some ls) = Some (CutLine ls)
 after_word Form [] = None
 after_word Form (t ∷ ts) =
-    if same_bytes t (codes "+") then by (Some None) (ended_facts ts)
-    else by (scale (plain t)) (ended_facts ts)
+    if bytes_eq t (codes "+") then by (Some None) (ended_facts ts)
+    else by (scale (unsigned_of t)) (ended_facts ts)
   where
     scale : Option ℕ → Option (Option ℕ)
     scale None = None
@@ -146,7 +120,7 @@ after_word Bound ts = by (ended_number ts)
     by None = None
     by (Some n) = Some (BoundLine n)
 after_word Count [] = None
-after_word Count (t ∷ ts) = by (plain t) (ended_literals ts)
+after_word Count (t ∷ ts) = by (unsigned_of t) (ended_literals ts)
   where
     by : Option ℕ → Option (List Literal) → Option WordLine
     by None ls = None
@@ -168,3 +142,30 @@ after_word Group ts = by (literals_of ts)
     by : Option (List Literal × List (List ℕ)) → Option WordLine
     by None = None
     by (Some (ls, rest)) = with ls (ended_ids rest)
+
+-- what the tokens of a line spell that begins with a word, if anything
+abbrev pub word_line_of : List (List ℕ) → Option (Option WordLine)
+word_line_of [] = None
+word_line_of (t ∷ ts) = by (word_of t)
+  where
+    by : Option Word → Option (Option WordLine)
+    by None = None
+    by (Some w) = Some (after_word w ts)
+
+-- which word begins a line, and where what follows it begins
+abbrev pub IsWordAt : List ℕ → Option WordAt → Type 0
+IsWordAt line None = word_line_of (tokens_of line) ≡ None
+IsWordAt line (Some w) =
+    (t : List ℕ) × (tokens_of line ≡ t ∷ tokens_of (drop w.end line)) × (word_of t ≡ Some w.word)
+    × (w.end ≤ length line)
+
+-- the first token is a plus sign
+abbrev pub begins_with_plus : List (List ℕ) → Bool
+begins_with_plus [] = false
+begins_with_plus (t ∷ ts) = bytes_eq t (codes "+")
+
+-- the place behind a plus sign, where that is the next token
+abbrev pub IsAfterPlus : List ℕ → ℕ → Option ℕ → Type 0
+IsAfterPlus line at None = begins_with_plus (tokens_of (drop at line)) ≡ false
+IsAfterPlus line at (Some end) =
+    (tokens_of (drop at line) ≡ codes "+" ∷ tokens_of (drop end line)) × (end ≤ length line)

@@ -1,7 +1,7 @@
 // The blocks of a line: numbers up to the first 0.
 ghost use Rattle.std.specs.Prelude.{◌≡◌, ◌≤◌, length, IfOk};
 ghost use Rattle.std.specs.List.{list_any};
-ghost use Rattle.lrat_read.specs.Blocks.{IsLitsRead, IsHintsRead, IsLastRead};
+ghost use Rattle.lrat_read.specs.Blocks.{IsLitsRead, AreLastLitsRead, IsHintsRead, IsLastRead};
 
 use crate::numbers::{NumberAt, number_at, skip_blanks};
 use crate::types::SignedId;
@@ -44,6 +44,22 @@ pub fn read_lits(lits: &mut Vec<Lit>, line: &[u8], at: usize) -> Result<Option<L
         }
     }
     Ok(None)
+}
+
+/// Reads the last block of a line as literals; None where it is malformed, or something stands
+/// after it.
+pub fn read_last_lits(
+    lits: &mut Vec<Lit>,
+    line: &[u8],
+    at: usize,
+) -> Result<Option<LitsEnd>, AllocError>
+    requires { at ≤ length line.now }
+    ensures { IfOk result (λ r. AreLastLitsRead line.now at lits.new.items r) }
+{
+    let Some(block) = read_lits(lits, line, at)? else {
+        return Ok(None);
+    };
+    Ok((skip_blanks(line, block.end) == line.len()).then_some(block))
 }
 
 /// Reads the block that begins at a place as hints, and says where it ends; None where it is

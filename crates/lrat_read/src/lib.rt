@@ -5,8 +5,11 @@
 pub mod batch;
 pub mod blanks;
 mod blocks;
+pub mod facts;
 pub mod line;
 mod numbers;
 mod plain;
 pub mod reader;
 pub mod types;
+pub mod word_reader;
+pub mod words;

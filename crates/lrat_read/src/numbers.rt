@@ -1,11 +1,13 @@
 // Where a number of a line begins and ends, and what it is, however the line is written. Nearly all
 // lines of a certificate are written plainly, and are read by `plain.rt` in place of this.
 ghost use Rattle.std.specs.Prelude.{◌≡◌, ◌+◌, ◌<◌, ◌≤◌, ◌↔◌, length, drop, slice_index, not, false};
-ghost use Rattle.std.specs.Prelude.{IsTrue, slice_range, true};
+ghost use Rattle.std.specs.Prelude.{IsTrue, IfSome, slice_range, true};
+ghost use Rattle.cnf.specs.declared.limits.TheConstants.{NUMBER_LIMIT};
 ghost use Rattle.std.specs.List.{list_all};
 ghost use Rattle.text.specs.Text.{tokens_of, is_blank, begins_with_token};
 ghost use Rattle.lrat_read.specs.Numbers.{IsDigitsAt, IsNumber, IsNumberAt};
-ghost use Rattle.lrat_read.specs.Numbers.{IsAfterLetter};
+ghost use Rattle.lrat_read.specs.Numbers.{IsAfterLetter, IsUnsignedAt};
+ghost use Rattle.lrat_read.specs.Words.{ended_number};
 
 use cnf::limits::NUMBER_LIMIT;
 
@@ -27,6 +29,15 @@ pub enum NumberAt {
     },
 }
 
+/// A number without a dash.
+#[derive(Clone, Copy, Drop)]
+pub struct UnsignedAt {
+    /// Its value, below 2^62.
+    pub value: u64,
+    /// A place after it.
+    pub end: usize,
+}
+
 /// A run of digits: its value and where it ends.
 #[derive(Clone, Copy, Drop)]
 pub struct Digits {
@@ -37,7 +48,7 @@ pub struct Digits {
 }
 
 #[inline(always)]
-fn is_blank_byte(byte: u8) -> bool
+pub(crate) fn is_blank_byte(byte: u8) -> bool
     ensures { result ≡ is_blank byte }
 {
     byte == b' ' || byte == b'\t'
@@ -129,6 +140,34 @@ pub fn number_at(line: &[u8], at: usize) -> NumberAt
     } else {
         NumberAt::Malformed
     }
+}
+
+/// The number without a dash that begins at a place, or after the blanks there; None where there is
+/// none.
+pub fn unsigned_at(line: &[u8], at: usize) -> Option<UnsignedAt>
+    requires { at ≤ length line.now }
+    ensures { IsUnsignedAt line.now at result }
+{
+    match number_at(line, at) {
+        NumberAt::Number {
+            is_dashed: false,
+            value,
+            end,
+        } => Some(UnsignedAt { value, end }),
+        NumberAt::Number { .. } | NumberAt::Malformed | NumberAt::End => None,
+    }
+}
+
+/// The number without a dash that begins at a place, where a 0 ends the line after it.
+pub fn last_number(line: &[u8], at: usize) -> Option<u64>
+    requires { at ≤ length line.now }
+    ensures number { result ≡ ended_number (tokens_of (drop at line.now)) }
+    ensures small { IfSome result (λ n. n < NUMBER_LIMIT) }
+{
+    let number = unsigned_at(line, at)?;
+    let zero = unsigned_at(line, number.end)?;
+    let is_last = zero.value == 0 && skip_blanks(line, zero.end) == line.len();
+    is_last.then_some(number.value)
 }
 
 /// The place after the letter `d`, where that is the next token.

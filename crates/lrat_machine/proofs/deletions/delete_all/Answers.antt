@@ -1,11 +1,13 @@
 use Rattle.std.proofs.Common.{◌≡◌, ◌+◌, refl, ap, sym, ◌∙◌, subst}
 use Rattle.lrat_live.specs.Listed.{without_id, listed_at}
+use Rattle.lrat_machine.specs.Rup.{deleted_from}
 use Rattle.lrat_machine.specs.Steps.{IsBase, live_of}
 use Rattle.lrat_machine.specs.Verdict.{deleted}
 use Rattle.std.specs.Prelude.{IsSome}
 use Rattle.lrat_machine.proofs.Base.{IsBase-without, deleted_more}
 use Rattle.lrat_machine.proofs.Effects.{ids_from}
-use Rattle.lrat_machine.proofs.machine.delete_all.Goals as goal
+use Rattle.lrat_machine.proofs.RupLaws.{deleted_next}
+use Rattle.lrat_machine.proofs.deletions.delete_all.Goals as goal
 
 pub returns-then-not-delete-clause-base : goal.returns-then-not-delete-clause-base
 returns-then-not-delete-clause-base c = λ variables last b.
@@ -26,6 +28,9 @@ loop-hint-preserved c =
       rest = λ last. c.loop-hint.invariant.rest last
           ∙ deleted_more last es c.args.hints.now i h c.loop-hint-test.true c.hint-item.is found
           ∙ ap (λ xs. deleted (live_of last xs) (ids_from c.args.hints.now (i + 1))) (sym left);
+      listed = c.loop-hint.invariant.listed
+          ∙ deleted_next es c.args.hints.now i h c.loop-hint-test.true c.hint-item.is found
+          ∙ ap (λ xs. deleted_from xs (ids_from c.args.hints.now (i + 1))) (sym left);
       base =
           λ variables last b. subst (IsBase variables last) (sym left)
           (IsBase-without variables last h.1 es (c.loop-hint.invariant.base variables last b));
