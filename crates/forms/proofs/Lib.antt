@@ -1,1 +1,3 @@
 mod Repeating
+mod Stamps
+mod Sizes

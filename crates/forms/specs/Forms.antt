@@ -7,6 +7,7 @@ use Rattle.std.specs.Prelude.{◌/◌, min, max, Bool, true, false, not, ◌&&�
 use Rattle.std.specs.Prelude.{length, map, Option, Some, None, Result, Ok, Err, nat_le, ◌==◌}
 use Rattle.std.specs.Prelude.{slice_get, slice_set, if◌then◌else◌}
 use Rattle.std.specs.List.{list_all, list_any}
+use Rattle.std.specs.Option.{option_map}
 use Rattle.cnf.specs.Literal.{Literal, negation}
 use Rattle.cnf.specs.Clause.{contains_literal, greatest_variable, has_repeat, is_tautology}
 use Rattle.cnf.specs.declared.limits.TheConstants.{NUMBER_LIMIT}
@@ -173,25 +174,21 @@ numbered_size (Count inputs tree multiplier) = length inputs + length (outputs_o
 -- how many terms a fact has, at least one: that of a clause is the number of its literals that are
 -- true, less 1; or it is that of a count or group. None where it is not there
 abbrev pub fact_size : Clauses → List Numbered → NamedFact → Option ℕ
-fact_size at ns f = if f.is_numbered then by (at_number ns f.number) else clause (at f.number)
-  where
-    clause : Option (List Literal) → Option ℕ
-    clause None = None
-    clause (Some c) = Some (clause_size c)
-
-    by : Option Numbered → Option ℕ
-    by None = None
-    by (Some n) = Some (numbered_size n)
+fact_size at ns f =
+    if f.is_numbered then option_map numbered_size (at_number ns f.number)
+    else option_map clause_size (at f.number)
 
 -- of all facts, where they are there
+abbrev pub plus_size : ℕ → Option ℕ → Option ℕ
+plus_size m rest = option_map (λ n. m + n) rest
+
 abbrev pub facts_size : Clauses → List Numbered → List NamedFact → Option ℕ
 facts_size at ns [] = Some 0
 facts_size at ns (f ∷ fs) = add (fact_size at ns f) (facts_size at ns fs)
   where
     add : Option ℕ → Option ℕ → Option ℕ
-    add None n = None
-    add (Some m) None = None
-    add (Some m) (Some n) = Some (m + n)
+    add None rest = None
+    add (Some m) rest = plus_size m rest
 
 abbrev pub less : ℕ → List Literal → CostForm → CostForm
 less w ls f = plus (pos 0 -ℤ pos w) ls f

@@ -2,9 +2,10 @@
 #![tactic(auto)]
 
 pub mod faults;
-pub mod types;
-mod known;
-mod worth;
 mod groups;
+mod known;
 mod numbered;
+mod sizes;
 pub mod table;
+pub mod types;
+mod worth;
