@@ -1,6 +1,6 @@
 -- What stands at a variable, and a bound of the cost in which that changes.
-use Rattle.std.proofs.Common.{◌≡◌, ℕ, zero, suc, ℤ, pos, ◌+ℤ◌, ◌-ℤ◌, ◌*ℤ◌, ◌+◌, ◌-◌, ◌^◌, ◌<◌, ◌≤◌, List, [], ◌∷◌, ◌++◌, Option, Some, None, Bool, true, false, replicate, map, length, get_or, set, arith, refl, sym, ap, ◌∙◌, subst}
-use Rattle.std.specs.Prelude.{if◌then◌else◌, ◌==◌}
+use Rattle.std.proofs.Common.{◌≡◌, ℕ, zero, suc, ℤ, pos, ◌+ℤ◌, ◌-ℤ◌, ◌*ℤ◌, ◌+◌, ◌-◌, ◌^◌, ◌<◌, ◌≤◌, List, [], ◌∷◌, ◌++◌, Option, Some, None, Bool, true, false, not, replicate, map, length, get_or, set, arith, refl, sym, ap, ◌∙◌, subst}
+use Rattle.std.specs.Prelude.{if◌then◌else◌, ◌==◌, is_some}
 use Rattle.std.specs.List.{All, AllByRecursion}
 use Rattle.std.specs.Int.RustNames.{unsigned_abs}
 use Rattle.std.proofs.lemmas.Bool.{eq-eqb, ne_eqb}
@@ -10,7 +10,7 @@ use Rattle.linear.specs.declared.terms.Term.{Term}
 use Rattle.linear.specs.Linear.{Linear, least_term, plus_at, plus_constant, plus_literal}
 use Rattle.cnf.specs.Literal.{Literal}
 use Rattle.std.proofs.lemmas.List.Elements.{recursion_from_All}
-use Rattle.linear.specs.Costs.{CostForm, form_of, restarted, widened, widened_linear, width_of}
+use Rattle.linear.specs.Costs.{CostForm, fixed_by, form_of, restarted, widened, widened_linear, width_of}
 use Rattle.linear.specs.Terms.{AreSmall, rest_of, costs, rests, values, form_of_terms}
 use Rattle.linear.specs.Bounds.{BoundState, HasLeast, IsBounded}
 use Rattle.linear.specs.declared.bounds.CostBound.TheInside.{Inside}
@@ -348,3 +348,17 @@ literal_parts w l f = by_sign l.negated
 
 pub alone_part : {s : ℕ} {c r : ℤ} → AreSmall s c r → AreSmall 1 c (pos 0)
 alone_part h = record { times = omega arith; cost = h.cost; rest = omega arith }
+
+pub fixed_here : (l : Literal) (fs : List (Option Bool)) → get_or fs l.variable None ≡ None
+    → fixed_by l fs ≡ set fs l.variable (Some (not l.negated))
+fixed_here l fs e = rw e refl
+
+pub none_is : (o : Option Bool) → is_some o ≡ false → o ≡ None
+none_is None e = refl
+none_is (Some b) e = cc
+
+pub kept_cost : (b : Inside) (v : ℕ) (old : Term) → IsKept b → StandsAt b.terms.items v old
+    → unsigned_abs old.cost ≤ b.weights
+kept_cost b v old h at =
+    subst (λ x. unsigned_abs x ≤ b.weights) (cost_here b.terms.items v old at)
+        (cost_small (state_in b) v (h.least).bounded (within_width b.terms.items v at.within))
