@@ -267,9 +267,9 @@ fresh_stamp p ts us c f h k s o r q =
     let n : length us ≡ length (values ts)
     = omega (arith, ap length f, length-map us (λ t. t.value)) in
     same_form k s (pos 0) (costs us) (costs ts) (rests p us)
-        (replicate (length (values ts)) (pos 0)) (values us) (values ts) c
-        (fresh p us (recursion_from_All (λ t. t.stamp < p) us h)
-            ∙ ap (λ m. replicate m (pos 0)) n) f
+    (replicate (length (values ts)) (pos 0)) (values us) (values ts) c
+    (fresh p us (recursion_from_All (λ t. t.stamp < p) us h)
+    ∙ ap (λ m. replicate m (pos 0)) n) f
 
 map_replicate : {X Y : Type 0} (f : X → Y) (n : ℕ) (x : X)
     → map f (replicate n x) ≡ replicate n (f x)
@@ -288,10 +288,10 @@ pub nothing_form : (n : ℕ) (t : Term) → t.cost ≡ pos 0 → t.rest ≡ pos 
     → form_of_terms (pos 0) 0 (pos 0) 0 (replicate n t) ≡ form_of n []
 nothing_form n t c r f =
     same_form (pos 0) 0 (pos 0) (costs (replicate n t)) (replicate n (pos 0))
-        (rests 0 (replicate n t)) (replicate n (pos 0)) (values (replicate n t)) (replicate n None)
-        (map_replicate (λ u. u.cost) n t ∙ ap (λ x. replicate n x) c)
-        (map_replicate (rest_of 0) n t ∙ ap (λ x. replicate n x) (rest_none 0 t r))
-        (map_replicate (λ u. u.value) n t ∙ ap (λ x. replicate n x) f)
+    (rests 0 (replicate n t)) (replicate n (pos 0)) (values (replicate n t)) (replicate n None)
+    (map_replicate (λ u. u.cost) n t ∙ ap (λ x. replicate n x) c)
+    (map_replicate (rest_of 0) n t ∙ ap (λ x. replicate n x) (rest_none 0 t r))
+    (map_replicate (λ u. u.value) n t ∙ ap (λ x. replicate n x) f)
 
 -- where nothing stands at the end
 pub widened_form : (k : ℤ) (s : ℕ) (r : ℤ) (p : ℕ) (ts : List Term) (width : ℕ) (t : Term)
@@ -302,18 +302,18 @@ widened_form k s r p ts width t c e f =
     let m = width - length ts in
     let n : m ≡ width - length (values ts) = ap (λ x. width - x) (sym (length-map ts (λ u. u.value))) in
     same_form k s r (costs (ts ++ replicate m t)) (costs ts ++ replicate (width - length (values ts)) (pos 0))
-        (rests p (ts ++ replicate m t)) (rests p ts ++ replicate (width - length (values ts)) (pos 0))
-        (values (ts ++ replicate m t)) (values ts ++ replicate (width - length (values ts)) None)
-        (map-append (λ u. u.cost) ts (replicate m t)
-            ∙ ap (λ xs. costs ts ++ xs) (map_replicate (λ u. u.cost) m t ∙ ap (λ x. replicate m x) c)
-            ∙ ap (λ x. costs ts ++ replicate x (pos 0)) n)
-        (map-append (rest_of p) ts (replicate m t)
-            ∙ ap (λ xs. rests p ts ++ xs) (map_replicate (rest_of p) m t
-                ∙ ap (λ x. replicate m x) (rest_none p t e))
-            ∙ ap (λ x. rests p ts ++ replicate x (pos 0)) n)
-        (map-append (λ u. u.value) ts (replicate m t)
-            ∙ ap (λ xs. values ts ++ xs) (map_replicate (λ u. u.value) m t ∙ ap (λ x. replicate m x) f)
-            ∙ ap (λ x. values ts ++ replicate x None) n)
+    (rests p (ts ++ replicate m t)) (rests p ts ++ replicate (width - length (values ts)) (pos 0))
+    (values (ts ++ replicate m t)) (values ts ++ replicate (width - length (values ts)) None)
+    (map-append (λ u. u.cost) ts (replicate m t)
+    ∙ ap (λ xs. costs ts ++ xs) (map_replicate (λ u. u.cost) m t ∙ ap (λ x. replicate m x) c)
+    ∙ ap (λ x. costs ts ++ replicate x (pos 0)) n)
+    (map-append (rest_of p) ts (replicate m t)
+    ∙ ap (λ xs. rests p ts ++ xs) (map_replicate (rest_of p) m t
+    ∙ ap (λ x. replicate m x) (rest_none p t e))
+    ∙ ap (λ x. rests p ts ++ replicate x (pos 0)) n)
+    (map-append (λ u. u.value) ts (replicate m t)
+    ∙ ap (λ xs. values ts ++ xs) (map_replicate (λ u. u.value) m t ∙ ap (λ x. replicate m x) f)
+    ∙ ap (λ x. values ts ++ replicate x None) n)
 
 -- no wider than it was
 pub as_wide : (f : CostForm) (width : ℕ) → width ≤ width_of f → widened width f ≡ f
@@ -323,18 +323,18 @@ as_wide f width h =
     let rs = append-nil (f.rest).coefficients in
     let fs = append-nil f.fixed in
     ap (λ n. record {
-        cost = widened_linear n f.cost;
-        scale = f.scale;
-        rest = widened_linear n f.rest;
-        fixed = f.fixed ++ replicate n None;
+      cost = widened_linear n f.cost;
+      scale = f.scale;
+      rest = widened_linear n f.rest;
+      fixed = f.fixed ++ replicate n None;
     }) z ∙ same_form (f.cost).constant f.scale (f.rest).constant ((f.cost).coefficients ++ [])
-        (f.cost).coefficients ((f.rest).coefficients ++ []) (f.rest).coefficients
-        (f.fixed ++ []) f.fixed cs rs fs
+    (f.cost).coefficients ((f.rest).coefficients ++ []) (f.rest).coefficients
+    (f.fixed ++ []) f.fixed cs rs fs
 
 -- what a literal's weight adds to its coefficient and to the constant
 pub literal_parts : (w : ℤ) (l : Literal) (f : Linear)
     → plus_at (if l.negated then pos 0 -ℤ w else w) l.variable
-        (plus_constant (if l.negated then w else pos 0) f)
+    (plus_constant (if l.negated then w else pos 0) f)
     ≡ plus_literal w l f
 literal_parts w l f = by_sign l.negated
   where
@@ -361,4 +361,4 @@ pub kept_cost : (b : Inside) (v : ℕ) (old : Term) → IsKept b → StandsAt b.
     → unsigned_abs old.cost ≤ b.weights
 kept_cost b v old h at =
     subst (λ x. unsigned_abs x ≤ b.weights) (cost_here b.terms.items v old at)
-        (cost_small (state_in b) v (h.least).bounded (within_width b.terms.items v at.within))
+    (cost_small (state_in b) v (h.least).bounded (within_width b.terms.items v at.within))

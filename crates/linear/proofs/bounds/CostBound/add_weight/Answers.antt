@@ -91,22 +91,22 @@ invariant_of-self c =
     let before = c.least_at.ensures.value in
     let after : c.least_at-2.result ≡ least_at 1 c.raised_cost.result (pos 0) old.value
     = c.least_at-2.ensures.value
-        ∙ ap (λ (u : ℤ). least_at 1 u (pos 0) old.value) (to_z-of_z w64 c.raised_cost.result j) in
+    ∙ ap (λ (u : ℤ). least_at 1 u (pos 0) old.value) (to_z-of_z w64 c.raised_cost.result j) in
     let moved : c.moved-self-inside.result +ℤ least_at 1 old.cost (pos 0) old.value
-        ≡ (b.least_cost +ℤ y) +ℤ least_at 1 c.raised_cost.result (pos 0) old.value
+    ≡ (b.least_cost +ℤ y) +ℤ least_at 1 c.raised_cost.result (pos 0) old.value
     = omega (arith, ints, c.moved-self-inside.ensures, before, after, alone) in
     let w = ap (λ (s : BoundState). s.weights) c.self.view_is in
     let none = ap (λ (s : BoundState). (s.form).scale) c.self.view_is ∙ c.requires.none in
     let new : Term = record { rest = old.rest; cost = c.raised_cost.result; stamp = old.stamp; value = old.value } in
     let q = All-get_or (λ t. t.stamp ≤ b.present) b.terms.items v old at.within (c.self.invariant).stamps in
     simp to_z-of_z (rw constant record {
-        least = cost_put_kept b.cost_constant y b.scale b.rest_constant b.present b.terms.items v
-            old new x b.weights b.mass c.args.weight b.least b.least_cost c.moved-self-inside.result
-            (c.self.invariant).least none at cost refl refl refl
-            c.coefficient_part-by.ensures.bound c.constant_part-constant.ensures.bound
-            (omega (arith, w, c.requires.small)) moved;
-        stamps = All-set (λ t. t.stamp ≤ b.present) b.terms.items v new
-            (rw at.here q) (c.self.invariant).stamps;
+      least = cost_put_kept b.cost_constant y b.scale b.rest_constant b.present b.terms.items v
+          old new x b.weights b.mass c.args.weight b.least b.least_cost c.moved-self-inside.result
+          (c.self.invariant).least none at cost refl refl refl
+          c.coefficient_part-by.ensures.bound c.constant_part-constant.ensures.bound
+          (omega (arith, w, c.requires.small)) moved;
+      stamps = All-set (λ t. t.stamp ≤ b.present) b.terms.items v new
+          (rw at.here q) (c.self.invariant).stamps;
     })
 
 pub returns-clause-form : goal.returns-clause-form
@@ -130,19 +130,19 @@ returns-clause-form c =
     let new : Term = record { rest = old.rest; cost = c.raised_cost.result; stamp = old.stamp; value = old.value } in
     let weight = pos c.args.weight in
     let first = cost_put b.cost_constant y b.scale b.rest_constant b.present b.terms.items v old new
-        x at cost refl refl refl in
+    x at cost refl refl refl in
     let form = form_of_terms b.cost_constant b.scale b.rest_constant b.present b.terms.items in
     let by : x ≡ (if l.negated then pos 0 -ℤ weight else weight)
     = c.coefficient_part-by.ensures.value
-        ∙ ap (λ t. if t then pos 0 -ℤ weight else weight) c.is_negated.ensures in
+    ∙ ap (λ t. if t then pos 0 -ℤ weight else weight) c.is_negated.ensures in
     let to : y ≡ (if l.negated then weight else pos 0)
     = c.constant_part-constant.ensures.value
-        ∙ ap (λ t. if t then weight else pos 0) c.is_negated-2.ensures in
+    ∙ ap (λ t. if t then weight else pos 0) c.is_negated-2.ensures in
     let parts : plus_at x v (plus_constant y form.cost) ≡ plus_literal weight l form.cost
     = ap (λ t. plus_at x t (plus_constant y form.cost)) c.variable-variable.ensures.variable
-        ∙ ap (λ (t : ℤ). plus_at t l.variable (plus_constant y form.cost)) by
-        ∙ ap (λ (t : ℤ). plus_at (if l.negated then pos 0 -ℤ weight else weight) l.variable (plus_constant t form.cost)) to
-        ∙ literal_parts weight l form.cost in
+    ∙ ap (λ (t : ℤ). plus_at t l.variable (plus_constant y form.cost)) by
+    ∙ ap (λ (t : ℤ). plus_at (if l.negated then pos 0 -ℤ weight else weight) l.variable (plus_constant t form.cost)) to
+    ∙ literal_parts weight l form.cost in
     simp to_z-of_z (rw constant (first
-        ∙ ap (λ (t : Linear). record form { cost = t }) parts
-        ∙ ap (λ (s : BoundState). record (s.form) { cost = plus_literal weight l (s.form).cost }) c.self.view_is))
+    ∙ ap (λ (t : Linear). record form { cost = t }) parts
+    ∙ ap (λ (s : BoundState). record (s.form) { cost = plus_literal weight l (s.form).cost }) c.self.view_is))

@@ -32,7 +32,7 @@ least_at-after-requires c =
     let g : SFits w64 old.cost = search rules in
     let at = stands_at b c.args.self.now c.variable-variable.result old c.self.view_is (rw c.variable-variable.ensures.variable c.requires) c.index.ensures in
     simp to_z-of_z (rw c.rest_at-rest.ensures
-        (kept_small b c.variable-variable.result old c.self.invariant at))
+    (kept_small b c.variable-variable.result old c.self.invariant at))
 
 pub moved-self-inside-requires-clause-sum : goal.moved-self-inside-requires-clause-sum
 moved-self-inside-requires-clause-sum c =
@@ -80,29 +80,29 @@ invariant_of-self c =
     let k = to_z-of_z w64 old.cost i in
     let y : c.least_at-before.result ≡ least_at b.scale old.cost (rest_of b.present old) old.value
     = c.least_at-before.ensures.value
-        ∙ ap (λ (u : ℤ). least_at b.scale old.cost u old.value) (e ∙ c.rest_at-rest.ensures) in
+    ∙ ap (λ (u : ℤ). least_at b.scale old.cost u old.value) (e ∙ c.rest_at-rest.ensures) in
     let z : c.least_at-after.result ≡ least_at b.scale old.cost (rest_of b.present old) (Some x)
     = c.least_at-after.ensures.value
-        ∙ ap (λ (u : ℤ). least_at b.scale u (to_z w128 (of_z w128 c.rest_at-rest.result)) (Some x)) k
-        ∙ ap (λ (u : ℤ). least_at b.scale old.cost u (Some x)) (e ∙ c.rest_at-rest.ensures) in
+    ∙ ap (λ (u : ℤ). least_at b.scale u (to_z w128 (of_z w128 c.rest_at-rest.result)) (Some x)) k
+    ∙ ap (λ (u : ℤ). least_at b.scale old.cost u (Some x)) (e ∙ c.rest_at-rest.ensures) in
     let y2 = c.least_at-before-then-is_none.ensures.value in
     let z2 : c.least_at-after-then-is_none.result ≡ least_at 1 old.cost (pos 0) (Some x)
     = c.least_at-after-then-is_none.ensures.value
-        ∙ ap (λ (u : ℤ). least_at 1 u (pos 0) (Some x)) k in
+    ∙ ap (λ (u : ℤ). least_at 1 u (pos 0) (Some x)) k in
     let p : c.moved-self-inside.result +ℤ least_at b.scale old.cost (rest_of b.present old) old.value
-        ≡ b.least +ℤ least_at b.scale old.cost (rest_of b.present old) (Some x)
+    ≡ b.least +ℤ least_at b.scale old.cost (rest_of b.present old) (Some x)
     = omega (arith, ints, c.moved-self-inside.ensures, y, z) in
     let q : c.moved-self-inside-then-is_none.result +ℤ least_at 1 old.cost (pos 0) old.value
-        ≡ b.least_cost +ℤ least_at 1 old.cost (pos 0) (Some x)
+    ≡ b.least_cost +ℤ least_at 1 old.cost (pos 0) (Some x)
     = omega (arith, ints, c.moved-self-inside-then-is_none.ensures, y2, z2) in
     let new : Term = record { rest = old.rest; cost = old.cost; stamp = old.stamp; value = Some x } in
     let o = All-get_or (λ t. t.stamp ≤ b.present) b.terms.items v old at.within (c.self.invariant).stamps in
     simp to_z-of_z record {
-        least = value_put_kept b.cost_constant b.scale b.rest_constant b.present b.terms.items v
-            old new x b.weights b.mass b.least b.least_cost c.moved-self-inside.result
-            c.moved-self-inside-then-is_none.result (c.self.invariant).least at refl refl refl refl p q;
-        stamps = All-set (λ t. t.stamp ≤ b.present) b.terms.items v new
-            (rw at.here o) (c.self.invariant).stamps;
+      least = value_put_kept b.cost_constant b.scale b.rest_constant b.present b.terms.items v
+          old new x b.weights b.mass b.least b.least_cost c.moved-self-inside.result
+          c.moved-self-inside-then-is_none.result (c.self.invariant).least at refl refl refl refl p q;
+      stamps = All-set (λ t. t.stamp ≤ b.present) b.terms.items v new
+          (rw at.here o) (c.self.invariant).stamps;
     }
 
 pub returns-then-is_none : goal.returns-then-is_none
@@ -116,20 +116,20 @@ returns-then-is_none c =
     let at = stands_at b c.args.self.now v old c.self.view_is (rw c.variable-variable.ensures.variable c.requires) c.index.ensures in
     let new : Term = record { rest = old.rest; cost = old.cost; stamp = old.stamp; value = Some x } in
     let p = value_put b.cost_constant b.scale b.rest_constant b.present b.terms.items v old new
-        (Some x) at refl refl refl refl in
+    (Some x) at refl refl refl refl in
     let ts = b.terms.items in
     let l = c.args.lit in
     let here = c.variable-variable.ensures.variable in
     let none : get_or (values ts) l.variable None ≡ None
     = ap (λ i. get_or (values ts) i None) (sym here) ∙ value_here ts v old at
-        ∙ none_is old.value c.if-is_none.ensures in
+    ∙ none_is old.value c.if-is_none.ensures in
     let q : set (values ts) v (Some x) ≡ fixed_by l (values ts)
     = ap (λ i. set (values ts) i (Some x)) here
-        ∙ ap (λ n. set (values ts) l.variable (Some (not n))) c.is_negated.ensures
-        ∙ sym (fixed_here l (values ts) none) in
+    ∙ ap (λ n. set (values ts) l.variable (Some (not n))) c.is_negated.ensures
+    ∙ sym (fixed_here l (values ts) none) in
     let f = form_of_terms b.cost_constant b.scale b.rest_constant b.present ts in
     simp to_z-of_z (ap (λ (y : CostForm). record { form = y; weights = b.weights; mass = b.mass })
-        (p ∙ ap (λ (fs : List (Option Bool)). record f { fixed = fs }) q)
-        ∙ ap (λ (s : BoundState). record s {
-            form = record (s.form) { fixed = fixed_by l (s.form).fixed };
-        }) c.self.view_is)
+    (p ∙ ap (λ (fs : List (Option Bool)). record f { fixed = fs }) q)
+    ∙ ap (λ (s : BoundState). record s {
+      form = record (s.form) { fixed = fixed_by l (s.form).fixed };
+    }) c.self.view_is)

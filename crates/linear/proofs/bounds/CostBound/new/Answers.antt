@@ -24,8 +24,8 @@ invariant_of-result c =
     let ts = c.in_ok-from_elem.field-0.items in
     let e : ts ≡ replicate n nothing = c.in_ok-from_elem.ensures.items_if_clones_equal (λ y q. q) in
     record {
-        least = subst (λ (f : CostForm). HasLeast (record { form = f; weights = 0; mass = 0 }) (pos 0) (pos 0))
-            (sym (rw e (nothing_form n nothing refl refl refl))) (new_kept n);
-        stamps = subst (λ (us : List Term). All (λ t. t.stamp ≤ 0) us) (sym e)
-            (All-replicate (λ t. t.stamp ≤ 0) n nothing (omega arith));
+      least = subst (λ (f : CostForm). HasLeast (record { form = f; weights = 0; mass = 0 }) (pos 0) (pos 0))
+          (sym (rw e (nothing_form n nothing refl refl refl))) (new_kept n);
+      stamps = subst (λ (us : List Term). All (λ t. t.stamp ≤ 0) us) (sym e)
+          (All-replicate (λ t. t.stamp ≤ 0) n nothing (omega arith));
     }

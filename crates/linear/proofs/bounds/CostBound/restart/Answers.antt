@@ -34,7 +34,7 @@ returns-clause-form c =
     let f = c.next_stamp-self-inside.ensures.values ∙ ap values q in
     let e = with_items_is b.terms us (same_items ts us f ∙ sym (b.terms.ok.0)) in
     rw e (fresh_stamp p ts us d f c.next_stamp-self-inside.ensures.above b.cost_constant c.args.scale b.scale b.rest_constant b.present
-        ∙ ap (λ (s : BoundState). restarted c.args.scale s.form) c.self.view_is)
+    ∙ ap (λ (s : BoundState). restarted c.args.scale s.form) c.self.view_is)
 
 pub invariant_of-self : goal.invariant_of-self
 invariant_of-self c =
@@ -55,14 +55,14 @@ invariant_of-self c =
     let l = to_z-of_z w128 c.scaled-self-inside.result i ∙ x in
     let k = b.least_cost in
     record {
-        least = subst (λ (y : ℤ). HasLeast (record {
-                form = form_of_terms b.cost_constant c.args.scale (pos 0) p (with_items b.terms us).items;
-                weights = b.weights;
-                mass = 0;
-            }) y k) (sym l)
-            (subst (λ (y : CostForm). HasLeast (record { form = y; weights = b.weights; mass = 0 })
-                (pos c.args.scale *ℤ k) k)
-                (sym (ap (form_of_terms b.cost_constant c.args.scale (pos 0) p) e ∙ form)) kept);
-        stamps = subst (λ (xs : List Term). All (λ t. t.stamp ≤ p) xs) (sym e)
-            (All-weaker (λ t. t.stamp < p) (λ t. t.stamp ≤ p) (λ t h. omega (arith, h)) us above);
+      least = subst (λ (y : ℤ). HasLeast (record {
+        form = form_of_terms b.cost_constant c.args.scale (pos 0) p (with_items b.terms us).items;
+        weights = b.weights;
+        mass = 0;
+      }) y k) (sym l)
+          (subst (λ (y : CostForm). HasLeast (record { form = y; weights = b.weights; mass = 0 })
+          (pos c.args.scale *ℤ k) k)
+          (sym (ap (form_of_terms b.cost_constant c.args.scale (pos 0) p) e ∙ form)) kept);
+      stamps = subst (λ (xs : List Term). All (λ t. t.stamp ≤ p) xs) (sym e)
+          (All-weaker (λ t. t.stamp < p) (λ t. t.stamp ≤ p) (λ t h. omega (arith, h)) us above);
     }

@@ -25,17 +25,17 @@ invariant_of-self c =
     let m : length ts ≤ w = omega (arith, n, c.if-width-len.true, c.len.ensures) in
     let e : us ≡ ts ++ replicate (w - length ts) nothing
     = c.in_ok-resize.ensures.items
-        ∙ ap (λ xs. xs ++ replicate (w - b.terms.len) nothing) (take_all w ts m)
-        ∙ ap (λ k. ts ++ replicate (w - k) nothing) n in
+    ∙ ap (λ xs. xs ++ replicate (w - b.terms.len) nothing) (take_all w ts m)
+    ∙ ap (λ k. ts ++ replicate (w - k) nothing) n in
     let form = widened_form b.cost_constant b.scale b.rest_constant b.present ts w nothing refl refl refl in
     record {
-        least = subst (λ (f : CostForm). HasLeast (record { form = f; weights = b.weights; mass = b.mass }) b.least b.least_cost)
-            (sym (ap (form_of_terms b.cost_constant b.scale b.rest_constant b.present) e ∙ form))
-            (widened_kept (state_in b) b.least b.least_cost w (c.self.invariant).least);
-        stamps = subst (λ (xs : List Term). All (λ t. t.stamp ≤ b.present) xs) (sym e)
-            (All-append (λ t. t.stamp ≤ b.present) ts (replicate (w - length ts) nothing)
-                (c.self.invariant).stamps
-                (All-replicate (λ t. t.stamp ≤ b.present) (w - length ts) nothing (omega arith)));
+      least = subst (λ (f : CostForm). HasLeast (record { form = f; weights = b.weights; mass = b.mass }) b.least b.least_cost)
+          (sym (ap (form_of_terms b.cost_constant b.scale b.rest_constant b.present) e ∙ form))
+          (widened_kept (state_in b) b.least b.least_cost w (c.self.invariant).least);
+      stamps = subst (λ (xs : List Term). All (λ t. t.stamp ≤ b.present) xs) (sym e)
+          (All-append (λ t. t.stamp ≤ b.present) ts (replicate (w - length ts) nothing)
+          (c.self.invariant).stamps
+          (All-replicate (λ t. t.stamp ≤ b.present) (w - length ts) nothing (omega arith)));
     }
 
 pub returns-in_ok-resize : goal.returns-in_ok-resize
@@ -48,9 +48,9 @@ returns-in_ok-resize c =
     let m : length ts ≤ w = omega (arith, n, c.if-width-len.true, c.len.ensures) in
     let e : us ≡ ts ++ replicate (w - length ts) nothing
     = c.in_ok-resize.ensures.items
-        ∙ ap (λ xs. xs ++ replicate (w - b.terms.len) nothing) (take_all w ts m)
-        ∙ ap (λ k. ts ++ replicate (w - k) nothing) n in
+    ∙ ap (λ xs. xs ++ replicate (w - b.terms.len) nothing) (take_all w ts m)
+    ∙ ap (λ k. ts ++ replicate (w - k) nothing) n in
     let form = widened_form b.cost_constant b.scale b.rest_constant b.present ts w nothing refl refl refl in
     ap (λ (f : CostForm). record { form = f; weights = b.weights; mass = b.mass })
-        (ap (form_of_terms b.cost_constant b.scale b.rest_constant b.present) e ∙ form)
+    (ap (form_of_terms b.cost_constant b.scale b.rest_constant b.present) e ∙ form)
     ∙ ap (λ (s : BoundState). record s { form = widened w s.form }) c.self.view_is
