@@ -69,34 +69,34 @@ rest_small s v b lt =
 pub plus_constant_kept : (s : BoundState) (l k w : ℤ) → HasLeast s l k
     → s.mass + unsigned_abs w ≤ 2 ^ 120
     → HasLeast (record s {
-        form = record (s.form) { rest = plus_constant w (s.form).rest };
-        mass = s.mass + unsigned_abs w;
+      form = record (s.form) { rest = plus_constant w (s.form).rest };
+      mass = s.mass + unsigned_abs w;
     }) (l +ℤ w) k
 plus_constant_kept s l k w h m =
     let b = h.bounded in
     record {
-        bounded = record {
-            width = record { cost = (b.width).cost; rest = (b.width).rest };
-            scale = b.scale;
-            constant = b.constant;
-            coefficients = b.coefficients;
-            weights = b.weights;
-            rest = omega (arith, plus_small ((s.form).rest).constant w, b.rest);
-            mass = m;
-        };
-        whole = omega (arith, ints, h.whole);
-        alone = h.alone;
+      bounded = record {
+        width = record { cost = (b.width).cost; rest = (b.width).rest };
+        scale = b.scale;
+        constant = b.constant;
+        coefficients = b.coefficients;
+        weights = b.weights;
+        rest = omega (arith, plus_small ((s.form).rest).constant w, b.rest);
+        mass = m;
+      };
+      whole = omega (arith, ints, h.whole);
+      alone = h.alone;
     }
 
 pub plus_at_kept : (s : BoundState) (l k m w : ℤ) (v : ℕ) → HasLeast s l k
     → v < width_of s.form → s.mass + unsigned_abs w ≤ 2 ^ 120
     → m +ℤ least_at (s.form).scale (coefficient (s.form).cost v) (coefficient (s.form).rest v)
-        (get_or (s.form).fixed v None)
+    (get_or (s.form).fixed v None)
     ≡ l +ℤ least_at (s.form).scale (coefficient (s.form).cost v) (coefficient (s.form).rest v +ℤ w)
-        (get_or (s.form).fixed v None)
+    (get_or (s.form).fixed v None)
     → HasLeast (record s {
-        form = record (s.form) { rest = plus_at w v (s.form).rest };
-        mass = s.mass + unsigned_abs w;
+      form = record (s.form) { rest = plus_at w v (s.form).rest };
+      mass = s.mass + unsigned_abs w;
     }) m k
 plus_at_kept s l k m w v h lt small e =
     let b = h.bounded in
@@ -108,31 +108,31 @@ plus_at_kept s l k m w v h lt small e =
     let x = sum_by-set unsigned_abs rs v (r +ℤ w) (pos 0) d in
     let y = sum_set_rest f.scale cs rs f.fixed v (r +ℤ w) (b.width).cost (b.width).rest lt in
     record {
-        bounded = record {
-            width = record {
-                cost = (b.width).cost;
-                rest = length-set rs v (r +ℤ w) ∙ (b.width).rest;
-            };
-            scale = b.scale;
-            constant = b.constant;
-            coefficients = b.coefficients;
-            weights = b.weights;
-            rest = omega (arith, x, plus_small r w, b.rest);
-            mass = small;
+      bounded = record {
+        width = record {
+          cost = (b.width).cost;
+          rest = length-set rs v (r +ℤ w) ∙ (b.width).rest;
         };
-        whole = omega (arith, ints, h.whole, e, y);
-        alone = h.alone;
+        scale = b.scale;
+        constant = b.constant;
+        coefficients = b.coefficients;
+        weights = b.weights;
+        rest = omega (arith, x, plus_small r w, b.rest);
+        mass = small;
+      };
+      whole = omega (arith, ints, h.whole, e, y);
+      alone = h.alone;
     }
 
 pub set_value_kept : (s : BoundState) (l k m j : ℤ) (v : ℕ) (x : Bool) → HasLeast s l k
     → v < width_of s.form
     → m +ℤ least_at (s.form).scale (coefficient (s.form).cost v) (coefficient (s.form).rest v)
-        (get_or (s.form).fixed v None)
+    (get_or (s.form).fixed v None)
     ≡ l +ℤ least_at (s.form).scale (coefficient (s.form).cost v) (coefficient (s.form).rest v) (Some x)
     → j +ℤ least_at 1 (coefficient (s.form).cost v) (pos 0) (get_or (s.form).fixed v None)
     ≡ k +ℤ least_at 1 (coefficient (s.form).cost v) (pos 0) (Some x)
     → HasLeast (record s {
-        form = record (s.form) { fixed = set (s.form).fixed v (Some x) };
+      form = record (s.form) { fixed = set (s.form).fixed v (Some x) };
     }) m j
 set_value_kept s l k m j v x h lt e g =
     let b = h.bounded in
@@ -147,25 +147,25 @@ set_value_kept s l k m j v x h lt e g =
     let y = sum_set_value f.scale cs rs f.fixed v (Some x) (b.width).cost (b.width).rest lt in
     let c = coefficient f.cost v in
     let i : least_sum 1 cs zs fs +ℤ least_at 1 c (pos 0) (get_or f.fixed v None)
-        ≡ least_sum 1 cs zs f.fixed +ℤ least_at 1 c (pos 0) (Some x)
+    ≡ least_sum 1 cs zs f.fixed +ℤ least_at 1 c (pos 0) (Some x)
     = subst (λ r. least_sum 1 cs zs fs +ℤ least_at 1 c r (get_or f.fixed v None)
-        ≡ least_sum 1 cs zs f.fixed +ℤ least_at 1 c r (Some x)) z
-        (sum_set_value 1 cs zs f.fixed v (Some x) (b.width).cost (length-replicate n (pos 0)) lt) in
+    ≡ least_sum 1 cs zs f.fixed +ℤ least_at 1 c r (Some x)) z
+    (sum_set_value 1 cs zs f.fixed v (Some x) (b.width).cost (length-replicate n (pos 0)) lt) in
     let same : least (restarted 1 (record f { fixed = fs }))
-        ≡ ((pos 1 *ℤ (f.cost).constant) +ℤ pos 0) +ℤ least_sum 1 cs zs fs
+    ≡ ((pos 1 *ℤ (f.cost).constant) +ℤ pos 0) +ℤ least_sum 1 cs zs fs
     = ap (λ a. ((pos 1 *ℤ (f.cost).constant) +ℤ pos 0) +ℤ least_sum 1 cs (replicate a (pos 0)) fs) d in
     record {
-        bounded = record {
-            width = record { cost = (b.width).cost ∙ sym d; rest = (b.width).rest ∙ sym d };
-            scale = b.scale;
-            constant = b.constant;
-            coefficients = b.coefficients;
-            weights = b.weights;
-            rest = b.rest;
-            mass = b.mass;
-        };
-        whole = omega (arith, ints, h.whole, e, y);
-        alone = omega (arith, ints, h.alone, g, i, same);
+      bounded = record {
+        width = record { cost = (b.width).cost ∙ sym d; rest = (b.width).rest ∙ sym d };
+        scale = b.scale;
+        constant = b.constant;
+        coefficients = b.coefficients;
+        weights = b.weights;
+        rest = b.rest;
+        mass = b.mass;
+      };
+      whole = omega (arith, ints, h.whole, e, y);
+      alone = omega (arith, ints, h.alone, g, i, same);
     }
 
 -- where the cost is taken no times
@@ -174,7 +174,7 @@ free_cost : (q : ℕ) (a b r : ℤ) (cs bs rs : List ℤ) (fs : List (Option Boo
     → ((pos q *ℤ a) +ℤ r) +ℤ least_sum q cs rs fs ≡ ((pos q *ℤ b) +ℤ r) +ℤ least_sum q bs rs fs
 free_cost q a b r cs bs rs fs e d =
     subst (λ n. ((pos n *ℤ a) +ℤ r) +ℤ least_sum n cs rs fs
-        ≡ ((pos n *ℤ b) +ℤ r) +ℤ least_sum n bs rs fs) (sym e)
+    ≡ ((pos n *ℤ b) +ℤ r) +ℤ least_sum n bs rs fs) (sym e)
     (omega (arith, ints, zero-*ℤ a, zero-*ℤ b, sum_none cs bs rs fs d))
 
 pub plus_cost_kept : (s : BoundState) (l k j x y : ℤ) (v n : ℕ) → HasLeast s l k
@@ -183,8 +183,8 @@ pub plus_cost_kept : (s : BoundState) (l k j x y : ℤ) (v n : ℕ) → HasLeast
     → j +ℤ least_at 1 (coefficient (s.form).cost v) (pos 0) (get_or (s.form).fixed v None)
     ≡ (k +ℤ y) +ℤ least_at 1 (coefficient (s.form).cost v +ℤ x) (pos 0) (get_or (s.form).fixed v None)
     → HasLeast (record s {
-        form = record (s.form) { cost = plus_at x v (plus_constant y (s.form).cost) };
-        weights = s.weights + n;
+      form = record (s.form) { cost = plus_at x v (plus_constant y (s.form).cost) };
+      weights = s.weights + n;
     }) l j
 plus_cost_kept s l k j x y v n h e lt p q small g =
     let b = h.bounded in
@@ -196,24 +196,24 @@ plus_cost_kept s l k j x y v n h e lt p q small g =
     let d = length-set cs v (c +ℤ x) in
     let z : get_or zs v (pos 0) ≡ pos 0 = get_or-replicate w v (pos 0) (pos 0) lt in
     let i = rw z
-        at (sum_set_cost 1 cs zs f.fixed v (c +ℤ x) (b.width).cost (length-replicate w (pos 0)) lt) in
+    at (sum_set_cost 1 cs zs f.fixed v (c +ℤ x) (b.width).cost (length-replicate w (pos 0)) lt) in
     let within : v < length cs = omega (arith, (b.width).cost, lt) in
     let t = sum_by-set unsigned_abs cs v (c +ℤ x) (pos 0) within in
     let o : ((pos 1 *ℤ (f.cost).constant) +ℤ y) ≡ (pos 1 *ℤ ((f.cost).constant +ℤ y)) = omega (arith, ints) in
     let u = free_cost f.scale (f.cost).constant ((f.cost).constant +ℤ y) (f.rest).constant cs
-        (set cs v (c +ℤ x)) (f.rest).coefficients f.fixed e (sym d) in
+    (set cs v (c +ℤ x)) (f.rest).coefficients f.fixed e (sym d) in
     record {
-        bounded = record {
-            width = record { cost = d ∙ (b.width).cost; rest = (b.width).rest };
-            scale = b.scale;
-            constant = omega (arith, plus_small (f.cost).constant y, b.constant, q);
-            coefficients = omega (arith, t, plus_small c x, b.coefficients, p);
-            weights = small;
-            rest = b.rest;
-            mass = b.mass;
-        };
-        whole = h.whole ∙ u;
-        alone = omega (arith, ints, h.alone, g, i, o);
+      bounded = record {
+        width = record { cost = d ∙ (b.width).cost; rest = (b.width).rest };
+        scale = b.scale;
+        constant = omega (arith, plus_small (f.cost).constant y, b.constant, q);
+        coefficients = omega (arith, t, plus_small c x, b.coefficients, p);
+        weights = small;
+        rest = b.rest;
+        mass = b.mass;
+      };
+      whole = h.whole ∙ u;
+      alone = omega (arith, ints, h.alone, g, i, o);
     }
 
 pub restarted_kept : (s : BoundState) (l k : ℤ) (q : ℕ) → HasLeast s l k → q < 2 ^ 62
@@ -230,17 +230,17 @@ restarted_kept s l k q h small =
     let g = ap (λ x. pos q *ℤ x) e in
     let i = sum_scaled q w cs f.fixed in
     record {
-        bounded = record {
-            width = record { cost = (b.width).cost; rest = length-replicate w (pos 0) };
-            scale = small;
-            constant = b.constant;
-            coefficients = b.coefficients;
-            weights = b.weights;
-            rest = omega (arith, no_mass w);
-            mass = omega arith;
-        };
-        whole = ap (λ x. pos q *ℤ x) h.alone ∙ omega (arith, ints, d, g, i);
-        alone = h.alone;
+      bounded = record {
+        width = record { cost = (b.width).cost; rest = length-replicate w (pos 0) };
+        scale = small;
+        constant = b.constant;
+        coefficients = b.coefficients;
+        weights = b.weights;
+        rest = omega (arith, no_mass w);
+        mass = omega arith;
+      };
+      whole = ap (λ x. pos q *ℤ x) h.alone ∙ omega (arith, ints, d, g, i);
+      alone = h.alone;
     }
 
 more_zeros : (cs : List ℤ) (n : ℕ)
@@ -251,8 +251,14 @@ more_zeros cs n =
 same_length : {X Y : Type 0} (xs : List X) (ys : List Y) (n : ℕ) (x : X) (y : Y)
     → length xs ≡ length ys → length (xs ++ replicate n x) ≡ length (ys ++ replicate n y)
 same_length xs ys n x y e =
-    omega (arith, length-append xs (replicate n x), length-append ys (replicate n y),
-        length-replicate n x, length-replicate n y, e)
+    omega (
+      arith,
+      length-append xs (replicate n x),
+      length-append ys (replicate n y),
+      length-replicate n x,
+      length-replicate n y,
+      e,
+    )
 
 pub widened_kept : (s : BoundState) (l k : ℤ) (width : ℕ) → HasLeast s l k
     → HasLeast (record s { form = widened width s.form }) l k
@@ -273,20 +279,20 @@ widened_kept s l k width h =
     = ap (λ a. replicate a (pos 0)) z ∙ sym (replicate-append-replicate w n (pos 0)) in
     let same = ap (λ xs. least_sum 1 (cs ++ replicate n (pos 0)) xs fs) zeros in
     record {
-        bounded = record {
-            width = record {
-                cost = same_length cs f.fixed n (pos 0) None (b.width).cost;
-                rest = same_length rs f.fixed n (pos 0) None (b.width).rest;
-            };
-            scale = b.scale;
-            constant = b.constant;
-            coefficients = omega (arith, more_zeros cs n, b.coefficients);
-            weights = b.weights;
-            rest = omega (arith, more_zeros rs n, b.rest);
-            mass = b.mass;
+      bounded = record {
+        width = record {
+          cost = same_length cs f.fixed n (pos 0) None (b.width).cost;
+          rest = same_length rs f.fixed n (pos 0) None (b.width).rest;
         };
-        whole = omega (arith, ints, h.whole, i);
-        alone = omega (arith, ints, h.alone, j, same);
+        scale = b.scale;
+        constant = b.constant;
+        coefficients = omega (arith, more_zeros cs n, b.coefficients);
+        weights = b.weights;
+        rest = omega (arith, more_zeros rs n, b.rest);
+        mass = b.mass;
+      };
+      whole = omega (arith, ints, h.whole, i);
+      alone = omega (arith, ints, h.alone, j, same);
     }
 
 pub new_kept : (n : ℕ) → HasLeast (record { form = form_of n []; weights = 0; mass = 0 }) (pos 0) (pos 0)
@@ -298,15 +304,15 @@ new_kept n =
     let j = sum_widened 1 n [] [] [] refl refl in
     let same = ap (λ a. least_sum 1 zs (replicate a (pos 0)) (replicate n None)) e in
     record {
-        bounded = record {
-            width = record { cost = d ∙ sym e; rest = d ∙ sym e };
-            scale = omega arith;
-            constant = omega arith;
-            coefficients = omega (arith, no_mass n);
-            weights = omega arith;
-            rest = omega (arith, no_mass n);
-            mass = omega arith;
-        };
-        whole = omega (arith, ints, i);
-        alone = omega (arith, ints, j, same);
+      bounded = record {
+        width = record { cost = d ∙ sym e; rest = d ∙ sym e };
+        scale = omega arith;
+        constant = omega arith;
+        coefficients = omega (arith, no_mass n);
+        weights = omega arith;
+        rest = omega (arith, no_mass n);
+        mass = omega arith;
+      };
+      whole = omega (arith, ints, i);
+      alone = omega (arith, ints, j, same);
     }

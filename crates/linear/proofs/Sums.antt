@@ -32,8 +32,15 @@ sum_small s (c ∷ cs) (r ∷ rs) (f ∷ fs) =
     let x = (pos s *ℤ c) +ℤ r in
     let e = ap (λ y. s * y) (sum_by-cons unsigned_abs c cs) in
     let d = sum_by-cons unsigned_abs r rs in
-    omega (arith, plus_small (least_term x f) (least_sum s cs rs fs), term_small x f,
-        scaled_small s c r, sum_small s cs rs fs, e, d)
+    omega (
+      arith,
+      plus_small (least_term x f) (least_sum s cs rs fs),
+      term_small x f,
+      scaled_small s c r,
+      sum_small s cs rs fs,
+      e,
+      d,
+    )
 
 -- the least that a variable gives
 abbrev pub least_at : ℕ → ℤ → ℤ → Option Bool → ℤ

@@ -7,7 +7,10 @@ ghost use Rattle.linear.specs.Linear.{plus_at, plus_constant, plus_literal, plus
 ghost use Rattle.linear.specs.Costs.{form_of, width_of, widened, restarted, fixed_by, falsified};
 ghost use Rattle.linear.specs.Costs.{least, least_where};
 
-use crate::terms::{NOTHING, Term, least_at, moved, next_stamp, raised, raised_cost, rest_at, scaled, where_false};
+use crate::terms::{
+    NOTHING, Term, coefficient_part, constant_part, least_at, moved, next_stamp, raised,
+    raised_cost, rest_at, scaled, where_false,
+};
 use cnf::types::Lit;
 use std::alloc::{AllocError, Global};
 use std::marker::Model;
@@ -110,9 +113,7 @@ impl CostBound {
         requires variables { All (λ l. l.variable < width_of self.now.form) lits.now }
         requires no_repeat { has_repeat lits.now ≡ false }
         requires no_tautology { is_tautology lits.now ≡ false }
-        ensures least {
-            result ≡ least_where self.now.form (falsified lits.now self.now.form.fixed)
-        }
+        ensures least { result ≡ least_where self.now.form (falsified lits.now self.now.form.fixed) }
         ensures small { unsigned_abs result < 2 ^ 126 }
     {
         let mut total = self.least;
@@ -134,20 +135,17 @@ impl CostBound {
         ensures mass { self.new.mass ≡ self.old.mass }
     {
         let variable = lit.variable() as usize;
-        let weight = weight as i64;
         let old = self.terms[variable];
-        let by = if lit.is_negated() { -weight } else { weight };
-        let new = Term { cost: raised_cost(old.cost, by), ..old };
-        let alone = if lit.is_negated() {
-            raised(self.least_cost, weight as i128)
-        } else {
-            self.least_cost
+        let by = coefficient_part(weight, lit.is_negated());
+        let constant = constant_part(weight, lit.is_negated());
+        let new = Term {
+            cost: raised_cost(old.cost, by),
+            ..old
         };
+        let alone = raised(self.least_cost, constant);
         self.least_cost = moved(alone, least_at(1, &old, 0), least_at(1, &new, 0));
-        if lit.is_negated() {
-            self.cost_constant = raised(self.cost_constant, weight as i128);
-        }
-        self.weights += weight as u64;
+        self.cost_constant = raised(self.cost_constant, constant);
+        self.weights += weight;
         self.terms[variable] = new;
     }
 
@@ -186,9 +184,7 @@ impl CostBound {
         ensures form { self.new.form
             ≡ record self.old.form { rest = plus_literals weight lits.now self.old.form.rest } }
         ensures weights { self.new.weights ≡ self.old.weights }
-        ensures mass {
-            self.new.mass ≤ self.old.mass + 2 * unsigned_abs weight * length lits.now
-        }
+        ensures mass { self.new.mass ≤ self.old.mass + 2 * unsigned_abs weight * length lits.now }
     {
         for lit in lits {
             self.add_literal(*lit, weight);
@@ -223,7 +219,11 @@ impl CostBound {
     {
         let old = self.terms[variable];
         let rest = rest_at(&old, self.present);
-        let new = Term { rest: raised(rest, weight), stamp: self.present, ..old };
+        let new = Term {
+            rest: raised(rest, weight),
+            stamp: self.present,
+            ..old
+        };
         let before = least_at(self.scale, &old, rest);
         let after = least_at(self.scale, &new, new.rest);
         self.least = moved(self.least, before, after);
@@ -236,13 +236,16 @@ impl CostBound {
         requires { lit.variable < width_of self.old.form }
         ensures { self.new
             ≡ record self.old {
-                form = record self.old.form { fixed = fixed_by lit self.old.form.fixed };
+              form = record self.old.form { fixed = fixed_by lit self.old.form.fixed };
             } }
     {
         let variable = lit.variable() as usize;
         let old = self.terms[variable];
         if old.value.is_none() {
-            let new = Term { value: Some(!lit.is_negated()), ..old };
+            let new = Term {
+                value: Some(!lit.is_negated()),
+                ..old
+            };
             let rest = rest_at(&old, self.present);
             let before = least_at(self.scale, &old, rest);
             let after = least_at(self.scale, &new, rest);

@@ -2,8 +2,8 @@
 ghost use Rattle.std.specs.Prelude.{◌≡◌, ◌+◌, ◌<◌, ◌≤◌, ◌^◌, ◌*◌, pos, ◌+ℤ◌, ◌-ℤ◌, ◌*ℤ◌};
 ghost use Rattle.std.specs.Int.RustNames.{unsigned_abs};
 ghost use Rattle.linear.specs.Linear.{least_term, shortfall};
-ghost use Rattle.std.specs.Prelude.{All, length, replicate};
-ghost use Rattle.linear.specs.Terms.{AreSmall, rest_of, costs, rests, values};
+ghost use Rattle.std.specs.Prelude.{All, if◌then◌else◌};
+ghost use Rattle.linear.specs.Terms.{AreSmall, rest_of, costs, values};
 
 /// What stands at a variable.
 #[derive(Clone, Copy, Drop)]
@@ -88,9 +88,7 @@ pub fn raised(sum: i128, by: i128) -> i128
 /// The least that a variable gives: so many times its coefficient of the cost, with one beside it.
 pub fn least_at(scale: u64, term: &Term, rest: i128) -> i128
     requires { AreSmall scale term.now.cost rest }
-    ensures value {
-        result ≡ least_term ((pos scale *ℤ term.now.cost) +ℤ rest) term.now.value
-    }
+    ensures value { result ≡ least_term ((pos scale *ℤ term.now.cost) +ℤ rest) term.now.value }
     ensures bound { unsigned_abs result ≤ 2 ^ 125 }
 {
     least_of(coefficient(scale, term.cost, rest), term.value)
@@ -106,21 +104,50 @@ pub fn raised_cost(cost: i64, weight: i64) -> i64
     cost + weight
 }
 
-/// A stamp that no term has.
+/// What a literal's weight adds to the coefficient of its variable.
+pub fn coefficient_part(weight: u64, negated: bool) -> i64
+    requires { weight < 2 ^ 62 }
+    ensures value { result ≡ (if negated then pos 0 -ℤ pos weight else pos weight) }
+    ensures bound { unsigned_abs result ≤ weight }
+{
+    if negated {
+        -(weight as i64)
+    } else {
+        weight as i64
+    }
+}
+
+/// What a literal's weight adds to the constant.
+pub fn constant_part(weight: u64, negated: bool) -> i128
+    ensures value { result ≡ (if negated then pos weight else pos 0) }
+    ensures bound { unsigned_abs result ≤ weight }
+{
+    if negated { weight as i128 } else { 0 }
+}
+
+/// A stamp that no term has. It takes constant time, but for one call in 2^32.
 pub fn next_stamp(terms: &mut [Term], present: u32) -> u32
     requires { All (λ t. t.stamp ≤ present) terms.old }
     ensures costs { costs terms.new ≡ costs terms.old }
-    ensures rests { rests result terms.new ≡ replicate (length terms.old) (pos 0) }
     ensures values { values terms.new ≡ values terms.old }
-    ensures stamps { All (λ t. t.stamp ≤ result) terms.new }
+    ensures above { All (λ t. t.stamp < result) terms.new }
 {
     if present == u32::MAX {
-        for term in terms.iter_mut() {
-            term.stamp = 0;
-        }
+        take_stamps(terms);
         return 1;
     }
     present + 1
+}
+
+/// Takes all stamps away.
+fn take_stamps(terms: &mut [Term])
+    ensures costs { costs terms.new ≡ costs terms.old }
+    ensures values { values terms.new ≡ values terms.old }
+    ensures none { All (λ t. t.stamp < 1) terms.new }
+{
+    for term in terms.iter_mut() {
+        term.stamp = 0;
+    }
 }
 
 /// So many times a least cost.
@@ -136,10 +163,8 @@ pub fn scaled(scale: u64, least: i128) -> i128
 pub fn where_false(least: i128, scale: u64, term: &Term, present: u32, negated: bool) -> i128
     requires least { unsigned_abs least < 2 ^ 126 }
     requires parts { AreSmall scale term.now.cost (rest_of present term.now) }
-    ensures {
-        let c = (pos scale *ℤ term.now.cost) +ℤ rest_of present term.now in
-        result +ℤ least_term c term.now.value ≡ least +ℤ least_term c (Some negated)
-    }
+    ensures { let c = (pos scale *ℤ term.now.cost) +ℤ rest_of present term.now in
+        result +ℤ least_term c term.now.value ≡ least +ℤ least_term c (Some negated) }
 {
     let coefficient = coefficient(scale, term.cost, rest_at(term, present));
     let before = least_of(coefficient, term.value);

@@ -72,16 +72,16 @@ invariant_of-self c =
     let y = simp to_z-of_z at c.least_at-after.ensures.value in
     let z = ap (λ (q : ℤ). least_at b.scale old.cost q old.value) c.rest_at-rest.ensures in
     let p : c.moved-self-inside.result +ℤ least_at b.scale old.cost (rest_of b.present old) old.value
-        ≡ b.least +ℤ least_at b.scale old.cost c.raised.result old.value
+    ≡ b.least +ℤ least_at b.scale old.cost c.raised.result old.value
     = omega (arith, ints, c.moved-self-inside.ensures, x, y, z) in
     let u : c.unsigned_abs.result ≡ unsigned_abs w = simp to_z-of_z at c.unsigned_abs.ensures.value in
     let new : Term = record { rest = c.raised.result; cost = old.cost; stamp = b.present; value = old.value } in
     simp to_z-of_z (rw u record {
-        least = rest_put_kept b.cost_constant b.scale b.rest_constant b.present b.terms.items v
-            old new w b.weights b.mass b.least b.least_cost c.moved-self-inside.result
-            (c.self.invariant).least at m refl refl refl r p;
-        stamps = All-set (λ t. t.stamp ≤ b.present) b.terms.items v new (omega arith)
-            (c.self.invariant).stamps;
+      least = rest_put_kept b.cost_constant b.scale b.rest_constant b.present b.terms.items v
+          old new w b.weights b.mass b.least b.least_cost c.moved-self-inside.result
+          (c.self.invariant).least at m refl refl refl r p;
+      stamps = All-set (λ t. t.stamp ≤ b.present) b.terms.items v new (omega arith)
+          (c.self.invariant).stamps;
     })
 
 pub returns-clause-form : goal.returns-clause-form
@@ -99,5 +99,5 @@ returns-clause-form c =
     let r : c.raised.result ≡ rest_of b.present old +ℤ w = e ∙ ap (λ x. x +ℤ w) c.rest_at-rest.ensures in
     let new : Term = record { rest = c.raised.result; cost = old.cost; stamp = b.present; value = old.value } in
     simp to_z-of_z (rest_put b.cost_constant b.scale b.rest_constant b.present b.terms.items v
-        old new w at refl refl refl r
-        ∙ ap (λ (s : BoundState). record (s.form) { rest = plus_at w v (s.form).rest }) c.self.view_is)
+    old new w at refl refl refl r
+    ∙ ap (λ (s : BoundState). record (s.form) { rest = plus_at w v (s.form).rest }) c.self.view_is)
