@@ -5,6 +5,7 @@ mod Places
 mod Ends
 mod FactLaws
 mod WordLaws
+mod WordSpelling
 mod Prefixes
 mod PlainLaws
 mod PlainLoops
