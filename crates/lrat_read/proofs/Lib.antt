@@ -4,6 +4,7 @@ mod Scan
 mod Places
 mod Ends
 mod FactLaws
+mod IdLaws
 mod WordLaws
 mod WordSpelling
 mod Prefixes

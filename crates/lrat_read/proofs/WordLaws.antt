@@ -5,25 +5,9 @@ use Rattle.std.specs.Str.{bytes_eq}
 use Rattle.std.proofs.lemmas.Bool.{cases_Bool}
 use Rattle.std.proofs.lemmas.Slice.Eq.{bytes_eq-Decides}
 use lib.Chars.{codes}
-use Rattle.lrat_read.specs.Form.{Malformed, block_of, line_of, signed_of}
-use Rattle.lrat_read.specs.Words.{ended_ids, after_word, word_line_of}
-use Rattle.lrat_read.specs.declared.words.Word.TheVariants.{Group}
+use Rattle.lrat_read.specs.Form.{Malformed, line_of, signed_of}
+use Rattle.lrat_read.specs.Words.{word_line_of}
 use Rattle.lrat_read.proofs.Lines.{line_bad}
-use Rattle.lrat_read.proofs.Tokens.{Rest, Signed}
-
-ids_none : (ts : List (List ℕ)) (o : Rest) → block_of ts ≡ o
-    → ((xs : Signed) → block_of ts ≡ Some (xs, []) → ⊥) → ended_ids ts ≡ None
-ids_none ts None e none = rw e refl
-ids_none ts (Some (xs, [])) e none = absurd (none xs e)
-ids_none ts (Some (xs, u ∷ us)) e none = rw e refl
-
--- a group whose ids are not a block that ends the line
-pub group_breaks : (ts : List (List ℕ)) (xs : Signed) (rest : List (List ℕ))
-    → block_of ts ≡ Some (xs, rest) → ((is : Signed) → block_of rest ≡ Some (is, []) → ⊥)
-    → after_word Group ts ≡ None
-group_breaks ts xs rest e none =
-    let ids : ended_ids rest ≡ None = ids_none rest (block_of rest) refl none in
-    rw e (rw ids refl)
 
 -- an addition or a deletion begins with no word
 apart : (t w : List ℕ) (x : Bool × ℕ) → signed_of t ≡ Some x → signed_of w ≡ None

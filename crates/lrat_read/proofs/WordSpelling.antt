@@ -2,7 +2,7 @@
 use Rattle.std.proofs.Common.{◌≡◌, ℕ, zero, suc, ◌<◌, ◌^◌, false, List, [], ◌∷◌}
 use Rattle.std.proofs.Common.{◌++◌, map, get_or, Some, None, inl, inr, refl, sym, ◌∙◌, ap}
 use Rattle.std.proofs.Common.{arith}
-use Rattle.std.specs.List.{AllByRecursion, flat_map, list_any}
+use Rattle.std.specs.List.{AllByRecursion, flat_map}
 use Rattle.std.specs.Fmt.{decimal}
 use Rattle.std.specs.Str.{bytes_eq}
 use Rattle.std.proofs.lemmas.Bool.{cases_Bool}
@@ -18,9 +18,10 @@ use Rattle.lrat_read.specs.Words.{CutLine, BoundLine, ended_facts, ended_ids, en
 use Rattle.lrat_read.specs.Words.{ended_number, literals_of, word_line_of}
 use Rattle.lrat_read.specs.WordTokens.{IsNamed, HasWordNumbers, fact_tokens, word_tokens}
 use Rattle.lrat_read.proofs.FactLaws.{facts_ahead, one_ahead}
-use Rattle.lrat_read.proofs.Lines.{dashes_none, ids_positive, ids_signed_literals, map_signed}
-use Rattle.lrat_read.proofs.Lines.{map_spell_literal, map_spell_positive, positive}
-use Rattle.lrat_read.proofs.Lines.{signed_literal, unsigned_positive}
+use Rattle.lrat_read.proofs.IdLaws.{ids_ahead, one_id_ahead}
+use Rattle.lrat_read.proofs.Lines.{ids_signed_literals, map_signed}
+use Rattle.lrat_read.proofs.Lines.{map_spell_literal}
+use Rattle.lrat_read.proofs.Lines.{signed_literal}
 use Rattle.lrat_read.proofs.Tokens.{block_from, first_not_dash, signed_from, spell}
 
 abbrev end : List (List ℕ)
@@ -47,12 +48,10 @@ ended_read : (c : List Literal) → AllByRecursion (λ l. IsId l.variable) c
 ended_read c h = let e = literals_read c [] h in rw e refl
 
 ids_read : (is : List ℕ) → AllByRecursion IsId is → ended_ids (map decimal is ++ end) ≡ Some is
-ids_read is h =
-    let e : block_of (map decimal is ++ end) ≡ Some (map positive is, []) =
-    ap (λ ts. block_of (ts ++ end)) (sym (map_spell_positive is))
-    ∙ block_from (map positive is) [] (ids_positive is h) in
-    let d : list_any (λ x. x.0) (map positive is) ≡ false = dashes_none is in
-    rw e (rw d (ap Some (unsigned_positive is)))
+ids_read [] h = refl
+ids_read (i ∷ is) h =
+    one_id_ahead (decimal i) (map decimal is ++ end) i (unsigned_from i h.0.1) h.0.0
+    ∙ ap (ids_ahead (i ∷ [])) (ids_read is h.1)
 
 facts_read : (fs : List NamedFact) → AllByRecursion IsNamed fs
     → ended_facts (flat_map fact_tokens fs ++ end) ≡ Some fs
