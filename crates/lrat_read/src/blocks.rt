@@ -63,8 +63,8 @@ pub fn read_last_lits(
     Ok((skip_blanks(line, block.end) == line.len()).then_some(block))
 }
 
-/// Reads the last block of a line as numbers without dashes: whether it is well-formed, with nothing
-/// after it.
+/// Reads the last block of a line as numbers without dashes: whether it is well-formed, with
+/// nothing after it.
 pub fn read_ids(ids: &mut Vec<u64>, line: &[u8], at: usize) -> Result<bool, AllocError>
     requires { at ≤ length line.now }
     ensures { IfOk result (λ r. AreIdsRead line.now at ids.new.items r) }
