@@ -29,7 +29,7 @@ ahead_ahead fs gs (Some hs) = ap Some (sym (append_assoc fs gs hs))
 abbrev pub fact_of : ℕ → Bool → ℕ → NamedFact
 fact_of w s n = record { weight = w; is_numbered = s; number = n }
 
-one_ahead : (t u : List ℕ) (vs : List (List ℕ)) (w : ℕ) (s : Bool) (n : ℕ)
+pub one_ahead : (t u : List ℕ) (vs : List (List ℕ)) (w : ℕ) (s : Bool) (n : ℕ)
     → unsigned_of t ≡ Some w → 0 < w → signed_of u ≡ Some (s, n) → 0 < n
     → ended_facts (t ∷ u ∷ vs) ≡ facts_ahead (fact_of w s n ∷ []) (ended_facts vs)
 one_ahead t u vs zero s n e h f k = absurd (omega arith)

@@ -4,7 +4,9 @@ mod Scan
 mod Places
 mod Ends
 mod FactLaws
+mod IdLaws
 mod WordLaws
+mod WordSpelling
 mod Prefixes
 mod PlainLaws
 mod PlainLoops

@@ -61,7 +61,7 @@ signed_hints-parts [] = refl
 signed_hints-parts ((false, h) ∷ hs) = ap (λ x. (false, h) ∷ x) (signed_hints-parts hs)
 signed_hints-parts ((true, h) ∷ hs) = ap (λ x. (true, h) ∷ x) (signed_hints-parts hs)
 
-map_spell_positive : (hints : List ℕ) → map spell (map positive hints) ≡ map decimal hints
+pub map_spell_positive : (hints : List ℕ) → map spell (map positive hints) ≡ map decimal hints
 map_spell_positive [] = refl
 map_spell_positive (h ∷ hints) = ap (λ x. decimal h ∷ x) (map_spell_positive hints)
 
@@ -88,11 +88,11 @@ map_literal : (xs : Signed) → map signed_literal (map literal_from xs) ≡ xs
 map_literal [] = refl
 map_literal (x ∷ xs) = ap (λ y. x ∷ y) (map_literal xs)
 
-map_signed : (c : List Literal) → map literal_from (map signed_literal c) ≡ c
+pub map_signed : (c : List Literal) → map literal_from (map signed_literal c) ≡ c
 map_signed [] = refl
 map_signed (l ∷ c) = ap (λ y. l ∷ y) (map_signed c)
 
-map_spell_literal : (c : List Literal) → map spell (map signed_literal c) ≡ map literal_text c
+pub map_spell_literal : (c : List Literal) → map spell (map signed_literal c) ≡ map literal_text c
 map_spell_literal [] = refl
 map_spell_literal (l ∷ c) = ap (λ y. literal_text l ∷ y) (map_spell_literal c)
 
@@ -202,7 +202,7 @@ ids_groups ((false, n) ∷ hs) h = ids_groups hs h.1
 ids_groups ((true, n) ∷ hs) h =
     ((h.0, All-from_recursion IsId (leading hs) (ids_leading hs h.1)), ids_groups hs h.1)
 
-ids_signed_literals : (c : List Literal) → AllByRecursion (λ l. IsId l.variable) c
+pub ids_signed_literals : (c : List Literal) → AllByRecursion (λ l. IsId l.variable) c
     → HasIds (map signed_literal c)
 ids_signed_literals [] h = tt
 ids_signed_literals (l ∷ c) h = (h.0, ids_signed_literals c h.1)
@@ -211,7 +211,7 @@ ids_append : (xs ys : Signed) → HasIds xs → HasIds ys → HasIds (xs ++ ys)
 ids_append [] ys h k = k
 ids_append (x ∷ xs) ys h k = (h.0, ids_append xs ys h.1 k)
 
-ids_positive : (hints : List ℕ) → AllByRecursion IsId hints → HasIds (map positive hints)
+pub ids_positive : (hints : List ℕ) → AllByRecursion IsId hints → HasIds (map positive hints)
 ids_positive [] h = tt
 ids_positive (x ∷ xs) h = (h.0, ids_positive xs h.1)
 
@@ -230,11 +230,11 @@ no_dashes [] e = refl
 no_dashes ((true, n) ∷ xs) e = absurd (true≢false e)
 no_dashes ((false, n) ∷ xs) e = ap (λ y. decimal n ∷ y) (no_dashes xs e)
 
-dashes_none : (hints : List ℕ) → list_any (λ x. x.0) (map positive hints) ≡ false
+pub dashes_none : (hints : List ℕ) → list_any (λ x. x.0) (map positive hints) ≡ false
 dashes_none [] = refl
 dashes_none (h ∷ hints) = dashes_none hints
 
-unsigned_positive : (hints : List ℕ) → map (λ x. x.1) (map positive hints) ≡ hints
+pub unsigned_positive : (hints : List ℕ) → map (λ x. x.1) (map positive hints) ≡ hints
 unsigned_positive [] = refl
 unsigned_positive (h ∷ hints) = ap (λ y. h ∷ y) (unsigned_positive hints)
 

@@ -73,7 +73,7 @@ signed_means (b ∷ bs) x e =
           )
     ]
 
-first_not_dash : (n : ℕ) → n < 2 ^ 62 → 48 ≤ get_or (decimal n) 0 0
+pub first_not_dash : (n : ℕ) → n < 2 ^ 62 → 48 ≤ get_or (decimal n) 0 0
 first_not_dash zero small = rw (decimal_digit 0 (omega arith)) (omega arith)
 first_not_dash (suc n) small = let h = first_decimal (suc n) (omega arith) (omega arith) in
     omega arith

@@ -5,7 +5,7 @@ use Rattle.cnf.specs.Literal.{Literal}
 use Rattle.text.specs.Text.{tokens_of}
 use Rattle.lrat_read.specs.Form.{block_of, literal_from}
 use Rattle.lrat_read.specs.Reader.{is_large_clause}
-use Rattle.lrat_read.specs.Words.{ended_literals}
+use Rattle.lrat_read.specs.Words.{ended_ids, ended_literals}
 use Rattle.lrat_read.specs.declared.blocks.LitsEnd.{LitsEnd}
 
 -- the block that begins at a place, as literals
@@ -24,6 +24,11 @@ AreLastLitsRead line at lits None = ended_literals (tokens_of (drop at line)) �
 AreLastLitsRead line at lits (Some e) =
     (c : List Literal) × (ended_literals (tokens_of (drop at line)) ≡ Some c)
     × (is_large_clause c ≡ e.is_large) × (e.is_large ≡ false → c ≡ lits)
+
+-- the last block of a line, as numbers without dashes: whether it is one, with nothing after it
+abbrev pub AreIdsRead : List ℕ → ℕ → List ℕ → Bool → Type 0
+AreIdsRead line at ids true = ended_ids (tokens_of (drop at line)) ≡ Some ids
+AreIdsRead line at ids false = ended_ids (tokens_of (drop at line)) ≡ None
 
 -- the block that begins at a place, as hints
 abbrev pub IsHintsRead : List ℕ → ℕ → List (Bool × ℕ) → Option ℕ → Type 0

@@ -8,4 +8,5 @@ pub mod Batch
 pub mod Blanks
 pub mod Words
 pub mod WordReader
+pub mod WordTokens
 pub mod Facts

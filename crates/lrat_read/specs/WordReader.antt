@@ -1,5 +1,5 @@
 -- What a reader of lines that begin with a word says of the tokens that it read.
-use Rattle.std.specs.Prelude.{◌≡◌, ℕ, Bool, false, List, map, Option, Some, None}
+use Rattle.std.specs.Prelude.{◌≡◌, ℕ, Bool, false, List, Option, Some, None}
 use Rattle.cnf.specs.Literal.{Literal}
 use Rattle.lrat_read.specs.Reader.{is_large_clause}
 use Rattle.lrat_read.specs.Words.{NamedFact, WordLine, CountLine, MoreLine, GroupLine, FormLine}
@@ -17,7 +17,7 @@ pub record WordState : Type 0 where
   pub literals : List Literal
   -- there was such a literal
   pub is_large : Bool
-  pub ids : List (Bool × ℕ)
+  pub ids : List ℕ
   pub facts : List NamedFact
 
 -- these are the literals that were read
@@ -33,7 +33,7 @@ IsHeld line Count s =
     (c : List Literal) × (line ≡ Some (Some (CountLine s.number c))) × AreLitsOf c s
 IsHeld line More s = line ≡ Some (Some (MoreLine s.number))
 IsHeld line Group s =
-    (c : List Literal) × (line ≡ Some (Some (GroupLine c (map (λ i. i.1) s.ids)))) × AreLitsOf c s
+    (c : List Literal) × (line ≡ Some (Some (GroupLine c s.ids))) × AreLitsOf c s
 IsHeld line Form s = line ≡ Some (Some (FormLine (Some s.number) s.facts))
 IsHeld line FurtherFacts s = line ≡ Some (Some (FormLine None s.facts))
 IsHeld line Cut s = (c : List Literal) × (line ≡ Some (Some (CutLine c))) × AreLitsOf c s

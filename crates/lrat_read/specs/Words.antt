@@ -1,8 +1,7 @@
 -- The lines that begin with a word: counts, groups, forms, cuts and bounds. Numbers are spelled
 -- plainly and lie below 2^62, and a line ends with 0.
-use Rattle.std.specs.Prelude.{◌≡◌, ℕ, zero, suc, ◌≤◌, Bool, true, false, List, [], ◌∷◌, map, length}
+use Rattle.std.specs.Prelude.{◌≡◌, ℕ, zero, suc, ◌≤◌, Bool, false, List, [], ◌∷◌, map, length}
 use Rattle.std.specs.Prelude.{drop, Option, Some, None, if◌then◌else◌}
-use Rattle.std.specs.List.{list_any}
 use Rattle.std.specs.Str.{bytes_eq}
 use lib.Chars.{codes}
 use Rattle.cnf.specs.Literal.{Literal}
@@ -63,12 +62,18 @@ ended_literals ts = by (literals_of ts)
 
 -- numbers from 1 without dashes, and after them a 0, which is the last token
 abbrev pub ended_ids : List (List ℕ) → Option (List ℕ)
-ended_ids ts = by (block_of ts)
+ended_ids [] = None
+ended_ids (t ∷ ts) = on (unsigned_of t) ts (ended_ids ts)
   where
-    by : Option (List (Bool × ℕ) × List (List ℕ)) → Option (List ℕ)
-    by None = None
-    by (Some (xs, [])) = if list_any (λ x. x.0) xs then None else Some (map (λ x. x.1) xs)
-    by (Some (xs, t ∷ rest)) = None
+    onto : ℕ → Option (List ℕ) → Option (List ℕ)
+    onto n None = None
+    onto n (Some ns) = Some (n ∷ ns)
+
+    on : Option ℕ → List (List ℕ) → Option (List ℕ) → Option (List ℕ)
+    on None us more = None
+    on (Some zero) [] more = Some []
+    on (Some zero) (u ∷ us) more = None
+    on (Some (suc n)) us more = onto (suc n) more
 
 -- one number, and after it a 0, which is the last token
 abbrev pub ended_number : List (List ℕ) → Option ℕ

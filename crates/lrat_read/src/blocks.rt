@@ -1,9 +1,10 @@
 // The blocks of a line: numbers up to the first 0.
 ghost use Rattle.std.specs.Prelude.{◌≡◌, ◌≤◌, length, IfOk};
 ghost use Rattle.std.specs.List.{list_any};
-ghost use Rattle.lrat_read.specs.Blocks.{IsLitsRead, AreLastLitsRead, IsHintsRead, IsLastRead};
+ghost use Rattle.lrat_read.specs.Blocks.{IsLitsRead, AreLastLitsRead, AreIdsRead, IsHintsRead};
+ghost use Rattle.lrat_read.specs.Blocks.{IsLastRead};
 
-use crate::numbers::{NumberAt, number_at, skip_blanks};
+use crate::numbers::{NumberAt, number_at, skip_blanks, unsigned_at};
 use crate::types::SignedId;
 use cnf::limits::VARIABLE_LIMIT;
 use cnf::types::Lit;
@@ -60,6 +61,24 @@ pub fn read_last_lits(
         return Ok(None);
     };
     Ok((skip_blanks(line, block.end) == line.len()).then_some(block))
+}
+
+/// Reads the last block of a line as numbers without dashes: whether it is well-formed, with
+/// nothing after it.
+pub fn read_ids(ids: &mut Vec<u64>, line: &[u8], at: usize) -> Result<bool, AllocError>
+    requires { at ≤ length line.now }
+    ensures { IfOk result (λ r. AreIdsRead line.now at ids.new.items r) }
+{
+    ids.clear();
+    let mut place = at;
+    while let Some(id) = unsigned_at(line, place) {
+        if id.value == 0 {
+            return Ok(skip_blanks(line, id.end) == line.len());
+        }
+        ids.push(id.value)?;
+        place = id.end;
+    }
+    Ok(false)
 }
 
 /// Reads the block that begins at a place as hints, and says where it ends; None where it is

@@ -5,10 +5,9 @@ ghost use Rattle.text.specs.Text.{tokens_of};
 ghost use Rattle.lrat_read.specs.Words.{after_word};
 ghost use Rattle.lrat_read.specs.WordReader.{IsHeld, IsWordRead};
 
-use crate::blocks::{has_dash, read_last, read_last_lits, read_lits};
+use crate::blocks::{read_ids, read_last_lits, read_lits};
 use crate::facts::{WeightedFact, read_facts};
 use crate::numbers::{last_number, unsigned_at};
-use crate::types::SignedId;
 use crate::words::{Word, after_plus, word_at};
 use cnf::types::Lit;
 use std::alloc::{AllocError, Global};
@@ -46,8 +45,8 @@ pub struct WordReader {
     lits: Vec<Lit>,
     // Whether there was such a literal.
     is_large: bool,
-    // The ids of a group's clauses.
-    ids: Vec<SignedId>,
+    // The ids of a group's clauses, from 1, below 2^62.
+    ids: Vec<u64>,
     // The facts of a form.
     facts: Vec<WeightedFact>,
 }
@@ -156,10 +155,7 @@ impl WordReader {
             return Ok(WordForm::Malformed);
         };
         self.is_large = inputs.is_large;
-        if !read_last(&mut self.ids, line, inputs.end)? {
-            return Ok(WordForm::Malformed);
-        }
-        if has_dash(&self.ids) {
+        if !read_ids(&mut self.ids, line, inputs.end)? {
             return Ok(WordForm::Malformed);
         }
         Ok(WordForm::Group)
@@ -243,8 +239,8 @@ impl WordReader {
         self.is_large
     }
 
-    /// The ids of a `Group`, in their order; none has a dash.
-    pub fn ids(&self) -> &[SignedId]
+    /// The ids of a `Group`, in their order: from 1, below 2^62.
+    pub fn ids(&self) -> &[u64]
         ensures { result.now ≡ self.now.ids }
     {
         &self.ids
