@@ -6,6 +6,7 @@ mod groups;
 mod known;
 mod numbered;
 mod sizes;
+pub mod state;
 pub mod table;
 pub mod types;
 mod worth;
