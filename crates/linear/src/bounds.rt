@@ -5,7 +5,7 @@ ghost use Rattle.std.specs.Int.RustNames.{unsigned_abs};
 ghost use Rattle.cnf.specs.Clause.{has_repeat, is_tautology};
 ghost use Rattle.linear.specs.Linear.{plus_at, plus_constant, plus_literal, plus_literals};
 ghost use Rattle.linear.specs.Costs.{form_of, width_of, widened, restarted, fixed_by, falsified};
-ghost use Rattle.linear.specs.Costs.{least, least_where};
+ghost use Rattle.linear.specs.Costs.{HasOneWidth, least, least_where};
 
 use crate::terms::{
     NOTHING, Term, coefficient_part, constant_part, least_at, moved, next_stamp, raised,
@@ -103,6 +103,7 @@ impl CostBound {
     pub fn least(&self) -> i128
         ensures least { result ≡ least self.now.form }
         ensures small { unsigned_abs result < 2 ^ 126 }
+        ensures width { HasOneWidth self.now.form }
     {
         self.least
     }
@@ -115,6 +116,7 @@ impl CostBound {
         requires no_tautology { is_tautology lits.now ≡ false }
         ensures least { result ≡ least_where self.now.form (falsified lits.now self.now.form.fixed) }
         ensures small { unsigned_abs result < 2 ^ 126 }
+        ensures width { HasOneWidth self.now.form }
     {
         let mut total = self.least;
         for lit in lits {

@@ -91,3 +91,8 @@ pub returns-clause-small : goal.returns-clause-small
 returns-clause-small c =
     so_far c.self.inside c.args.self.now (take c.loop-lit.lit-index c.args.lits.now)
     (to_z w128 c.loop-lit.total-bits) c.self.view_is c.self.invariant c.loop-lit.invariant
+
+pub returns-clause-width : goal.returns-clause-width
+returns-clause-width c =
+    subst (λ (s : BoundState). HasOneWidth s.form) c.self.view_is
+    (((c.self.invariant).least).bounded).width
