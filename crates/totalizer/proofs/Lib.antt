@@ -2,3 +2,4 @@ mod Sums
 mod Laid
 mod Staging
 mod Counting
+mod Growing

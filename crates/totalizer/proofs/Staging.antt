@@ -21,6 +21,10 @@ joined h own left right a b r = record {
   fresh = r + 1;
 }
 
+-- the stage of a right half, after that of the left one
+abbrev pub right_stage : ℕ → ℕ → Tree → Tree → Staged
+right_stage h v a b = stage h (stage h v a).fresh b
+
 pub size_positive : (t : Tree) → 0 < size_of t
 size_positive (Leaf l) = omega arith
 size_positive (Node a b own) = omega (arith, size_positive a)
@@ -28,8 +32,8 @@ size_positive (Node a b own) = omega (arith, size_positive a)
 -- a node that has as many leaves
 pub stage_node : (h v : ℕ) (a b : Tree) (own : List Literal) → h ≤ size_of a + size_of b
     → stage h v (Node a b own)
-    ≡ joined h own (stage h v a).clauses (stage h (stage h v a).fresh b).clauses (stage h v a).tree
-    (stage h (stage h v a).fresh b).tree (stage h (stage h v a).fresh b).fresh
+    ≡ joined h own (stage h v a).clauses (right_stage h v a b).clauses (stage h v a).tree
+    (right_stage h v a b).tree (right_stage h v a b).fresh
 stage_node h v a b own g = rw (le-leb h (size_of a + size_of b) g) refl
 
 -- a tree that has fewer leaves stays as it is
@@ -50,7 +54,7 @@ stage_takes h v (Node a b own) =
     (stage_takes h (stage h v a).fresh b)
   where
     by : (x : Bool) → nat_le h (size_of a + size_of b) ≡ x → Takes v a (stage h v a)
-        → Takes (stage h v a).fresh b (stage h (stage h v a).fresh b)
+        → Takes (stage h v a).fresh b (right_stage h v a b)
         → Takes v (Node a b own) (stage h v (Node a b own))
     by true e left right = rw e record {
       from = omega arith;
@@ -66,7 +70,7 @@ pub outputs_grow : (h v : ℕ) (a b : Tree) (own : List Literal) → h ≤ size_
     → length (outputs_of (stage h v (Node a b own)).tree) ≡ length own + 1
 outputs_grow h v a b own g =
     ap (λ s. length (outputs_of s.tree)) (stage_node h v a b own g)
-    ∙ length-append own (positive (stage h (stage h v a).fresh b).fresh ∷ [])
+    ∙ length-append own (positive (right_stage h v a b).fresh ∷ [])
 
 -- a stage that was made of the halves, as memory has it
 module _ (h v f r : ℕ) (a b na nb : Tree) (own : List Literal) (many : h ≤ size_of a + size_of b)
