@@ -5,10 +5,10 @@ use Rattle.std.proofs.Common.{nat_le, length-append, subst}
 use Rattle.std.proofs.lemmas.Bool.{leb-true, leb-false}
 use Rattle.cnf.specs.Literal.{Literal, positive}
 use Rattle.totalizer.specs.Stages.{Tree, Leaf, Node, size_of, outputs_of, Staged, stage, stages}
-use Rattle.totalizer.specs.Stages.{tree_of, tree_within, totalizer_of, order_clause, sum_clauses}
+use Rattle.totalizer.specs.Stages.{tree_of, tree_within, totalizer_of, order_clause}
 use Rattle.totalizer.specs.Grown.{HasStages}
 use Rattle.totalizer.proofs.Staging.{Takes, stage_takes, stage_node, stage_small, size_positive}
-use Rattle.totalizer.proofs.Staging.{right_stage}
+use Rattle.totalizer.proofs.Staging.{right_stage, outputs_grow}
 use Rattle.totalizer.proofs.Counting.{joined_count, order_one}
 
 bare_within : (d : ℕ) (xs : List Literal) → HasStages 0 (tree_within d xs)
@@ -78,6 +78,12 @@ pub outputs_count : (h : ℕ) (t : Tree) → HasStages h t → 1 ≤ h → h ≤
     → length (outputs_of t) ≡ h
 outputs_count h (Leaf l) has some few = omega arith
 outputs_count h (Node a b own) has some few = omega (arith, has.2)
+
+-- a count that has fewer outputs than leaves gets one more
+pub outputs_more : (v : ℕ) (t : Tree) → length (outputs_of t) < size_of t
+    → length (outputs_of (stage (length (outputs_of t) + 1) v t).tree) ≡ length (outputs_of t) + 1
+outputs_more v (Leaf l) few = absurd (omega arith)
+outputs_more v (Node a b own) few = outputs_grow (length own + 1) v a b own (omega arith)
 
 -- there is an output after a stage
 some_output : (h v : ℕ) (t : Tree) → HasStages h t

@@ -3,3 +3,5 @@ mod Laid
 mod Staging
 mod Counting
 mod Growing
+mod Apart
+mod Variables
