@@ -1,11 +1,11 @@
 -- Clauses of literals of different variables, and lists that share no variable.
-use Rattle.std.proofs.Common.{◌≡◌, ◌≢◌, ℕ, zero, suc, ◌+◌, ◌-◌, ◌<◌, ◌≤◌, Bool, true, false}
+use Rattle.std.proofs.Common.{◌≡◌, ◌≢◌, ℕ, zero, suc, ◌<◌, ◌≤◌, false}
 use Rattle.std.proofs.Common.{List, [], ◌∷◌, ◌++◌, length, refl, sym, ◌∙◌, ap}
-use Rattle.std.proofs.Common.{arith, ◌||◌, ◌==◌, subst, inl, inr}
-use Rattle.std.specs.Prelude.{Option, Some, None, slice_get}
+use Rattle.std.proofs.Common.{arith, ◌==◌, subst, inl, inr}
+use Rattle.std.specs.Prelude.{Some, slice_get}
 use Rattle.std.specs.List.{AllByRecursion}
 use Rattle.std.proofs.lemmas.Bool.{and_left, ne_eqb, or_from, or_parts, false≢true}
-use Rattle.cnf.specs.Literal.{Literal, positive, negation, literal_eq, same_bool}
+use Rattle.cnf.specs.Literal.{Literal, negation, literal_eq, same_bool}
 use Rattle.cnf.specs.Clause.{has_repeat, is_tautology, contains_literal, greatest_variable}
 use Rattle.cnf.proofs.Laws.{all_append, all_parts, all_weaker, same_variable, literal_eq-refl}
 use Rattle.cnf.proofs.Laws.{negation_twice}

@@ -1,13 +1,14 @@
 -- Trees that have so many stages get one more.
 use Rattle.std.proofs.Common.{◌≡◌, ℕ, zero, suc, ◌+◌, ◌-◌, ◌/◌, ◌<◌, ◌≤◌, min, Bool, true, false}
-use Rattle.std.proofs.Common.{List, [], ◌∷◌, ◌++◌, length, take, drop, refl, sym, ◌∙◌, ap, arith}
+use Rattle.std.proofs.Common.{List, [], ◌∷◌, length, take, drop, refl, arith}
 use Rattle.std.proofs.Common.{nat_le, length-append, subst}
 use Rattle.std.proofs.lemmas.Bool.{leb-true, leb-false}
+use Rattle.std.proofs.lemmas.List.{length-take, length-drop}
 use Rattle.cnf.specs.Literal.{Literal, positive}
-use Rattle.totalizer.specs.Stages.{Tree, Leaf, Node, size_of, outputs_of, Staged, stage, stages}
+use Rattle.totalizer.specs.Stages.{Tree, Leaf, Node, size_of, outputs_of, stage, stages}
 use Rattle.totalizer.specs.Stages.{tree_of, tree_within, totalizer_of, order_clause}
 use Rattle.totalizer.specs.Grown.{HasStages}
-use Rattle.totalizer.proofs.Staging.{Takes, stage_takes, stage_node, stage_small, size_positive}
+use Rattle.totalizer.proofs.Staging.{stage_takes, size_positive}
 use Rattle.totalizer.proofs.Staging.{right_stage, outputs_grow}
 use Rattle.totalizer.proofs.Counting.{joined_count, order_one}
 
@@ -25,6 +26,28 @@ bare_within (suc d) (x ∷ y ∷ more) =
 -- before the first stage
 pub bare_has : (xs : List Literal) → HasStages 0 (tree_of xs)
 bare_has xs = bare_within (length xs) xs
+
+size_within : (d : ℕ) (xs : List Literal) → 0 < length xs → length xs ≤ d
+    → size_of (tree_within d xs) ≡ length xs
+size_within d [] some few = absurd (omega arith)
+size_within zero (x ∷ xs) some few = absurd (omega arith)
+size_within (suc d) (x ∷ []) some few = refl
+size_within (suc d) (x ∷ y ∷ more) some few =
+    let xs = x ∷ y ∷ more in
+    let half = length xs / 2 in
+    let front = length-take half xs in
+    let back = length-drop half xs in
+    omega (
+      arith,
+      front,
+      back,
+      size_within d (take half xs) (omega (arith, front)) (omega (arith, front)),
+      size_within d (drop half xs) (omega (arith, back)) (omega (arith, back)),
+    )
+
+-- its leaves are the literals
+pub tree_of_size : (xs : List Literal) → 0 < length xs → size_of (tree_of xs) ≡ length xs
+tree_of_size xs some = size_within (length xs) xs some (omega arith)
 
 -- where a tree is too small for a stage, it has as many as before
 few_enough : (h k : ℕ) (t : Tree) → size_of t ≤ h → h ≤ k → HasStages h t → HasStages k t

@@ -1,13 +1,13 @@
 -- Trees in flat memory: more depth changes nothing, and a node is made of its halves.
 use Rattle.std.proofs.Common.{◌≡◌, ℕ, zero, suc, ◌+◌, ◌-◌, ◌/◌, ◌<◌, ◌≤◌, List, [], ◌∷◌, ◌++◌}
-use Rattle.std.proofs.Common.{length, take, drop, refl, sym, ◌∙◌, ap, arith}
+use Rattle.std.proofs.Common.{length, take, drop, refl, ◌∙◌, ap, arith}
 use Rattle.std.specs.Prelude.{All, slice_index_or, map}
 use Rattle.std.specs.declared.vec.Vec.{Vec}
 use Rattle.std.specs.declared.alloc.Global.{Global}
 use Rattle.std.proofs.lemmas.List.{length-take, length-drop, length-map, map-append, take_at, drop_at}
 use Rattle.std.proofs.lemmas.List.Elements.{All-take, All-drop, All-map}
-use Rattle.cnf.specs.Literal.{Literal, positive}
-use Rattle.totalizer.specs.Stages.{Tree, Leaf, Node, size_of, tree_within, tree_of}
+use Rattle.cnf.specs.Literal.{Literal}
+use Rattle.totalizer.specs.Stages.{Node, size_of, tree_within, tree_of}
 use Rattle.totalizer.specs.Laid.{laid_within, laid_tree, tree_at}
 
 -- more depth than the number of inputs changes nothing
@@ -63,9 +63,9 @@ size_within (suc d) (x ∷ y ∷ more) outputs h g =
       front,
       back,
       size_within d (take half xs) (take (half - 1) below) (omega (arith, front))
-      (omega (arith, front)),
+          (omega (arith, front)),
       size_within d (drop half xs) (drop (half - 1) below) (omega (arith, back))
-      (omega (arith, back)),
+          (omega (arith, back)),
     )
 
 -- its inputs are its leaves

@@ -5,3 +5,4 @@ mod Counting
 mod Growing
 mod Apart
 mod Variables
+pub mod Laws

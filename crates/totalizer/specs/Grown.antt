@@ -1,6 +1,6 @@
 -- What a tree is after some stages: how many outputs its nodes have, of which variables it is, and
 -- what its outputs mean.
-use Rattle.std.specs.Prelude.{◌≡◌, ◌≢◌, ℕ, ◌+◌, ◌<◌, ◌≤◌, min, false, List, [], ◌∷◌, length, Some}
+use Rattle.std.specs.Prelude.{◌≡◌, ◌≢◌, ℕ, ◌+◌, ◌<◌, ◌≤◌, min, false, List, length, Some}
 use Rattle.std.specs.Prelude.{slice_get, nat_le}
 use Rattle.std.specs.List.{AllByRecursion}
 use Rattle.cnf.specs.Literal.{Literal, Assignment, literal_value}

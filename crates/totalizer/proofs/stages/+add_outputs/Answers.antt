@@ -1,8 +1,8 @@
-use Rattle.std.proofs.Common.{◌≡◌, ◌+◌, ◌-◌, ◌/◌, ◌<◌, ◌≤◌, ◌∷◌, [], ◌++◌, length, take, drop, map, ap, sym}
-use Rattle.std.proofs.Common.{◌∙◌, arith, refl}
+use Rattle.std.proofs.Common.{◌≡◌, ◌+◌, ◌/◌, ◌<◌, ◌∷◌, [], ◌++◌, length, map, ap, sym}
+use Rattle.std.proofs.Common.{◌∙◌, arith}
 use Rattle.std.proofs.lemmas.List.{append-nil}
 use Rattle.cnf.specs.Literal.{positive}
-use Rattle.totalizer.specs.Stages.{Node, stage, size_of, outputs_of, sum_clauses, order_clause}
+use Rattle.totalizer.specs.Stages.{Node, stage, sum_clauses, order_clause}
 use Rattle.totalizer.specs.Laid.{tree_at}
 use Rattle.totalizer.proofs.Laid.{laid_size, tree_halves}
 use Rattle.totalizer.proofs.Staging.{stage_takes, stage_small, made, clauses_made}
