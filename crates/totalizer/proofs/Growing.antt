@@ -94,7 +94,8 @@ stages_has zero h v t has = subst (λ k. HasStages k t) (omega arith) has
 stages_has (suc count) h v t has =
     let first = stage (h + 1) v t in
     let more = stages_has count (h + 1) first.fresh first.tree (stage_has h v t has) in
-    subst (λ k. HasStages k (stages count (h + 1 + 1) first.fresh first.tree).tree) (omega arith) more
+    subst (λ k. HasStages k (stages count (h + 1 + 1) first.fresh first.tree).tree) (omega arith)
+    more
 
 -- a tree that has as many stages as outputs
 pub outputs_count : (h : ℕ) (t : Tree) → HasStages h t → 1 ≤ h → h ≤ size_of t
@@ -150,7 +151,8 @@ stage_worth h v (Node a b own) has =
         let right = right_stage (h + 1) v a b in
         let many = leb-true (h + 1) (size_of a + size_of b) e in
         let own_one = own_clause h v a b own has many in
-        let count = joined_count (h + 1) own left.clauses right.clauses left.tree right.tree right.fresh in
+        let count = joined_count (h + 1) own left.clauses right.clauses left.tree right.tree
+        right.fresh in
         rw e (omega arith)
     by false e p q = rw e (omega arith)
 

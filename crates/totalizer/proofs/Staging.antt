@@ -1,6 +1,7 @@
 -- What a stage makes of a leaf, of a node that is too small for it, and of other nodes.
 use Rattle.std.proofs.Common.{◌≡◌, ℕ, ◌+◌, ◌<◌, ◌≤◌, Bool, true, false, List, [], ◌∷◌}
-use Rattle.std.proofs.Common.{◌++◌, refl, sym, ◌∙◌, ap, arith, nat_le, append_assoc, length, length-append}
+use Rattle.std.proofs.Common.{◌++◌, refl, sym, ◌∙◌, ap, arith, nat_le, append_assoc, length}
+use Rattle.std.proofs.Common.{length-append}
 use Rattle.std.proofs.lemmas.Bool.{le-leb, lt-leb}
 use Rattle.cnf.specs.Literal.{Literal, positive}
 use Rattle.totalizer.specs.Stages.{Tree, Leaf, Node, size_of, outputs_of, Staged, stage}
@@ -81,7 +82,8 @@ module _ (h v f r : ℕ) (a b na nb : Tree) (own : List Literal) (many : h ≤ s
       stage_node h v a b own many
       ∙ (λ i. joined h own (stage h v a).clauses (stage h (sym middle i) b).clauses (sym left i)
       (stage h (sym middle i) b).tree (stage h (sym middle i) b).fresh)
-      ∙ (λ i. joined h own (stage h v a).clauses (stage h f b).clauses na (sym right i) (sym last i))
+      ∙ (λ i. joined h own (stage h v a).clauses (stage h f b).clauses na (sym right i)
+      (sym last i))
 
   -- the clauses, in the order in which they come
   pub clauses_made : (c₀ c₁ c₂ c₃ c₄ : List (List Literal)) → c₁ ≡ c₀ ++ (stage h v a).clauses

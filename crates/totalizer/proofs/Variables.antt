@@ -1,5 +1,6 @@
 -- The variables of a tree and of the clauses of its stages, and the shape of these clauses.
-use Rattle.std.proofs.Common.{◌≡◌, ◌≢◌, ℕ, zero, suc, ◌+◌, ◌-◌, ◌*◌, ◌/◌, ◌<◌, ◌≤◌, Bool, true, false}
+use Rattle.std.proofs.Common.{◌≡◌, ◌≢◌, ℕ, zero, suc, ◌+◌, ◌-◌, ◌*◌, ◌/◌, ◌<◌, ◌≤◌, Bool, true}
+use Rattle.std.proofs.Common.{false}
 use Rattle.std.proofs.Common.{List, [], ◌∷◌, ◌++◌, length, take, drop, refl, sym, ◌∙◌, ap, arith}
 use Rattle.std.proofs.Common.{subst, inl, inr, ◌⊎◌, nat_le}
 use Rattle.std.specs.Prelude.{Option, Some, None, slice_get}
@@ -14,8 +15,8 @@ use Rattle.totalizer.specs.Stages.{sum_clauses}
 use Rattle.totalizer.specs.Grown.{AreBelow, IsTreeBelow, AreApart, HasHalvesApart, IsStageClause}
 use Rattle.totalizer.proofs.Staging.{stage_takes, right_stage}
 use Rattle.totalizer.proofs.Apart.{IsNew, AreDifferent, stage_clause, different_from}
-use Rattle.totalizer.proofs.Apart.{different_parts, below_greatest, below_more, new_above, apart_left}
-use Rattle.totalizer.proofs.Apart.{apart_right, all_got}
+use Rattle.totalizer.proofs.Apart.{different_parts, below_greatest, below_more, new_above}
+use Rattle.totalizer.proofs.Apart.{apart_left, apart_right, all_got}
 
 pub tree_below_more : (m n : ℕ) (t : Tree) → m ≤ n → IsTreeBelow m t → IsTreeBelow n t
 tree_below_more m n (Leaf l) h g = omega arith
@@ -82,10 +83,12 @@ grown_apart v f r c d e g p q apart left right le =
         | inl also ↦ subst (λ x. AreApart x g) (sym same) (subst (AreApart c) (sym also) apart)
         | inr more ↦ subst (λ x. AreApart x g) (sym same)
             (subst (AreApart c) (sym more.3)
-            (apart_right c d (positive more.0) apart (new_above v (positive more.0) c (omega arith) p)))
+            (apart_right c d (positive more.0) apart
+            (new_above v (positive more.0) c (omega arith) p)))
       ]
       | inr one ↦
-          let wide = apart_left c d (positive one.0) apart (new_above v (positive one.0) d (omega arith) q) in
+          let wide = apart_left c d (positive one.0) apart
+          (new_above v (positive one.0) d (omega arith) q) in
           elim right.cases [
             | inl also ↦ subst (λ x. AreApart x g) (sym one.3)
                 (subst (AreApart (c ++ positive one.0 ∷ [])) (sym also) wide)
@@ -165,7 +168,8 @@ module _ (left right : List Literal) (r n : ℕ) (in_left : AreBelow r left)
           )
       by (Some l) e (suc k) = both l (slice_get right k) k e refl
 
-  sums_shape : (i j : ℕ) → 1 ≤ i + j → AllByRecursion (IsStageClause n) (sum_clauses left right r i j)
+  sums_shape : (i j : ℕ) → 1 ≤ i + j
+      → AllByRecursion (IsStageClause n) (sum_clauses left right r i j)
   sums_shape i zero h = sum_shape i 0 h
   sums_shape i (suc j) h =
       all_append (IsStageClause n) (sum_clause left right r i (suc j))
@@ -197,7 +201,8 @@ clause_more m n c le h = record {
 
 clauses_more : (m n : ℕ) (cs : List (List Literal)) → m ≤ n
     → AllByRecursion (IsStageClause m) cs → AllByRecursion (IsStageClause n) cs
-clauses_more m n cs le = all_weaker (IsStageClause m) (IsStageClause n) cs (λ c. clause_more m n c le)
+clauses_more m n cs le =
+    all_weaker (IsStageClause m) (IsStageClause n) cs (λ c. clause_more m n c le)
 
 -- the clauses of a stage, from 1
 pub stage_shape : (h v : ℕ) (t : Tree) → 1 ≤ h → IsTreeBelow v t → HasHalvesApart t
@@ -346,7 +351,8 @@ pub stages_apart : (count h v : ℕ) (t : Tree) → IsTreeBelow v t → HasHalve
 stages_apart zero h v t g apart = apart
 stages_apart (suc count) h v t g apart =
     let first = stage h v t in
-    stages_apart count (h + 1) first.fresh first.tree (stage_below h v t g) (stage_apart h v t g apart)
+    stages_apart count (h + 1) first.fresh first.tree (stage_below h v t g)
+    (stage_apart h v t g apart)
 
 pub stages_shape : (count h v : ℕ) (t : Tree) → 1 ≤ h → IsTreeBelow v t → HasHalvesApart t
     → AllByRecursion (IsStageClause (stages count h v t).fresh) (stages count h v t).clauses

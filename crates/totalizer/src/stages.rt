@@ -1,7 +1,8 @@
-// Stages of totalizers in flat memory: the inputs of a node are a part of those of the root, and the
-// outputs of the nodes below it follow its own. No node keeps its size, since halves are as long as
-// their inputs. The depth of the calls is the logarithm of the number of inputs.
-ghost use Rattle.std.specs.Prelude.{false, ◌≡◌, ℕ, ◌+◌, ◌-◌, ◌*◌, ◌^◌, ◌<◌, ◌≤◌, min, ◌++◌, length, OnOk, IfOk};
+// Stages of totalizers in flat memory: the inputs of a node are a part of those of the root, and
+// the outputs of the nodes below it follow its own. No node keeps its size, which is that of its
+// part of the inputs. The depth of the calls is the logarithm of the number of inputs.
+ghost use Rattle.std.specs.Prelude.{false, ◌≡◌, ℕ, ◌+◌, ◌-◌, ◌*◌, ◌^◌, ◌<◌, ◌≤◌, min, ◌++◌, length};
+ghost use Rattle.std.specs.Prelude.{OnOk, IfOk};
 ghost use Rattle.cnf.specs.declared.limits.TheConstants.{VARIABLE_LIMIT};
 ghost use Rattle.cnf.specs.Literal.{positive, negative};
 ghost use Rattle.totalizer.specs.Stages.{outputs_of, stage, sum_clauses, order_clause};
@@ -11,8 +12,8 @@ use cnf::clause_list::ClauseList;
 use cnf::types::Lit;
 use std::alloc::AllocError;
 
-/// Gives each node that has so many inputs its next output, which is true where at least so many are;
-/// answers the next new variable. The clauses come behind those that are there.
+/// Gives each node that has so many inputs its next output, which is true where at least so many
+/// are; answers the next new variable. The clauses come behind those that are there.
 ///
 /// # Errors
 ///

@@ -92,14 +92,14 @@ impl Totalizer {
         count_clauses(&self.inputs, &self.outputs, next)
     }
 
-    /// Makes the next output, by new variables from `fresh` on: its clauses come behind those that
-    /// are there. Answers the variable after the last that was taken; fewer are taken than there are
-    /// inputs.
+    /// Makes the next output, by new variables from `fresh` on: its clauses come behind those
+    /// that are there. Answers the variable after the last that was taken; fewer are taken than
+    /// there are inputs.
     ///
     /// # Errors
     ///
-    /// `AllocError` where memory was refused. What is then there is a totalizer and clauses, of which
-    /// no more is known.
+    /// `AllocError` where memory was refused. Some outputs and clauses may then have come: neither
+    /// the totalizer nor the clauses are of use.
     pub fn add_stage(&mut self, fresh: u32, clauses: &mut ClauseList) -> Result<u32, AllocError>
         requires more { length (outputs_of self.old) < size_of self.old }
         requires from_one { 0 < fresh }
