@@ -1,14 +1,15 @@
 -- How many clauses a stage makes.
-use Rattle.std.proofs.Common.{◌≡◌, ℕ, zero, suc, ◌+◌, ◌-◌, ◌/◌, ◌<◌, ◌≤◌, min, max, Bool, true, false}
+use Rattle.std.proofs.Common.{◌≡◌, ℕ, zero, suc, ◌+◌, ◌-◌, ◌/◌, ◌<◌, ◌≤◌, min, max, Bool, true}
+use Rattle.std.proofs.Common.{false}
 use Rattle.std.proofs.Common.{List, [], ◌∷◌, ◌++◌, length, refl, sym, ◌∙◌, ap, arith, nat_le, take}
 use Rattle.std.proofs.Common.{drop, length-append}
-use Rattle.std.specs.Prelude.{slice_get, map}
+use Rattle.std.specs.Prelude.{map}
 use Rattle.std.specs.declared.vec.Vec.{Vec}
 use Rattle.std.specs.declared.alloc.Global.{Global}
 use Rattle.std.proofs.lemmas.Bool.{leb-true, leb-false}
 use Rattle.std.proofs.lemmas.Option.{slice_get-get_or}
 use Rattle.cnf.specs.Literal.{Literal, positive}
-use Rattle.totalizer.specs.Stages.{Tree, Leaf, Node, size_of, outputs_of, Staged, stage, sum_clause}
+use Rattle.totalizer.specs.Stages.{Tree, Node, size_of, outputs_of, stage, sum_clause}
 use Rattle.totalizer.specs.Stages.{sum_clauses, order_clause}
 use Rattle.totalizer.specs.Laid.{tree_at, laid_tree}
 use Rattle.totalizer.proofs.Laid.{laid_node, laid_size}

@@ -1,13 +1,14 @@
 -- Trees in flat memory: more depth changes nothing, and a node is made of its halves.
 use Rattle.std.proofs.Common.{◌≡◌, ℕ, zero, suc, ◌+◌, ◌-◌, ◌/◌, ◌<◌, ◌≤◌, List, [], ◌∷◌, ◌++◌}
-use Rattle.std.proofs.Common.{length, take, drop, refl, sym, ◌∙◌, ap, arith}
+use Rattle.std.proofs.Common.{length, take, drop, refl, ◌∙◌, ap, arith}
 use Rattle.std.specs.Prelude.{All, slice_index_or, map}
 use Rattle.std.specs.declared.vec.Vec.{Vec}
 use Rattle.std.specs.declared.alloc.Global.{Global}
-use Rattle.std.proofs.lemmas.List.{length-take, length-drop, length-map, map-append, take_at, drop_at}
+use Rattle.std.proofs.lemmas.List.{length-take, length-drop, length-map, map-append, take_at}
+use Rattle.std.proofs.lemmas.List.{drop_at}
 use Rattle.std.proofs.lemmas.List.Elements.{All-take, All-drop, All-map}
-use Rattle.cnf.specs.Literal.{Literal, positive}
-use Rattle.totalizer.specs.Stages.{Tree, Leaf, Node, size_of, tree_within, tree_of}
+use Rattle.cnf.specs.Literal.{Literal}
+use Rattle.totalizer.specs.Stages.{Node, size_of, tree_within, tree_of}
 use Rattle.totalizer.specs.Laid.{laid_within, laid_tree, tree_at}
 
 -- more depth than the number of inputs changes nothing
@@ -24,8 +25,10 @@ deeper (suc d) (suc e) (x ∷ y ∷ more) outputs h g =
     let front = length-take half xs in
     let back = length-drop half xs in
     (λ i. Node
-    (deeper d e (take half xs) (take (half - 1) below) (omega (arith, front)) (omega (arith, front)) i)
-    (deeper d e (drop half xs) (drop (half - 1) below) (omega (arith, back)) (omega (arith, back)) i)
+    (deeper d e (take half xs) (take (half - 1) below) (omega (arith, front))
+    (omega (arith, front)) i)
+    (deeper d e (drop half xs) (drop (half - 1) below) (omega (arith, back)) (omega (arith, back))
+    i)
     (slice_index_or outputs 0 []))
 
 -- a node, from its own outputs and those of its halves
@@ -63,9 +66,9 @@ size_within (suc d) (x ∷ y ∷ more) outputs h g =
       front,
       back,
       size_within d (take half xs) (take (half - 1) below) (omega (arith, front))
-      (omega (arith, front)),
+          (omega (arith, front)),
       size_within d (drop half xs) (drop (half - 1) below) (omega (arith, back))
-      (omega (arith, back)),
+          (omega (arith, back)),
     )
 
 -- its inputs are its leaves
@@ -92,8 +95,10 @@ bare_within (suc d) (x ∷ y ∷ more) outputs h =
     let below = drop 1 outputs in
     let rest = All-drop IsEmpty 1 outputs h in
     λ i. Node
-    (bare_within d (take half xs) (take (half - 1) below) (All-take IsEmpty (half - 1) below rest) i)
-    (bare_within d (drop half xs) (drop (half - 1) below) (All-drop IsEmpty (half - 1) below rest) i)
+    (bare_within d (take half xs) (take (half - 1) below) (All-take IsEmpty (half - 1) below rest)
+    i)
+    (bare_within d (drop half xs) (drop (half - 1) below) (All-drop IsEmpty (half - 1) below rest)
+    i)
     (first_empty outputs h i)
 
 -- before the first stage there are no outputs

@@ -1,8 +1,8 @@
 -- What a stage makes of a leaf, of a node that is too small for it, and of other nodes.
-use Rattle.std.proofs.Common.{◌≡◌, ℕ, suc, ◌+◌, ◌-◌, ◌<◌, ◌≤◌, Bool, true, false, List, [], ◌∷◌}
-use Rattle.std.proofs.Common.{◌++◌, refl, sym, ◌∙◌, ap, arith, nat_le, append_assoc, length, length-append}
-use Rattle.std.specs.Prelude.{if◌then◌else◌}
-use Rattle.std.proofs.lemmas.Bool.{le-leb, lt-leb, leb-false}
+use Rattle.std.proofs.Common.{◌≡◌, ℕ, ◌+◌, ◌<◌, ◌≤◌, Bool, true, false, List, [], ◌∷◌}
+use Rattle.std.proofs.Common.{◌++◌, refl, sym, ◌∙◌, ap, arith, nat_le, append_assoc, length}
+use Rattle.std.proofs.Common.{length-append}
+use Rattle.std.proofs.lemmas.Bool.{le-leb, lt-leb}
 use Rattle.cnf.specs.Literal.{Literal, positive}
 use Rattle.totalizer.specs.Stages.{Tree, Leaf, Node, size_of, outputs_of, Staged, stage}
 use Rattle.totalizer.specs.Stages.{sum_clauses, order_clause}
@@ -21,6 +21,10 @@ joined h own left right a b r = record {
   fresh = r + 1;
 }
 
+-- the stage of a right half, after that of the left one
+abbrev pub right_stage : ℕ → ℕ → Tree → Tree → Staged
+right_stage h v a b = stage h (stage h v a).fresh b
+
 pub size_positive : (t : Tree) → 0 < size_of t
 size_positive (Leaf l) = omega arith
 size_positive (Node a b own) = omega (arith, size_positive a)
@@ -28,8 +32,8 @@ size_positive (Node a b own) = omega (arith, size_positive a)
 -- a node that has as many leaves
 pub stage_node : (h v : ℕ) (a b : Tree) (own : List Literal) → h ≤ size_of a + size_of b
     → stage h v (Node a b own)
-    ≡ joined h own (stage h v a).clauses (stage h (stage h v a).fresh b).clauses (stage h v a).tree
-    (stage h (stage h v a).fresh b).tree (stage h (stage h v a).fresh b).fresh
+    ≡ joined h own (stage h v a).clauses (right_stage h v a b).clauses (stage h v a).tree
+    (right_stage h v a b).tree (right_stage h v a b).fresh
 stage_node h v a b own g = rw (le-leb h (size_of a + size_of b) g) refl
 
 -- a tree that has fewer leaves stays as it is
@@ -50,7 +54,7 @@ stage_takes h v (Node a b own) =
     (stage_takes h (stage h v a).fresh b)
   where
     by : (x : Bool) → nat_le h (size_of a + size_of b) ≡ x → Takes v a (stage h v a)
-        → Takes (stage h v a).fresh b (stage h (stage h v a).fresh b)
+        → Takes (stage h v a).fresh b (right_stage h v a b)
         → Takes v (Node a b own) (stage h v (Node a b own))
     by true e left right = rw e record {
       from = omega arith;
@@ -66,7 +70,7 @@ pub outputs_grow : (h v : ℕ) (a b : Tree) (own : List Literal) → h ≤ size_
     → length (outputs_of (stage h v (Node a b own)).tree) ≡ length own + 1
 outputs_grow h v a b own g =
     ap (λ s. length (outputs_of s.tree)) (stage_node h v a b own g)
-    ∙ length-append own (positive (stage h (stage h v a).fresh b).fresh ∷ [])
+    ∙ length-append own (positive (right_stage h v a b).fresh ∷ [])
 
 -- a stage that was made of the halves, as memory has it
 module _ (h v f r : ℕ) (a b na nb : Tree) (own : List Literal) (many : h ≤ size_of a + size_of b)
@@ -78,7 +82,8 @@ module _ (h v f r : ℕ) (a b na nb : Tree) (own : List Literal) (many : h ≤ s
       stage_node h v a b own many
       ∙ (λ i. joined h own (stage h v a).clauses (stage h (sym middle i) b).clauses (sym left i)
       (stage h (sym middle i) b).tree (stage h (sym middle i) b).fresh)
-      ∙ (λ i. joined h own (stage h v a).clauses (stage h f b).clauses na (sym right i) (sym last i))
+      ∙ (λ i. joined h own (stage h v a).clauses (stage h f b).clauses na (sym right i)
+      (sym last i))
 
   -- the clauses, in the order in which they come
   pub clauses_made : (c₀ c₁ c₂ c₃ c₄ : List (List Literal)) → c₁ ≡ c₀ ++ (stage h v a).clauses

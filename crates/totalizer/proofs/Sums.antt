@@ -1,11 +1,11 @@
 -- The clauses of a sum, one after another.
-use Rattle.std.proofs.Common.{◌≡◌, ℕ, zero, suc, ◌+◌, ◌-◌, ◌<◌, ◌≤◌, List, [], ◌∷◌, ◌++◌}
+use Rattle.std.proofs.Common.{◌≡◌, ℕ, zero, suc, ◌+◌, ◌<◌, List, [], ◌∷◌, ◌++◌}
 use Rattle.std.proofs.Common.{length, arith, ap, sym, ◌∙◌, refl, append_assoc, false, get_or}
 use Rattle.std.specs.Prelude.{Option, Some, None, slice_get}
 use Rattle.std.proofs.lemmas.List.{append-nil}
 use Rattle.std.proofs.lemmas.Option.{slice_get_past, slice_get_read}
 use Rattle.cnf.specs.Literal.{Literal, positive, negation}
-use Rattle.totalizer.specs.Stages.{sum_clause, sum_clauses, unless_at_least}
+use Rattle.totalizer.specs.Stages.{sum_clause, sum_clauses}
 
 -- the clauses for i, i + 1, .. on the left, so many of them
 abbrev pub sums_left : List Literal → List Literal → ℕ → ℕ → ℕ → List (List Literal)

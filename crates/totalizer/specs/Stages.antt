@@ -1,7 +1,7 @@
 -- Totalizers that grow by stages (Bailleux and Boufkhad 2003): a tree over literals by halves, in
 -- which the h-th variable of a node is true where at least h of the leaves below it are. Stage h
 -- makes the h-th variable of each node that has as many leaves.
-use Rattle.std.specs.Prelude.{ℕ, zero, suc, ◌+◌, ◌-◌, ◌*◌, ◌/◌, List, [], ◌∷◌, ◌++◌, length, map}
+use Rattle.std.specs.Prelude.{ℕ, zero, suc, ◌+◌, ◌-◌, ◌/◌, List, [], ◌∷◌, ◌++◌, length}
 use Rattle.std.specs.Prelude.{take, drop, Option, Some, None, slice_get, nat_le, if◌then◌else◌}
 use Rattle.cnf.specs.Literal.{Literal, Assignment, positive, negative, negation, literal_value}
 

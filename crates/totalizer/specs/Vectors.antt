@@ -1,5 +1,5 @@
 -- Worked totalizers.
-use Rattle.std.specs.Prelude.{◌≡◌, ℕ, List, [], ◌∷◌, refl}
+use Rattle.std.specs.Prelude.{◌≡◌, List, [], ◌∷◌, refl}
 use Rattle.cnf.specs.Literal.{Literal, positive as p, negative as n}
 use Rattle.totalizer.specs.Stages.{Leaf, Node, Staged, stage, totalizer_of}
 

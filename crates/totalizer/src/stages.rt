@@ -1,5 +1,8 @@
-// Stages of totalizers in flat memory.
-ghost use Rattle.std.specs.Prelude.{false, ◌≡◌, ℕ, ◌+◌, ◌-◌, ◌*◌, ◌^◌, ◌<◌, ◌≤◌, min, ◌++◌, length, OnOk, IfOk};
+// Stages of totalizers in flat memory: the inputs of a node are a part of those of the root, and
+// the outputs of the nodes below it follow its own. No node keeps its size, which is that of its
+// part of the inputs. The depth of the calls is the logarithm of the number of inputs.
+ghost use Rattle.std.specs.Prelude.{false, ◌≡◌, ℕ, ◌+◌, ◌-◌, ◌*◌, ◌^◌, ◌<◌, ◌≤◌, min, ◌++◌, length};
+ghost use Rattle.std.specs.Prelude.{OnOk, IfOk};
 ghost use Rattle.cnf.specs.declared.limits.TheConstants.{VARIABLE_LIMIT};
 ghost use Rattle.cnf.specs.Literal.{positive, negative};
 ghost use Rattle.totalizer.specs.Stages.{outputs_of, stage, sum_clauses, order_clause};
@@ -9,7 +12,12 @@ use cnf::clause_list::ClauseList;
 use cnf::types::Lit;
 use std::alloc::AllocError;
 
-/// Makes the next outputs of the nodes that have at least so many inputs.
+/// Gives each node that has so many inputs its next output, which is true where at least so many
+/// are; answers the next new variable. The clauses come behind those that are there.
+///
+/// # Errors
+///
+/// `AllocError` where memory was refused; some outputs and clauses may then have come.
 pub(crate) fn add_outputs(
     inputs: &[Lit],
     outputs: &mut [Vec<Lit>],
@@ -81,7 +89,11 @@ fn count_outputs(inputs: &[Lit], outputs: &[Vec<Lit>], at_least: usize) -> usize
     let Some((own, _)) = outputs.split_first() else {
         return 1;
     };
-    if inputs.len() < at_least { own.len() } else { own.len() + 1 }
+    if inputs.len() < at_least {
+        own.len()
+    } else {
+        own.len() + 1
+    }
 }
 
 /// How many clauses `push_sums` pushes, for so many outputs on each side.
@@ -92,7 +104,7 @@ fn count_sums(left: usize, right: usize, at_least: usize) -> usize
     (left.min(at_least) + 1).saturating_sub(at_least.saturating_sub(right))
 }
 
-/// The outputs of a node.
+/// The outputs of a node: of a single input, this one.
 pub(crate) fn outputs_at<'a>(inputs: &'a [Lit], outputs: &'a [Vec<Lit>]) -> &'a [Lit]
     requires laid { IsLaid inputs.now outputs.now }
     ensures { result.now ≡ outputs_of (tree_at inputs.now outputs.now) }

@@ -1,4 +1,4 @@
-// A totalizer that grows by stages.
+// The type of totalizers.
 ghost use Rattle.std.specs.Prelude.{◌≡◌, ℕ, ◌+◌, ◌<◌, ◌≤◌, ◌++◌, [], ◌∷◌, length, map, OnOk, IfOk};
 ghost use Rattle.cnf.specs.declared.limits.TheConstants.{VARIABLE_LIMIT};
 ghost use Rattle.cnf.specs.Literal.{positive, negative};
@@ -11,10 +11,15 @@ use cnf::types::Lit;
 use std::alloc::{AllocError, Global};
 use std::marker::Model;
 
-/// A totalizer.
+/// A totalizer that grows by stages (Bailleux and Boufkhad 2003): it counts which of its inputs are
+/// true. It is a tree over the inputs by halves, and contracts see it as that tree.
 #[derive(Drop)]
 pub struct Totalizer {
+    // At least one, and at most 2^32 - 1.
     inputs: Vec<Lit>,
+    // For each inner node the literals that are true where at least 1, 2, .. of the inputs below it
+    // are, as far as stages made them. A node comes before those of its left half, and these before
+    // those of its right half. A node of n inputs and those below it are n - 1.
     outputs: Vec<Vec<Lit>>,
 }
 
@@ -37,7 +42,11 @@ impl Model for Totalizer {
 }
 
 impl Totalizer {
-    /// A totalizer of these inputs.
+    /// A totalizer of these inputs, before its first stage.
+    ///
+    /// # Errors
+    ///
+    /// `AllocError` where memory was refused; more than 2^32 - 1 inputs always are.
     pub fn new(alloc: Global, inputs: &[Lit]) -> Result<Self, AllocError>
         requires { 0 < length inputs.now }
         ensures { IfOk result (λ t. t ≡ tree_of inputs.now) }
@@ -63,14 +72,15 @@ impl Totalizer {
         self.inputs.len()
     }
 
-    /// The outputs.
+    /// Output i, from 1, is the literal that is true where at least i inputs are: one for each
+    /// stage. A single input is its own output from the start.
     pub fn outputs(&self) -> &[Lit]
         ensures { result.now ≡ outputs_of self.now }
     {
         outputs_at(&self.inputs, &self.outputs)
     }
 
-    /// How many clauses the next stage makes.
+    /// How many clauses the next stage makes; none once there is an output for each input.
     pub fn count_stage_clauses(&self) -> usize
         ensures { (v : ℕ) → result
             ≡ length (stage (length (outputs_of self.now) + 1) v self.now).clauses }
@@ -82,7 +92,14 @@ impl Totalizer {
         count_clauses(&self.inputs, &self.outputs, next)
     }
 
-    /// The next stage.
+    /// Makes the next output, by new variables from `fresh` on: its clauses come behind those
+    /// that are there. Answers the variable after the last that was taken; fewer are taken than
+    /// there are inputs.
+    ///
+    /// # Errors
+    ///
+    /// `AllocError` where memory was refused. Some outputs and clauses may then have come: neither
+    /// the totalizer nor the clauses are of use.
     pub fn add_stage(&mut self, fresh: u32, clauses: &mut ClauseList) -> Result<u32, AllocError>
         requires more { length (outputs_of self.old) < size_of self.old }
         requires from_one { 0 < fresh }

@@ -1,8 +1,8 @@
-use Rattle.std.proofs.Common.{◌≡◌, ◌+◌, ◌-◌, ◌/◌, ◌<◌, ◌≤◌, ◌∷◌, [], ◌++◌, length, take, drop, map, ap, sym}
-use Rattle.std.proofs.Common.{◌∙◌, arith, refl}
+use Rattle.std.proofs.Common.{◌≡◌, ◌+◌, ◌/◌, ◌<◌, ◌∷◌, [], ◌++◌, length, map, ap, sym}
+use Rattle.std.proofs.Common.{◌∙◌, arith}
 use Rattle.std.proofs.lemmas.List.{append-nil}
 use Rattle.cnf.specs.Literal.{positive}
-use Rattle.totalizer.specs.Stages.{Node, stage, size_of, outputs_of, sum_clauses, order_clause}
+use Rattle.totalizer.specs.Stages.{Node, stage, sum_clauses, order_clause}
 use Rattle.totalizer.specs.Laid.{tree_at}
 use Rattle.totalizer.proofs.Laid.{laid_size, tree_halves}
 use Rattle.totalizer.proofs.Staging.{stage_takes, stage_small, made, clauses_made}
@@ -52,7 +52,8 @@ returns-then-inputs-at_least-clause-clauses t c =
     let os = c.args.outputs.now in
     let size = laid_size xs (map (λ o. o.items) os) (omega arith) in
     sym (append-nil c.args.clauses.now) ∙ ap (λ k. c.args.clauses.now ++ k)
-    (sym (ap (λ s. s.clauses) (stage_small c.args.at_least c.args.fresh (tree_at xs os) (omega arith))))
+    (sym (ap (λ s. s.clauses) (stage_small c.args.at_least c.args.fresh (tree_at xs os)
+    (omega arith))))
 
 pub returns-then-inputs-at_least-clause-fresh : goal.returns-then-inputs-at_least-clause-fresh
 returns-then-inputs-at_least-clause-fresh t c =
@@ -113,7 +114,8 @@ returns t c =
           ++ sum_clauses (c.outputs_at-left.ensures i) (c.outputs_at-right.ensures i)
           (c.new-sum.ensures i).variable 0 h))
           (c.in_ok-push_order.ensures
-          ∙ (λ i. c.push_sums.new.clauses ++ order_clause (c.deref.ensures.value i) (c.new-sum.ensures i).variable))
+          ∙ (λ i. c.push_sums.new.clauses ++ order_clause (c.deref.ensures.value i)
+          (c.new-sum.ensures i).variable))
           ∙ ap (λ t. c.args.clauses.now ++ (stage h v t).clauses) (sym before);
       fresh = sym (ap (λ s. s.fresh) built) ∙ sym (ap (λ t. (stage h v t).fresh) before);
     }

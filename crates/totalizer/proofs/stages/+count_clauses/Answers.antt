@@ -1,5 +1,5 @@
 use Rattle.std.proofs.Common.{◌≡◌, ◌+◌, ◌*◌, ◌≤◌, ◌<◌, ◌∷◌, ◌∙◌, ap, sym, arith, length, map, ◌^◌}
-use Rattle.totalizer.specs.Stages.{Node, stage, size_of, outputs_of, order_clause}
+use Rattle.totalizer.specs.Stages.{Node, stage, order_clause}
 use Rattle.totalizer.specs.Laid.{tree_at}
 use Rattle.totalizer.proofs.Laid.{laid_size, tree_halves}
 use Rattle.totalizer.proofs.Staging.{stage_small}

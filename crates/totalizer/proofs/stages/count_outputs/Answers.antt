@@ -1,4 +1,4 @@
-use Rattle.std.proofs.Common.{◌≡◌, ◌+◌, ◌<◌, ◌∙◌, sym, ap, arith, length}
+use Rattle.std.proofs.Common.{◌≡◌, ◌+◌, ap, arith, length}
 use Rattle.totalizer.specs.Stages.{stage, outputs_of}
 use Rattle.totalizer.specs.Laid.{tree_at}
 use Rattle.totalizer.proofs.Counting.{outputs_grown, outputs_kept}

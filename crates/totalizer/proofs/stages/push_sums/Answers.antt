@@ -1,5 +1,5 @@
-use Rattle.std.proofs.Common.{◌≡◌, ◌++◌, ◌+◌, ◌<◌, ◌≤◌, ◌-◌, ◌∷◌, [], length, arith, ap, sym}
-use Rattle.std.proofs.Common.{◌∙◌, refl, suc}
+use Rattle.std.proofs.Common.{◌≡◌, ◌++◌, ◌+◌, ◌-◌, [], arith, ap, sym}
+use Rattle.std.proofs.Common.{◌∙◌, suc}
 use Rattle.std.proofs.lemmas.List.{append-nil}
 use Rattle.totalizer.proofs.Sums.{sums_left, skipped, over, right_alone, left_alone, both_sides}
 use Rattle.totalizer.proofs.Sums.{sum_pushed}
@@ -34,22 +34,26 @@ loop-i-preserved c =
     rw next
     (elim c.if-i-eq0.branch [
       | then-i-eq0+in_ok-push w ↦
-        pushed _ _ _ _ _ (omega arith)
-        (right_alone left right sum plain i j (j - 1) w.index-right-j.result w.negation.result (omega arith)
-        (omega arith) (omega arith) w.index-right-j.is w.negation.ensures)
-        (w.clauses-is ∙ w.in_ok-push.ensures.ok) all
+          pushed _ _ _ _ _ (omega arith)
+          (right_alone left right sum plain i j (j - 1) w.index-right-j.result w.negation.result
+          (omega arith)
+          (omega arith) (omega arith) w.index-right-j.is w.negation.ensures)
+          (w.clauses-is ∙ w.in_ok-push.ensures.ok) all
       | else-i-eq0+then-j-eq0+in_ok-push-2 w ↦
-        pushed _ _ _ _ _ (omega arith)
-        (left_alone left right sum plain i j (i - 1) w.index-left-i.result w.negation-then-j-eq0.result
-        (omega arith) (omega arith) (omega arith) w.index-left-i.is w.negation-then-j-eq0.ensures)
-        (w.clauses-is ∙ w.in_ok-push-2.ensures.ok) all
+          pushed _ _ _ _ _ (omega arith)
+          (left_alone left right sum plain i j (i - 1) w.index-left-i.result
+          w.negation-then-j-eq0.result
+          (omega arith) (omega arith) (omega arith) w.index-left-i.is w.negation-then-j-eq0.ensures)
+          (w.clauses-is ∙ w.in_ok-push-2.ensures.ok) all
       | else-i-eq0+else-j-eq0+in_ok-push-3 w ↦
-        pushed _ _ _ _ _ (omega arith)
-        (both_sides left right sum plain i j (i - 1) (j - 1) w.index-left-i-else-j-eq0.result
-        w.index-right-j-else-j-eq0.result w.negation-else-j-eq0.result w.negation-else-j-eq0-2.result
-        (omega arith) (omega arith) (omega arith) (omega arith) w.index-left-i-else-j-eq0.is
-        w.index-right-j-else-j-eq0.is w.negation-else-j-eq0.ensures w.negation-else-j-eq0-2.ensures)
-        (w.clauses-is ∙ w.in_ok-push-3.ensures.ok) all
+          pushed _ _ _ _ _ (omega arith)
+          (both_sides left right sum plain i j (i - 1) (j - 1) w.index-left-i-else-j-eq0.result
+          w.index-right-j-else-j-eq0.result w.negation-else-j-eq0.result
+          w.negation-else-j-eq0-2.result
+          (omega arith) (omega arith) (omega arith) (omega arith) w.index-left-i-else-j-eq0.is
+          w.index-right-j-else-j-eq0.is w.negation-else-j-eq0.ensures
+          w.negation-else-j-eq0-2.ensures)
+          (w.clauses-is ∙ w.in_ok-push-3.ensures.ok) all
     ])
 
 pub returns : goal.returns
@@ -58,6 +62,7 @@ returns c =
     let left = c.args.left.now in
     let right = c.args.right.now in
     let v = c.args.sum.variable in
-    let none : sums_left left right v c.loop-i.i n ≡ [] = over left right v n c.loop-i.i (λ p. omega arith) in
+    let none : sums_left left right v c.loop-i.i n ≡ [] = over left right v n c.loop-i.i
+    (λ p. omega arith) in
     sym (append-nil c.loop-i.clauses) ∙ ap (λ x. c.loop-i.clauses ++ x) (sym none)
     ∙ c.loop-i.invariant

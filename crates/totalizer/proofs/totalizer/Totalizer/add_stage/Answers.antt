@@ -1,4 +1,4 @@
-use Rattle.std.proofs.Common.{◌≡◌, ◌+◌, ◌<◌, ◌≤◌, length, map, ap, sym, ◌∙◌, arith}
+use Rattle.std.proofs.Common.{◌+◌, ◌≤◌, map, ap, arith}
 use Rattle.cnf.specs.declared.limits.TheConstants.{VARIABLE_LIMIT}
 use Rattle.totalizer.specs.Stages.{size_of}
 use Rattle.totalizer.proofs.Laid.{laid_size}

@@ -1,5 +1,5 @@
-use Rattle.std.proofs.Common.{◌≡◌, ◌+◌, ◌<◌, length, map, ap, sym, ◌∙◌, arith}
-use Rattle.totalizer.specs.Stages.{size_of, outputs_of, stage}
+use Rattle.std.proofs.Common.{◌+◌, ◌<◌, length, map, ap, sym, arith}
+use Rattle.totalizer.specs.Stages.{size_of, outputs_of}
 use Rattle.totalizer.proofs.Laid.{laid_size}
 use Rattle.totalizer.proofs.Staging.{stage_small}
 use Rattle.totalizer.proofs.totalizer.Totalizer.count_stage_clauses.Goals as goal
