@@ -1,17 +1,14 @@
 -- Assignments that agree with the values that variables have.
-use Rattle.std.proofs.Common.{◌≡◌, ℕ, zero, suc, ℤ, pos, negsuc, ◌+ℤ◌, ◌-ℤ◌, ◌*ℤ◌, ◌≤ℤ◌, ◌+◌, ◌-◌, ◌<◌, ◌≤◌, List, [], ◌∷◌, ◌++◌, Option, Some, None, Bool, true, false, not, if◌then◌else◌, length, get_or, set, replicate, sum_by, arith, refl, sym, ap, ◌∙◌, subst}
+use Rattle.std.proofs.Common.{◌≡◌, ℕ, zero, suc, ◌-◌, List, [], ◌∷◌, ◌++◌, Option, Some, None, Bool}
+use Rattle.std.proofs.Common.{true, false, not, if◌then◌else◌, length, get_or, set, replicate, refl}
+use Rattle.std.proofs.Common.{sym, ap, ◌∙◌, subst}
 use Rattle.std.specs.List.{AllByRecursion}
-use Rattle.std.proofs.lemmas.Int.{ints}
-use Rattle.std.proofs.lemmas.List.{length-set, length-append, length-replicate}
-use Rattle.std.proofs.lemmas.List.Sums.{sum_by-cons}
-use Rattle.std.proofs.Math.IntN.{zero-*ℤ, *ℤ-zero}
+use Rattle.std.proofs.lemmas.List.{length-set}
 use Rattle.cnf.specs.Literal.{Literal, Assignment, literal_value}
-use Rattle.linear.specs.Linear.{Linear, coefficient, plus_at, plus_constant, plus_literal, plus_literals, true_count, value, value_from, least_term, shortfall}
-use Rattle.linear.specs.Costs.{AgreesWith, CostForm, HasOneWidth, cost_from, form_value, least_sum, least_where, restarted, widened, widened_linear, width_of, zero_below}
+use Rattle.linear.specs.Costs.{AgreesWith, CostForm, widened, width_of}
 use Rattle.linear.specs.Costs.{falsified, fixed_by}
 use Rattle.std.proofs.lemmas.Option.{none-some, same_Some}
 use Rattle.std.proofs.lemmas.Bool.{false≢true, true≢false}
-use Rattle.linear.proofs.Sums.{distributes}
 use Rattle.linear.proofs.Places.{fixed_here}
 
 -- what holds of each value of a list with one more
@@ -26,7 +23,8 @@ each_set (f ∷ fs) (suc v) x P h p (suc j) b e =
     each_set fs v x (λ i c. P (suc i) c) (λ i c k. h (suc i) c k) p j b e
 
 -- where a literal is true, its variable has this value
-true_value : (t : Assignment) (l : Literal) → literal_value t l ≡ true → t l.variable ≡ not l.negated
+true_value : (t : Assignment) (l : Literal) → literal_value t l ≡ true → t l.variable
+    ≡ not l.negated
 true_value t l e = by l.negated (t l.variable) e
   where
     by : (n b : Bool) → (if n then not b else b) ≡ true → b ≡ not n

@@ -1,18 +1,20 @@
 -- The values of linear functions and forms under an assignment.
-use Rattle.std.proofs.Common.{◌≡◌, ℕ, zero, suc, ℤ, pos, negsuc, ◌+ℤ◌, ◌-ℤ◌, ◌*ℤ◌, ◌≤ℤ◌, ◌+◌, ◌-◌, ◌<◌, ◌≤◌, List, [], ◌∷◌, ◌++◌, Option, Some, None, Bool, true, false, not, if◌then◌else◌, length, get_or, set, replicate, sum_by, arith, refl, sym, ap, ◌∙◌, subst}
+use Rattle.std.proofs.Common.{◌≡◌, ℕ, zero, suc, ℤ, pos, negsuc, ◌+ℤ◌, ◌-ℤ◌, ◌*ℤ◌, ◌≤ℤ◌, ◌+◌, ◌-◌}
+use Rattle.std.proofs.Common.{◌<◌, ◌≤◌, List, [], ◌∷◌, ◌++◌, Option, Some, None, Bool, true, false}
+use Rattle.std.proofs.Common.{not, if◌then◌else◌, length, get_or, set, replicate, sum_by, arith}
+use Rattle.std.proofs.Common.{refl, sym, ap, ◌∙◌, subst}
 use Rattle.std.specs.List.{AllByRecursion}
 use Rattle.std.proofs.lemmas.Int.{ints}
 use Rattle.std.proofs.lemmas.List.{length-set, length-append, length-replicate}
 use Rattle.std.proofs.lemmas.List.Sums.{sum_by-cons}
-use Rattle.std.proofs.Math.IntN.{zero-*ℤ, *ℤ-zero}
+use Rattle.std.proofs.Math.IntN.{*ℤ-zero}
 use Rattle.cnf.specs.Literal.{Literal, Assignment, literal_value}
-use Rattle.linear.specs.Linear.{Linear, coefficient, plus_at, plus_constant, plus_literal, plus_literals, true_count, value, value_from, least_term, shortfall}
-use Rattle.linear.specs.Costs.{AgreesWith, CostForm, HasOneWidth, cost_from, form_value, least_sum, least_where, restarted, widened, widened_linear, width_of, zero_below}
-use Rattle.linear.specs.Costs.{falsified, fixed_by}
-use Rattle.std.proofs.lemmas.Option.{none-some, same_Some}
-use Rattle.std.proofs.lemmas.Bool.{false≢true, true≢false}
+use Rattle.linear.specs.Linear.{Linear, coefficient, plus_at, plus_constant, plus_literal}
+use Rattle.linear.specs.Linear.{plus_literals, true_count, value, value_from, least_term}
+use Rattle.linear.specs.Costs.{AgreesWith, CostForm, HasOneWidth, cost_from, form_value, least_sum}
+use Rattle.linear.specs.Costs.{least_where, restarted, widened, widened_linear, width_of}
+use Rattle.linear.specs.Costs.{zero_below}
 use Rattle.linear.proofs.Sums.{distributes}
-use Rattle.linear.proofs.Places.{fixed_here}
 
 -- what a coefficient gives is at least the least of it
 term_below : (c : ℤ) (o : Option Bool) (b : Bool) → ((x : Bool) → o ≡ Some x → b ≡ x)
@@ -221,8 +223,22 @@ widened_wide width f h =
     let d = length-replicate more nothing in
     let k = length-append f.fixed (replicate more nothing) in
     record {
-      cost = omega (arith, length-append (f.cost).coefficients (replicate more (pos 0)), e, d, k, h.cost);
-      rest = omega (arith, length-append (f.rest).coefficients (replicate more (pos 0)), e, d, k, h.rest);
+      cost = omega (
+        arith,
+        length-append (f.cost).coefficients (replicate more (pos 0)),
+        e,
+        d,
+        k,
+        h.cost,
+      );
+      rest = omega (
+        arith,
+        length-append (f.rest).coefficients (replicate more (pos 0)),
+        e,
+        d,
+        k,
+        h.rest,
+      );
     }
 
 pub widened_width : (width : ℕ) (f : CostForm) → width ≤ width_of (widened width f)
