@@ -5,4 +5,5 @@ mod Counting
 mod Growing
 mod Apart
 mod Variables
+mod Meaning
 pub mod Laws
