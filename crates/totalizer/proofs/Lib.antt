@@ -6,4 +6,5 @@ mod Growing
 mod Apart
 mod Variables
 mod Meaning
+mod Outputs
 pub mod Laws
