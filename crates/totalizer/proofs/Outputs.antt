@@ -1,6 +1,6 @@
 -- How many leaves and outputs are true.
 use Rattle.std.proofs.Common.{◌≡◌, ℕ, zero, suc, ◌+◌, ◌-◌, ◌/◌, ◌<◌, ◌≤◌, min, Bool, true, false}
-use Rattle.std.proofs.Common.{List, [], ◌∷◌, ◌++◌, length, take, drop, refl, sym, ◌∙◌, ap, arith}
+use Rattle.std.proofs.Common.{List, [], ◌∷◌, ◌++◌, length, take, drop, refl, ◌∙◌, ap, arith}
 use Rattle.std.proofs.Common.{nat_le}
 use Rattle.std.specs.Prelude.{Some, slice_get, if◌then◌else◌, count_by}
 use Rattle.std.proofs.lemmas.Bool.{leb-true, leb-false}
@@ -9,9 +9,10 @@ use Rattle.std.proofs.lemmas.List.Sums.{sum_by-cons, sum_by-append}
 use Rattle.cnf.specs.Literal.{Literal, Assignment, positive, literal_value}
 use Rattle.totalizer.specs.Stages.{Tree, Leaf, Node, size_of, outputs_of, stage}
 use Rattle.totalizer.specs.Stages.{tree_of, tree_within, totalizer_of, true_leaves}
-use Rattle.totalizer.specs.Grown.{AreUnary, MeansRight}
+use Rattle.totalizer.specs.Grown.{MeansRight}
 use Rattle.totalizer.proofs.Staging.{stage_node, right_stage}
-use Rattle.totalizer.proofs.Meaning.{outputs_unary, stages_leaves}
+use Rattle.totalizer.proofs.Unary.{outputs_unary}
+use Rattle.totalizer.proofs.Meaning.{stages_leaves}
 
 -- how many literals of a list are true, one after another
 count_step : (t : Assignment) (l : Literal) (ls : List Literal)
