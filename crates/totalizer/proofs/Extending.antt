@@ -3,12 +3,10 @@ use Rattle.std.proofs.Common.{◌≡◌, ℕ, zero, suc, ◌+◌, ◌<◌, ◌�
 use Rattle.std.proofs.Common.{List, [], ◌∷◌, ◌++◌, length, refl, sym, ◌∙◌, ap, arith, nat_le, subst}
 use Rattle.std.proofs.Common.{◌/◌, take, drop}
 use Rattle.std.specs.Prelude.{if◌then◌else◌}
-use Rattle.cnf.specs.Literal.{Literal, Assignment, positive, literal_value}
-use Rattle.cnf.specs.Literal.{SameBelow, put}
+use Rattle.cnf.specs.Literal.{Literal, Assignment, SameBelow, positive, literal_value, put}
 use Rattle.cnf.proofs.Laws.{put_here, put_other}
 use Rattle.totalizer.specs.Stages.{Tree, Leaf, Node, size_of, stage, stages}
-use Rattle.totalizer.specs.Stages.{tree_of, tree_within}
-use Rattle.totalizer.specs.Stages.{totalizer_of, true_leaves}
+use Rattle.totalizer.specs.Stages.{tree_of, tree_within, totalizer_of, true_leaves}
 use Rattle.totalizer.specs.Grown.{IsTreeBelow, AreBelow, AreUnary, MeansRight}
 use Rattle.totalizer.proofs.Staging.{stage_takes, right_stage}
 use Rattle.totalizer.proofs.Apart.{all_got, below_more}
@@ -54,7 +52,7 @@ same_more : (m n : ℕ) (t u w : Assignment) → m ≤ n → SameBelow m t u →
     → SameBelow m t w
 same_more m n t u w le first second v low = second v (omega arith) ∙ first v low
 
--- an assignment that a stage's variables are given values in
+-- an assignment that agrees with t below v, and under which a tree's outputs mean what they should
 pub record Extends (t : Assignment) (v : ℕ) (tree : Tree) : Type 0 where
   pub extended : Assignment
   pub same : SameBelow v t extended

@@ -1,15 +1,14 @@
 -- Where the outputs mean what they should, the clauses of stages are true.
-use Rattle.std.proofs.Common.{◌≡◌, ℕ, zero, suc, ◌+◌, ◌<◌, ◌≤◌, Bool, true, false, not}
-use Rattle.std.proofs.Common.{List, [], ◌∷◌, ◌++◌, length, refl, sym, ◌∙◌, ap, arith, nat_le, subst}
-use Rattle.std.proofs.Common.{◌-◌}
-use Rattle.std.specs.Prelude.{Option, Some, None, slice_get, if◌then◌else◌}
+use Rattle.std.proofs.Common.{◌≡◌, ℕ, zero, suc, ◌+◌, ◌-◌, ◌<◌, ◌≤◌, Bool, true, false}
+use Rattle.std.proofs.Common.{List, [], ◌∷◌, ◌++◌, length, refl, sym, ◌∙◌, arith, nat_le, subst}
+use Rattle.std.specs.Prelude.{Option, Some, None, slice_get}
 use Rattle.std.specs.List.{AllByRecursion, list_any}
 use Rattle.std.proofs.lemmas.Bool.{leb-true, leb-false, le-leb, lt-leb, or_left, or_right}
 use Rattle.std.proofs.lemmas.List.Folds.{list_any-append}
 use Rattle.std.proofs.lemmas.Option.{slice_get_within}
 use Rattle.cnf.specs.Literal.{Literal, Assignment, positive, negative, negation, literal_value}
 use Rattle.cnf.specs.Clause.{Satisfies, clause_value}
-use Rattle.cnf.proofs.Laws.{all_append}
+use Rattle.cnf.proofs.Laws.{all_append, negation-value}
 use Rattle.totalizer.specs.Stages.{Tree, Leaf, Node, size_of, outputs_of, stage, stages}
 use Rattle.totalizer.specs.Stages.{tree_of, order_clause, sum_clause, sum_clauses}
 use Rattle.totalizer.specs.Stages.{unless_at_least, totalizer_of, true_leaves}
@@ -17,16 +16,6 @@ use Rattle.totalizer.specs.Grown.{HasStages, AreUnary, MeansRight}
 use Rattle.totalizer.proofs.Staging.{right_stage}
 use Rattle.totalizer.proofs.Growing.{stage_has, bare_has}
 use Rattle.totalizer.proofs.Unary.{outputs_unary, unary_front, unary_last}
-
--- a negated literal
-value_not : (t : Assignment) (l : Literal) → literal_value t (negation l) ≡ not (literal_value t l)
-value_not t l = by (t l.variable) l.negated
-  where
-    by : (v n : Bool) → (if not n then not v else v) ≡ not (if n then not v else v)
-    by true true = refl
-    by true false = refl
-    by false true = refl
-    by false false = refl
 
 -- what is listed unless there are so many is true where there are not
 module _ (t : Assignment) (xs : List Literal) (n : ℕ) (unary : AreUnary t xs n) where
@@ -43,8 +32,7 @@ module _ (t : Assignment) (xs : List Literal) (n : ℕ) (unary : AreUnary t xs n
           let some : unless_at_least xs (suc i) ≡ Some (negation l ∷ []) = rw g refl in
           let same : negation l ∷ [] ≡ p = cc in
           let off : nat_le (i + 1) n ≡ false = lt-leb (i + 1) n (omega arith) in
-          let value : literal_value t (negation l) ≡ true =
-          value_not t l ∙ ap not (unary i l g ∙ off) in
+          let value = negation-value t l (unary i l g ∙ off) in
           subst (λ c. clause_value t c ≡ true) same (rw value refl)
 
 -- the clauses of a sum, where a new variable means that there are so many leaves together

@@ -4,8 +4,7 @@ use Rattle.std.proofs.Common.{List, [], ◌∷◌, ◌++◌, length, refl, sym, 
 use Rattle.std.proofs.Common.{inl, inr, ◌⊎◌}
 use Rattle.std.specs.Prelude.{Some, slice_get, if◌then◌else◌}
 use Rattle.cnf.specs.Literal.{Literal, Assignment, literal_value}
-use Rattle.totalizer.specs.Stages.{Tree, Leaf, Node, outputs_of}
-use Rattle.totalizer.specs.Stages.{true_leaves}
+use Rattle.totalizer.specs.Stages.{Tree, Leaf, Node, outputs_of, true_leaves}
 use Rattle.totalizer.specs.Grown.{AreUnary, MeansRight}
 
 -- places of a list that another one follows
