@@ -1,3 +1,4 @@
 mod Repeating
 mod Stamps
-mod Sizes
+mod FactSizes
+mod Staging

@@ -1,5 +1,4 @@
 pub mod Forms
 pub mod Stamped
-pub mod Kept
 pub mod Answers
 pub mod Vectors

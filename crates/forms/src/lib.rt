@@ -3,10 +3,11 @@
 
 pub mod faults;
 mod groups;
+mod growing;
 mod known;
 mod numbered;
 mod sizes;
-pub mod state;
+
 pub mod table;
 pub mod types;
 mod worth;
