@@ -2,3 +2,4 @@ mod Repeating
 mod Stamps
 mod FactSizes
 mod Staging
+mod MassLaws

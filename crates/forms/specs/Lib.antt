@@ -1,4 +1,5 @@
 pub mod Forms
 pub mod Stamped
+pub mod Within
 pub mod Answers
 pub mod Vectors
