@@ -1,3 +1,5 @@
 mod Repeating
 mod Stamps
-mod Sizes
+mod FactSizes
+mod Staging
+mod MassLaws

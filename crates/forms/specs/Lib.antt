@@ -1,5 +1,5 @@
 pub mod Forms
 pub mod Stamped
-pub mod Kept
+pub mod Within
 pub mod Answers
 pub mod Vectors
