@@ -249,6 +249,12 @@ widened_width width f =
     let d = length-replicate more nothing in
     omega (arith, k, d)
 
+pub widened_more : (width : ℕ) (f : CostForm) → width_of f ≤ width_of (widened width f)
+widened_more width f =
+    let nothing : Option Bool = None in
+    let k = length-append f.fixed (replicate (width - width_of f) nothing) in
+    omega (arith, k)
+
 pub restarted_wide : (scale : ℕ) (f : CostForm) → HasOneWidth f → HasOneWidth (restarted scale f)
 restarted_wide scale f h =
     record { cost = h.cost; rest = length-replicate (width_of f) (pos 0) }

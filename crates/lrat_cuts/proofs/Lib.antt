@@ -1,0 +1,2 @@
+mod LawMeaning
+mod LawForms
