@@ -1,2 +1,3 @@
 mod LawMeaning
 mod LawForms
+mod LawCounts
