@@ -25,11 +25,11 @@ pub same_count : (t : Assignment) (xs : List Literal)
     → true_count t xs ≡ Rattle.std.specs.List.count_by (literal_value t) xs
 same_count t xs = count_steps t (true_count t) refl (λ l ls. refl) xs
 
-below_more : (n m : ℕ) (c : List Literal) → n ≤ m → AreBelow n c → AreBelow m c
+pub below_more : (n m : ℕ) (c : List Literal) → n ≤ m → AreBelow n c → AreBelow m c
 below_more n m c le h = all_weaker (λ l. l.variable < n) (λ l. l.variable < m) c
     (λ l lt. omega (arith, le, lt)) h
 
-item_more : (n m : ℕ) (x : Numbered) → n ≤ m → IsItemBelow n x → IsItemBelow m x
+pub item_more : (n m : ℕ) (x : Numbered) → n ≤ m → IsItemBelow n x → IsItemBelow m x
 item_more n m (Count inputs tree multiplier) le h = record {
   known = below_more n m inputs le h.known;
   below = tree_below_more n m tree le h.below;
@@ -44,7 +44,7 @@ means_kept : (n : ℕ) (t u : Assignment) (x : Numbered) → SameBelow n t u →
 means_kept n t u (Count inputs tree multiplier) same h m = means_same n t u tree same h.below m
 means_kept n t u (Group inputs) same h m = tt
 
-all_kept : (n : ℕ) (t u : Assignment) (ns : List Numbered) → SameBelow n t u
+pub all_kept : (n : ℕ) (t u : Assignment) (ns : List Numbered) → SameBelow n t u
     → AllByRecursion (IsItemBelow n) ns → AllByRecursion (Means t) ns → AllByRecursion (Means u) ns
 all_kept n t u [] same h m = tt
 all_kept n t u (x ∷ ns) same h m =

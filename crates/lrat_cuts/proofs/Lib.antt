@@ -1,3 +1,4 @@
 mod LawMeaning
 mod LawForms
 mod LawCounts
+mod LawMore
