@@ -2,3 +2,4 @@ mod LawMeaning
 mod LawForms
 mod LawCounts
 mod LawMore
+mod LawGroups
