@@ -58,6 +58,9 @@ excluded_each t at (q ∷ ps) (i ∷ ids) all e =
           (excluded_one t q c parts.0 (all i c s), excluded_each t at ps ids all parts.1)
     ] refl
 
+abbrev digit : Bool → ℕ
+digit b = if b then 1 else 0
+
 -- where a literal is true, those that exclude it are false
 none_with : (t : Assignment) (l : Literal) (before : List Literal) → literal_value t l ≡ true
     → AllByRecursion (IsEitherFalse t) (pairs_with l before) → true_count t before ≡ 0
@@ -67,7 +70,7 @@ none_with t l (m ∷ before) on h =
       | inl first ↦ first
       | inr second ↦ absurd (both_ways (literal_value t l) second on)
     ] in
-    let e : (if literal_value t m then 1 else 0) ≡ 0 = ap (λ b. if b then 1 else 0) off in
+    let e : digit (literal_value t m) ≡ 0 = ap digit off in
     omega (arith, e, none_with t l before on h.1)
 
 count_after : (t : Assignment) (before ls : List Literal) → true_count t before ≤ 1
@@ -80,7 +83,7 @@ count_after t before (l ∷ ls) low h =
     let pushed = count_push t before l in
     elim (cases_Bool (literal_value t l)) [
       | inl on ↦
-          let e : (if literal_value t l then 1 else 0) ≡ 1 = ap (λ b. if b then 1 else 0) on in
+          let e : digit (literal_value t l) ≡ 1 = ap digit on in
           let none = none_with t l before on parts.0 in
           omega (
             arith,
@@ -90,7 +93,7 @@ count_after t before (l ∷ ls) low h =
             count_after t (before ++ l ∷ []) ls (omega (arith, pushed, e, none)) parts.1,
           )
       | inr off ↦
-          let e : (if literal_value t l then 1 else 0) ≡ 0 = ap (λ b. if b then 1 else 0) off in
+          let e : digit (literal_value t l) ≡ 0 = ap digit off in
           omega (
             arith,
             pushed,
