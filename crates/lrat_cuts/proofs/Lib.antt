@@ -3,3 +3,4 @@ mod LawForms
 mod LawCounts
 mod LawMore
 mod LawGroups
+mod LawFacts
