@@ -1,3 +1,4 @@
+mod LawResults
 mod LawMeaning
 mod LawForms
 mod LawCounts
