@@ -110,8 +110,8 @@ module _ (p : Problem) (i : IsInstance p) (k v : ℕ) (f : CostForm) (ns : List 
             ∙ sym (same_count t inputs);
       }
 
-  cheap_before : (t : Assignment) → IsCheap p k now t → IsCheap p k ns t
-  cheap_before t c = record {
+  pub count_back : (t : Assignment) → IsCheap p k now t → IsCheap p k ns t
+  count_back t c = record {
     meant = record {
       relaxed = (c.meant).relaxed;
       counts = all_left (Means t) ns (Count inputs made.tree 0 ∷ []) (c.meant).counts;
@@ -146,14 +146,14 @@ module _ (p : Problem) (i : IsInstance p) (k v : ℕ) (f : CostForm) (ns : List 
             (all_weaker (IsItemBelow (v + 1)) (IsItemBelow made.fresh) ns
             (λ x b. item_more (v + 1) made.fresh x from b) h.items) new_item);
         cost = λ t tight. value_widened (made.fresh - width_of f) f.cost t ∙ h.cost t tight;
-        fixed = λ t c. agrees_widened made.fresh f t (h.fixed t (cheap_before t c));
+        fixed = λ t c. agrees_widened made.fresh f t (h.fixed t (count_back t c));
         groups = λ t c. all_push (IsLow t) ns (Count inputs made.tree 0)
-            (h.groups t (cheap_before t c)) tt;
+            (h.groups t (count_back t c)) tt;
         facts = λ t c.
             let e = value_widened (made.fresh - width_of f) f.rest t in
             let s = sum_by_push (slack t) ns (Count inputs made.tree 0) in
             let z = zero-mul (true_count t inputs - true_count t (outputs_of made.tree)) in
-            let b = h.facts t (cheap_before t c) in
+            let b = h.facts t (count_back t c) in
             omega (arith, ints, e, s, z, b);
       }
 

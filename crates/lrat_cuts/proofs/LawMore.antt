@@ -111,8 +111,8 @@ module _ (p : Problem) (i : IsInstance p) (k v : ℕ) (f : CostForm) (ns : List 
   means_new : (t : Assignment) → IsCheap p k now t → MeansRight t next.tree
   means_new t c = all_here (Means t) ns j old new here (c.meant).counts
 
-  cheap_before : (t : Assignment) → IsCheap p k now t → IsCheap p k ns t
-  cheap_before t c =
+  pub more_back : (t : Assignment) → IsCheap p k now t → IsCheap p k ns t
+  more_back t c =
       let back = stage_means_back t (length (outputs_of tree) + 1) (v + 1) tree (means_new t c) in
       record {
         meant = record {
@@ -164,7 +164,7 @@ module _ (p : Problem) (i : IsInstance p) (k v : ℕ) (f : CostForm) (ns : List 
       let was : slack t (get_or ns j old) ≡ m * (a - b) = ap (slack t) there in
       let is : slack t new ≡ m * (a - (b + o)) = ap (λ x. m * (a - x)) outputs in
       let q = less_slack m a b o most in
-      let z = h.facts t (cheap_before t c) in
+      let z = h.facts t (more_back t c) in
       omega (arith, ints, e, d, s, was, is, q, z)
 
   pub more_holds : FormHolds p k (next.fresh - 1)
@@ -188,8 +188,8 @@ module _ (p : Problem) (i : IsInstance p) (k v : ℕ) (f : CostForm) (ns : List 
             (all_weaker (IsItemBelow (v + 1)) (IsItemBelow n) ns
             (λ x b. item_more (v + 1) n x from b) h.items) new_item);
         cost = λ t tight. value_widened (n - width_of f) f.cost t ∙ h.cost t tight;
-        fixed = λ t c. agrees_widened n f t (h.fixed t (cheap_before t c));
-        groups = λ t c. all_set (IsLow t) ns j new (h.groups t (cheap_before t c)) tt;
+        fixed = λ t c. agrees_widened n f t (h.fixed t (more_back t c));
+        groups = λ t c. all_set (IsLow t) ns j new (h.groups t (more_back t c)) tt;
         facts = facts;
       })
 

@@ -5,3 +5,5 @@ mod LawCounts
 mod LawMore
 mod LawGroups
 mod LawFacts
+mod LawState
+mod LawAdditions
