@@ -7,3 +7,4 @@ mod LawGroups
 mod LawFacts
 mod LawState
 mod LawAdditions
+mod LawCuts
