@@ -110,6 +110,17 @@ excluded_low t at inputs ids all e =
     (excluded_each t at (pairs_of inputs) ids all e) in
     omega (arith, low)
 
+pub group_back : (p : Problem) (k : ℕ) (ns : List Numbered) (inputs : List Literal)
+    (t : Assignment) → IsCheap p k (ns ++ Group inputs ∷ []) t → IsCheap p k ns t
+group_back p k ns inputs t c = record {
+  meant = record {
+    relaxed = (c.meant).relaxed;
+    counts = all_left (Means t) ns (Group inputs ∷ []) (c.meant).counts;
+  };
+  feasible = c.feasible;
+  cost = c.cost;
+}
+
 -- a group that is new
 pub group_holds : (p : Problem) (k v : ℕ) (f : CostForm) (ns : List Numbered)
     (inputs : List Literal) → FormHolds p k v f ns → HasVariables v inputs
@@ -118,14 +129,7 @@ pub group_holds : (p : Problem) (k v : ℕ) (f : CostForm) (ns : List Numbered)
 group_holds p k v f ns inputs h known low =
     let new = Group inputs in
     let now = ns ++ new ∷ [] in
-    let before : (t : Assignment) → IsCheap p k now t → IsCheap p k ns t = λ t c. record {
-      meant = record {
-        relaxed = (c.meant).relaxed;
-        counts = all_left (Means t) ns (new ∷ []) (c.meant).counts;
-      };
-      feasible = c.feasible;
-      cost = c.cost;
-    } in
+    let before = group_back p k ns inputs in
     record {
       choice = λ u. let c = h.choice u in (c.0, c.1, record {
         relaxed = (c.2).relaxed;

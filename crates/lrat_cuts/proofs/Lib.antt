@@ -8,3 +8,4 @@ mod LawFacts
 mod LawState
 mod LawAdditions
 mod LawCuts
+mod LawItems
