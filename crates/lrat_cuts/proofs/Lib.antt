@@ -9,3 +9,4 @@ mod LawState
 mod LawAdditions
 mod LawCuts
 mod LawItems
+mod LawLines
