@@ -10,3 +10,5 @@ mod LawAdditions
 mod LawCuts
 mod LawItems
 mod LawLines
+mod LawStart
+mod LawSound

@@ -1,6 +1,8 @@
 //! Totalizers that grow by stages.
 #![tactic(auto)]
 
+pub mod law;
+
 /// One.
 pub fn one() -> u32
     ensures { result ≡ 1 }
