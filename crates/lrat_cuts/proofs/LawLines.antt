@@ -22,7 +22,7 @@ use Rattle.lrat_cuts.proofs.LawState.{IsSound, MadeKeeps, forms_sound, made_soun
 use Rattle.lrat_cuts.proofs.LawAdditions.{added_true, deleted_true, listed_hold}
 use Rattle.lrat_cuts.proofs.LawCuts.{bound_sound, cut_sound}
 
-otherwise : {X : Type 0} (b : Bool) (x y z : X) → (if b then x else y) ≡ z → (x ≡ z → ⊥)
+pub otherwise : {X : Type 0} (b : Bool) (x y z : X) → (if b then x else y) ≡ z → (x ≡ z → ⊥)
     → y ≡ z
 otherwise true x y z e n = absurd (n e)
 otherwise false x y z e n = e

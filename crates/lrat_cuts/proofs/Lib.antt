@@ -12,3 +12,4 @@ mod LawItems
 mod LawLines
 mod LawStart
 mod LawSound
+mod LawWorth
