@@ -1,8 +1,6 @@
 -- Certificates of forms and cuts are sound.
-use Rattle.std.proofs.Common.{◌≡◌}
 use Rattle.lrat_cuts.specs.Cuts.{cuts_start}
 use Rattle.lrat_cuts.specs.Law.{CutsAreSound}
-use Rattle.lrat_cuts.proofs.LawState.{IsSound}
 use Rattle.lrat_cuts.proofs.LawStart.{start_sound}
 use Rattle.lrat_cuts.proofs.LawLines.{lines_sound}
 

@@ -1,21 +1,20 @@
 -- Before the first line.
-use Rattle.std.proofs.Common.{◌≡◌, ℕ, zero, suc, ℤ, pos, ◌+ℤ◌, ◌≤ℤ◌, ◌+◌, ◌<◌, ◌≤◌, false, List, [], ◌∷◌, Option, None, Bool, length, replicate, sum_by, refl, sym, ◌∙◌, ap, subst, arith}
+use Rattle.std.proofs.Common.{ℕ, pos, ◌+◌, false, List, [], Option, None, Bool, sym, ◌∙◌, ap, arith}
 use Rattle.std.proofs.lemmas.Int.{ints}
 use Rattle.std.proofs.lemmas.List.{length-replicate}
-use Rattle.std.specs.List.{AllByRecursion}
-use Rattle.cnf.specs.Literal.{Assignment, Literal}
-use Rattle.cnf.specs.Problem.{Problem, cost_under}
+use Rattle.cnf.specs.Literal.{Literal}
+use Rattle.cnf.specs.Problem.{Problem}
 use Rattle.cnf.specs.Instance.{IsInstance}
 use Rattle.cnf.specs.declared.limits.TheConstants.{NUMBER_LIMIT}
 use Rattle.adder.specs.declared.profiles.Profile.TheVariants.{Two}
 use Rattle.adder.specs.Network.{relaxed_variables}
-use Rattle.linear.specs.Costs.{CostForm, form_of, zero_below}
+use Rattle.linear.specs.Costs.{form_of, zero_below}
 use Rattle.linear.proofs.Laws.{agrees_none, value_cost, value_zero, weights_width}
 use Rattle.bound.specs.Weighted.{weighted_cnf, weights_of}
 use Rattle.bound.proofs.Laws.{weighted_below, weighted_choice, weighted_cost, weighted_hold}
-use Rattle.forms.specs.Forms.{Numbered, forms_of}
-use Rattle.lrat_cuts.specs.Cuts.{CutsState, cuts_start, put_all}
-use Rattle.lrat_cuts.proofs.LawMeaning.{FormHolds, IsMeant, slack}
+use Rattle.forms.specs.Forms.{forms_of}
+use Rattle.lrat_cuts.specs.Cuts.{CutsState, cuts_start}
+use Rattle.lrat_cuts.proofs.LawMeaning.{FormHolds}
 use Rattle.lrat_cuts.proofs.LawState.{IsSound, put_all_sound}
 
 module _ (p : Problem) (i : IsInstance p) where

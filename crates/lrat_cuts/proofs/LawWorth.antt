@@ -1,5 +1,6 @@
 -- Where all cuts have to hold for a cost, all are worth that, and so is the empty clause.
-use Rattle.std.proofs.Common.{◌≡◌, ℕ, ◌+◌, ◌≤◌, min, max, Bool, true, false, if◌then◌else◌, nat_le, List, [], ◌∷◌, map, Option, Some, None, Result, Ok, Err, refl, sym, ◌∙◌, ap, subst, arith}
+use Rattle.std.proofs.Common.{◌≡◌, ℕ, ◌+◌, ◌≤◌, min, true, false, nat_le, List, [], ◌∷◌, map}
+use Rattle.std.proofs.Common.{Option, Some, None, Result, Ok, Err, refl, subst, arith}
 use Rattle.std.proofs.lemmas.Bool.{false≢true, leb-true}
 use Rattle.std.proofs.lemmas.Option.{none-some, same_Some}
 use Rattle.cnf.specs.Literal.{Literal}
@@ -8,14 +9,16 @@ use Rattle.cnf.specs.declared.limits.TheConstants.{NUMBER_LIMIT}
 use Rattle.bound.specs.Weighted.{weighted_cnf, weights_of}
 use Rattle.lrat_live.specs.Listed.{listed_at}
 use Rattle.lrat_read.specs.Form.{Parsed, Addition, Deletion, Malformed, line_of}
-use Rattle.lrat_read.specs.Words.{WordLine, CountLine, MoreLine, GroupLine, FormLine, CutLine, BoundLine, after_word, word_of}
-use Rattle.lrat_read.specs.declared.words.Word.{Word}
+use Rattle.lrat_read.specs.Words.{WordLine, CountLine, MoreLine, GroupLine, FormLine, CutLine}
+use Rattle.lrat_read.specs.Words.{BoundLine, after_word, word_of}
 use Rattle.lrat_machine.specs.Rup.{deleted_from, rup_fault}
 use Rattle.lrat_machine.specs.Steps.{live_of}
-use Rattle.lrat_machine.specs.declared.verdicts.Cause.{Cause}
-use Rattle.forms.specs.Forms.{Forms, Made, bound_line, count_line, cut_line, form_line, forms_of, group_line, more_line}
+use Rattle.forms.specs.Forms.{Forms, Made, bound_line, count_line, cut_line, form_line, forms_of}
+use Rattle.forms.specs.Forms.{group_line, more_line}
 use Rattle.forms.specs.declared.faults.LineFault.{LineFault}
-use Rattle.lrat_cuts.specs.Cuts.{CutsState, cuts_start, fact_of, judged_bound, judged_cut, judged_line, judged_lines, judged_plain, judged_word, on_clauses, on_forms, put, put_all, taken_worth}
+use Rattle.lrat_cuts.specs.Cuts.{CutsState, cuts_start, fact_of, judged_bound, judged_cut}
+use Rattle.lrat_cuts.specs.Cuts.{judged_line, judged_lines, judged_plain, judged_word, on_clauses}
+use Rattle.lrat_cuts.specs.Cuts.{on_forms, put, put_all, taken_worth}
 use Rattle.lrat_cuts.specs.Law.{CutsProveTheCost}
 use Rattle.lrat_cuts.proofs.LawLines.{otherwise}
 use Rattle.lrat_cuts.proofs.LawResults.{err_ok, ok_same}

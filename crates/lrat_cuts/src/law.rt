@@ -6,5 +6,4 @@ ghost use Rattle.lrat_cuts.specs.Law.{CutsAreSound, CutsProveTheCost};
 pub fn cuts_are_sound()
     ensures lower_bound { CutsAreSound }
     ensures the_cost { CutsProveTheCost }
-{
-}
+{}
