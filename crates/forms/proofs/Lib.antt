@@ -3,3 +3,4 @@ mod Stamps
 mod FactSizes
 mod Staging
 mod MassLaws
+mod Knowing
