@@ -77,7 +77,7 @@ give_last w r a b own below_a below_b below means =
       );
     }
 
--- the variables of a stage can be given such values, and no other changes
+-- the variables of a stage can be given such values, and those below them keep theirs
 pub stage_extends : (t : Assignment) (h v : ℕ) (tree : Tree) → IsTreeBelow v tree
     → MeansRight t tree → Extends t v (stage h v tree).tree
 stage_extends t h v (Leaf l) below means =
