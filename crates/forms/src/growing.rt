@@ -1,11 +1,16 @@
-// The stages of a new count.
+// The stages of counts, and room for their variables.
 ghost use Rattle.std.specs.Prelude.{◌≡◌, ◌+◌, ◌<◌, ◌≤◌, [], length, MatchOption, IfOk};
 ghost use Rattle.cnf.specs.declared.limits.TheConstants.{VARIABLE_LIMIT};
 ghost use Rattle.totalizer.specs.Stages.{size_of, stages};
 ghost use Rattle.totalizer.specs.Grown.{HasStages};
 ghost use Rattle.forms.specs.Answers.{IsGrown};
 
+use crate::citing::multiplier_at;
+use crate::faults::{LineFault, MOST_COUNT_CLAUSES};
+use crate::numbered::Numbered;
 use cnf::clause_list::ClauseList;
+use cnf::marks::Marks;
+use linear::bounds::CostBound;
 use std::alloc::AllocError;
 use totalizer::totalizer::Totalizer;
 
@@ -43,4 +48,71 @@ pub(crate) fn add_stages(
         next = totalizer.add_stage(next, clauses)?;
     }
     Ok(Some(next))
+}
+
+/// Why the count with a number can have no further output, if it can't: there is no count with the
+/// number, or all its outputs are there (`Name`), or the clauses would be too many (`Limit`).
+pub(crate) fn more_fault(numbered: &[Numbered], number: u64, made: usize) -> Option<LineFault>
+    requires { made ≤ MOST_COUNT_CLAUSES }
+    ensures { (present v : ℕ) → result
+        ≡ more_fault (at_number (numbered_in present numbered.now) number) made v }
+{
+    let Numbered::Count(count) = find(numbered, number)? else {
+        return Some(LineFault::Name);
+    };
+    if count.totalizer.outputs().len() >= count.totalizer.size() {
+        return Some(LineFault::Name);
+    }
+    if count.totalizer.count_stage_clauses() > MOST_COUNT_CLAUSES - made {
+        return Some(LineFault::Limit);
+    }
+    None
+}
+
+/// How many times the form with a stamp has the fact of a count; 0 of a group.
+pub(crate) fn multiplier_of(item: &Numbered, present: u64) -> u128 {
+    match item {
+        Numbered::Count(count) => multiplier_at(count, present),
+        Numbered::Group(_) => 0,
+    }
+}
+
+/// One more output of a count that has fewer outputs than inputs, with the clauses that it takes,
+/// and room for its variables: the next new variable after them.
+///
+/// # Errors
+///
+/// `AllocError` where memory was refused.
+pub(crate) fn grow_item(
+    item: &mut Numbered,
+    bound: &mut CostBound,
+    marks: &mut Marks,
+    fresh: u32,
+    clauses: &mut ClauseList,
+) -> Result<u32, AllocError> {
+    match item {
+        Numbered::Count(count) => {
+            let next = count.totalizer.add_stage(fresh, clauses)?;
+            widen(bound, marks, next)?;
+            Ok(next)
+        }
+        Numbered::Group(_) => Ok(fresh),
+    }
+}
+
+/// Room for the variables below a number.
+///
+/// # Errors
+///
+/// `AllocError` where memory was refused.
+pub(crate) fn widen(
+    bound: &mut CostBound,
+    marks: &mut Marks,
+    fresh: u32,
+) -> Result<(), AllocError> {
+    bound.widen(fresh as usize)?;
+    if marks.len() < 2 * (fresh as usize - 1) {
+        marks.grow(fresh - 1)?;
+    }
+    Ok(())
 }

@@ -8,10 +8,10 @@ ghost use Rattle.forms.specs.Forms.{are_known, at_number, begun, bound_line, cla
 ghost use Rattle.forms.specs.Forms.{fact_size, less_clause, less_fact, less_numbered, numbered_size};
 ghost use Rattle.forms.specs.Answers.{IsMade, IsTaken, IsFact};
 
-use crate::citing::{minus, multiplier_at, plus, subtract_item};
+use crate::citing::{minus, plus, subtract_item};
 use crate::faults::{LineFault, MOST_COUNT_CLAUSES, MOST_TERMS};
 use crate::groups::are_excluded;
-use crate::growing::add_stages;
+use crate::growing::{add_stages, grow_item, more_fault, multiplier_of, widen};
 use crate::known::{greatest_variable, repeats_variable};
 use crate::numbered::{Count, Numbered, next_stamp, numbered_size};
 use crate::sizes::{clause_size, facts_size};
@@ -336,9 +336,16 @@ impl Forms {
             return Ok(Some(fault));
         }
         let place = number as usize - 1;
-        let fresh = self.variables + 1;
-        match add_output(&mut self.numbered[place], self.present, fresh, clauses) {
-            Ok(output) => self.take_output(output, clauses.len()),
+        let multiplier = multiplier_of(&self.numbered[place], self.present);
+        let item = &mut self.numbered[place];
+        match grow_item(item, &mut self.bound, &mut self.marks, self.variables + 1, clauses) {
+            Ok(fresh) => {
+                self.variables = fresh - 1;
+                self.made += clauses.len();
+                let output = Lit::new(fresh - 1, false);
+                self.bound.add_literals(&[output], multiplier as i128);
+                Ok(None)
+            }
             Err(error) => {
                 self.numbered.clear();
                 Err(error)
