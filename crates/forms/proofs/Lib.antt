@@ -4,3 +4,5 @@ mod FactSizes
 mod Staging
 mod MassLaws
 mod Knowing
+mod Withins
+mod Widths

