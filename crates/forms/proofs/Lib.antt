@@ -6,3 +6,5 @@ mod MassLaws
 mod Knowing
 mod Withins
 mod Widths
+mod Weighing
+mod FormLines
