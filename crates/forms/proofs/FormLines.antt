@@ -13,6 +13,7 @@ use Rattle.forms.specs.declared.faults.LineFault.{LineFault}
 use Rattle.forms.specs.declared.faults.LineFault.TheVariants.{Name, Limit, Worth}
 use Rattle.forms.specs.declared.faults.TheConstants.{MOST_TERMS}
 use Rattle.forms.specs.Forms.{Forms, Numbered, Count, Group, at_number, begun, cited, cleared}
+use Rattle.forms.specs.Forms.{clause_size}
 use Rattle.forms.specs.Forms.{fact_size, facts_size, form_line, less_clause, less_fact, less_facts}
 use Rattle.forms.specs.Forms.{less_numbered, numbered_size, plus_size, without_multiplier}
 use Rattle.forms.specs.Answers.{HasFormFault, HasRoom, HasSizeFault}
@@ -121,3 +122,48 @@ numbered_terms w j k s h = by (at_number s.numbered j) refl
     by (Some n) e =
         let same : numbered_size n ≡ k = some_is (numbered_size n) k (rw e at h) in
         rw e (ap (λ m. s.terms + m) same)
+
+clause_terms : (w k : ℕ) (at : Clauses) (j : ℕ) (s : Forms)
+    → option_map clause_size (at j) ≡ Some k
+    → (less_fact at s (record { weight = w; is_numbered = false; number = j })).terms ≡ s.terms + k
+clause_terms w k at j s h = by (at j) refl
+  where
+    by : (o : Option (List Literal)) → at j ≡ o
+        → (less_fact at s (record { weight = w; is_numbered = false; number = j })).terms
+        ≡ s.terms + k
+    by None e = let bad = rw e at h in cc
+    by (Some c) e =
+        let same : clause_size c ≡ k = some_is (clause_size c) k (rw e at h) in
+        rw e (ap (λ m. s.terms + m) same)
+
+pub less_terms : (at : Clauses) (s : Forms) (f : NamedFact) (k : ℕ)
+    → fact_size at s.numbered f ≡ Some k → (less_fact at s f).terms ≡ s.terms + k
+less_terms at s f k h =
+    elim (cases_Bool f.is_numbered) [
+      | inl y ↦ rw y (numbered_terms f.weight f.number k s (rw y at h))
+      | inr n ↦ rw n (clause_terms f.weight k at f.number s (rw n at h))
+    ]
+
+-- there is room for a fact, and then for the others
+pub room_first : (at : Clauses) (s : Forms) (f : NamedFact) (fs : List NamedFact)
+    → HasRoom at s (f ∷ fs)
+    → IfSome (fact_size at s.numbered f) (λ n. s.terms + n ≤ MOST_TERMS)
+    × HasRoom at (less_fact at s f) fs
+room_first at s f fs (n, e, le) =
+    by (fact_size at s.numbered f) (facts_size at s.numbered fs) refl refl
+  where
+    by : (o r : Option ℕ) → fact_size at s.numbered f ≡ o → facts_size at s.numbered fs ≡ r
+        → IfSome (fact_size at s.numbered f) (λ n. s.terms + n ≤ MOST_TERMS)
+        × HasRoom at (less_fact at s f) fs
+    by None r p q = let bad = rw p at e in cc
+    by (Some k) None p q = let bad = rw (p, q) at e in cc
+    by (Some k) (Some m) p q =
+        let sum : k + m ≡ n = some_is (k + m) n (rw (p, q) at e) in
+        let terms = less_terms at s f k p in (
+          subst (λ o. IfSome o (λ n. s.terms + n ≤ MOST_TERMS)) (sym p) (omega arith),
+          (
+            m,
+            facts_same at s.numbered (less_fact at s f).numbered fs (less_cleared at s f) ∙ q,
+            omega arith,
+          ),
+        )
