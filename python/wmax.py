@@ -495,9 +495,13 @@ class Instance:
     def _lines(self) -> Iterator[str]:
         for name, literal in self.named():
             yield f"c {literal.number} = {name}"
+        said, group = "", None
         for clause in self._clauses:
-            if clause.about:
-                yield f"c {_COMMENT_MARK if _LIKE_A_NAME.match(clause.about) else ''}{clause.about}"
+            if clause.about != said and (clause.about or clause.group != group):
+                # An empty comment ends what an earlier one is about.
+                said = clause.about
+                yield f"c {_COMMENT_MARK if _LIKE_A_NAME.match(said) else ''}{said}".rstrip()
+            group = clause.group
             yield _clause_line(clause.weight, clause.numbers)
 
     @classmethod
@@ -505,7 +509,8 @@ class Instance:
         """The instance of a file in either form, also one that gzip or xz have compressed.
 
         Comments as in `c 7 = Ann Tue` name variables, the first one for each; `literal(7)` gives a
-        variable without a name. The comments above a clause are what it is about.
+        variable without a name. A clause is about the last comment above it that names nothing,
+        unless a blank line or an empty comment is between: so `wmax explain` has it, too.
         WrongValue: a line is faulty, which it names. FileFailed: the file cannot be read.
         """
         instance = cls()
@@ -551,7 +556,7 @@ class Instance:
         ask = _Request(None if time_limit is None else _seconds("time_limit", time_limit),
                        None if conflicts is None else _whole("conflicts", conflicts, 0), bool(lower), _follower(progress))
         profile = None if profile is None else _whole("profile", profile, 1)
-        program = find_program() if program is None else str(_path("program", program))
+        program = find_program() if program is None else _program(program)
         if resume and folder is None:
             raise WrongValue("resume: there is no folder to go on from")
         try:
@@ -750,6 +755,12 @@ def _path(argument: str, path: Any) -> pathlib.Path:
     except TypeError:
         raise WrongType(f"{argument}: {path!r} is no path") from None
     return pathlib.Path(text).absolute()
+
+
+def _program(path: Any) -> str:
+    """The path of a program; a name alone is looked for on PATH."""
+    found = _path("program", path)
+    return shutil.which(os.fspath(path)) or str(found) if os.sep not in os.fspath(path) else str(found)
 
 
 def find_program() -> str:
@@ -1019,9 +1030,9 @@ class _Reader:
     def __init__(self, instance: Instance, path: str) -> None:
         self._instance = instance
         self._path = path
-        self._names: Dict[int, str] = {}
-        self._comments: List[str] = []  # above the next clause
+        self._about = ""  # what the next clause is about
         self._top = 0  # the weight of hard clauses in the older form
+        self._greatest = VARIABLE_LIMIT
 
     def read(self, lines: Iterable[bytes]) -> None:
         for number, line in enumerate(lines, 1):
@@ -1029,24 +1040,19 @@ class _Reader:
                 self._read_line(line)
             except WmaxError as error:
                 raise WrongValue(f"{self._path}: line {number}: {error}") from None
-        for variable, name in self._names.items():
-            # Of those that are alike the first one counts.
-            if variable <= len(self._instance._names) and name not in self._instance._literals:
-                self._instance._names[variable - 1] = name
-                self._instance._literals[name] = self._instance.literal(variable)
 
     def _read_line(self, line: bytes) -> None:
         first = line.lstrip(b" \t")[:1]
         if first == b"c":
             self._read_comment(line)
         elif not line.strip():
-            self._comments = []
+            self._about = ""
         elif first == b"p" and not self._instance._clauses:
             header = self.HEADER.fullmatch(line)
             if not header:
                 raise WrongValue("the header is not p wcnf V C T")
             self._grow(int(header[1]))
-            self._top = int(header[2] or 0)
+            self._greatest, self._top = int(header[1]), int(header[2] or 0)
         else:
             self._read_clause(line)
 
@@ -1055,12 +1061,18 @@ class _Reader:
         text = " ".join((name[2] if name else line.lstrip()[1:]).decode("utf-8", "replace").split())
         if name:
             with contextlib.suppress(WmaxError):
-                self._names.setdefault(int(name[1]), _name("name", text))
-        elif text:
-            with contextlib.suppress(WmaxError):
-                self._comments.append(_line("comment", text[len(_COMMENT_MARK):] if text.startswith(_COMMENT_MARK) else text))
+                self._give_name(int(name[1]), _name("name", text))
         else:
-            self._comments = []
+            self._about = ""
+            with contextlib.suppress(WmaxError):
+                self._about = _line("comment", text[len(_COMMENT_MARK):] if text.startswith(_COMMENT_MARK) else text)
+
+    def _give_name(self, variable: int, name: str) -> None:
+        """Of names, and of variables with names, the first one counts."""
+        self._grow(variable)
+        if not self._instance._names[variable - 1] and name not in self._instance._literals:
+            self._instance._names[variable - 1] = name
+            self._instance._literals[name] = self._instance.literal(variable)
 
     def _read_clause(self, line: bytes) -> None:
         clause = self.CLAUSE.fullmatch(line)
@@ -1068,18 +1080,17 @@ class _Reader:
             raise WrongValue("this is no clause: h or a weight, literals, and 0")
         numbers = [int(word) for word in clause[2].split()]
         self._grow(max(map(abs, numbers), default=0))
-        literals = [Literal(number, "", self._instance) for number in numbers]
-        about, self._comments = " ".join(self._comments), []
+        literals = [self._instance.literal(number) for number in numbers]
         if clause[1] == b"h" or self._top and int(clause[1]) == self._top:
-            self._instance.hard(*literals, about=about)
+            self._instance.hard(*literals, about=self._about)
         elif self._top and int(clause[1]) > self._top:
             raise WrongValue(f"the weight is above {self._top}")
         else:
-            self._instance.soft(int(clause[1]), *literals, about=about)
+            self._instance.soft(int(clause[1]), *literals, about=self._about)
 
     def _grow(self, variables: int) -> None:
-        if variables > VARIABLE_LIMIT:
-            raise WrongValue(f"a variable is above {VARIABLE_LIMIT}")
+        if variables > self._greatest:
+            raise WrongValue(f"a variable is above {self._greatest}")
         self._instance._names.extend([""] * (variables - len(self._instance._names)))
 
 
@@ -1257,6 +1268,9 @@ class _Run:
                 self._follow(child, out, err, ask)
             except KeyboardInterrupt:
                 self.stopped = "interrupt"
+            finally:
+                if ask.follow is _show:
+                    print(_CLEAR, end="", file=sys.stderr, flush=True)
             # From a terminal, Ctrl-C reaches the program first.
             if child.poll() == -signal.SIGINT:
                 self.stopped = "interrupt"
@@ -1489,11 +1503,15 @@ def _follower(progress: Any) -> Optional[Callable[[Step], Any]]:
     return progress
 
 
+# What goes to the start of a terminal's line and clears it.
+_CLEAR = "\r\x1b[K"
+
+
 def _show(step: Step) -> None:
     """A line on the terminal in place of the one before; its bar is the part of the cost that is proved to be needed."""
     share = step.lower / step.cost if step.cost and step.lower is not None else 0.0
     bar = "#" * int(20 * share)
-    print(f"\r[{bar:.<20}] {step.seconds:.0f} s, {_spelled_step(step)}"[:79] + "\x1b[K", end="", file=sys.stderr, flush=True)
+    print(_CLEAR + f"[{bar:.<20}] {step.seconds:.0f} s, {_spelled_step(step)}"[:79], end="", file=sys.stderr, flush=True)
 
 
 def _picture(history: List[Step]) -> str:
@@ -1516,7 +1534,8 @@ def _picture(history: List[Step]) -> str:
             return ""
         path = f"M {across(steps[0][0]):.1f} {up(steps[0][1]):.1f}"
         path += "".join(f" H {across(seconds):.1f} V {up(value):.1f}" for seconds, value in steps[1:])
-        return f'<path d="{path} H {across(end):.1f}" fill="none" stroke="{colour}" stroke-width="2"/>'
+        dashes = ' stroke-dasharray="6 4"' if which == 2 else ""
+        return f'<path d="{path} H {across(end):.1f}" fill="none" stroke="{colour}" stroke-width="2"{dashes}/>'
 
     def words(x: float, y: float, text: str, anchor: str = "start", colour: str = "black") -> str:
         return f'<text x="{x:.0f}" y="{y:.0f}" text-anchor="{anchor}" fill="{colour}">{text}</text>'
