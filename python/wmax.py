@@ -1223,7 +1223,7 @@ class _Run:
 
     def keep(self, cost: int, digits: str) -> None:
         self.best.write_text(f"o {cost}\ns SATISFIABLE\n{f'v {digits}'.strip()}\n")
-        self.step(cost, None)
+        self.history.append(Step(0.0, cost, None))
 
     def set_aside(self) -> None:
         self.best.replace(f"{self.best}.earlier")
