@@ -148,9 +148,10 @@ class Unsatisfiable(WmaxError):
     def find_because(self, *, time_limit: float = 60, conflicts: int = 20_000) -> List["Constraint"]:
         """Hard constraints that contradict each other, in the order of their making.
 
-        `wmax check` has said YES to the certificate of a run over their clauses alone. The first
-        are those that the certificate names; then one after another is left out, and stays out
-        if the others still contradict each other. `is_minimal` is true if this was decided for each.
+        `wmax check` has said YES to the certificate of a run over their clauses alone. To find them,
+        `wmax solve` runs over all hard clauses again. Those that its certificate comes down to are
+        kept; then one after another is left out, and stays out if the others still contradict each
+        other. `is_minimal` is true if this was decided for each.
         time_limit  seconds for leaving out; after them come one more run and its check
         conflicts   the effort for each
         CheckFailed, ProgramFailed, FileFailed: as `solve` says.
@@ -528,7 +529,8 @@ class Instance:
 
         time_limit  seconds, after which `wmax solve` is stopped. What it has found by then is given,
                     with `is_optimum` False. The check of an optimum comes on top. Ctrl-C does the same.
-        conflicts   the effort of `wmax solve --conflicts`: the same number, the same answer
+        conflicts   the effort of `wmax solve --conflicts`: the same number, the same answer, if the run
+                    begins with the same solution
         lower       whether to prove also how little a solution can cost, which takes longer where the
                     search does not end; then it may be known how far the solution is from an optimum
         profile     how 'cheaper' is said; else the last one that the program's help names
@@ -537,7 +539,7 @@ class Instance:
         folder      where the files stay: instance.wcnf, instance.result, instance.lrat,
                     instance.best (the last result that was kept meanwhile), instance.bound (the
                     certificate of a lower bound) and instance.lock; it is made if need be. Else they
-                    are removed.
+                    are removed, also where an exception ends this, or, in the main thread, SIGTERM.
         resume      whether to go on from the solution and the lower bound that an earlier call left in
                     the folder, as far as they fit this instance; else the solution is moved to
                     instance.best.earlier at the start, and the bound is removed
@@ -574,12 +576,18 @@ class Instance:
         if run.said.status == "UNKNOWN":
             raise NoSolutionFound("no solution was met " + {"time": "in this time", "interrupt": "before the interrupt"}.get(
                 run.stopped, "by this effort"))
-        return self._solution(run)
+        try:
+            return self._solution(run)
+        except KeyboardInterrupt:
+            # What was found is given all the same.
+            run.stopped = "interrupt"
+            return self._solution(run)
 
     def _solution(self, run: "_Run") -> Solution:
         """What the run has found. CheckFailed: it is no solution of that cost, or a bound is above it."""
         said = run.said
-        bits = self._full(said.digits)
+        # The digits end at the greatest variable that stands in a clause.
+        bits = _bits(said.digits.ljust(len(self._names), "0"))
         given_up = self._given_up(bits, said.cost)
         is_shown = said.status == "OPTIMUM FOUND" and run.is_checked
         bound = said.cost if is_shown else run.bound
@@ -615,12 +623,9 @@ class Instance:
                 found = self.solve(**how)
             optima.is_complete = bool(optima) and found.lower is not None and found.lower > optima[0].cost
         except Unsatisfiable:
-            optima.is_complete = bool(optima)
-            if not optima:
-                raise
+            optima.is_complete = True
         except NoSolutionFound:
-            if not optima:
-                raise
+            pass
         finally:
             del self._clauses[size[0]:], self._groups[size[1]:]
         return optima
@@ -629,9 +634,9 @@ class Instance:
         """Puts the cheapest solution that is known where the run begins with it."""
         kept = run.kept().digits
         starts = [self._last] if warm and self._last else []
-        starts += [self._full(kept)] if kept and resume else []
+        starts += [_bits(kept)] if kept and resume else []
         fitting = [bits for bits in map(self._continued, starts) if bits is not None]
-        if kept and not (resume and self._continued(self._full(kept))):
+        if kept and not (resume and self._continued(_bits(kept))):
             run.set_aside()
         if resume:
             run.drop_wrong_bound()
@@ -639,12 +644,8 @@ class Instance:
             run.best.unlink(missing_ok=True)
             return
         cost, bits = min((self._cost(bits), bits) for bits in fitting)
-        # The digits end at the greatest variable that stands in a clause.
         greatest = max((abs(it) for clause in self._clauses for it in clause.numbers), default=0)
         run.keep(cost, "".join("01"[bit] for bit in bits[:greatest]))
-
-    def _full(self, digits: str) -> Tuple[bool, ...]:
-        return tuple(digit == "1" for digit in digits.ljust(len(self._names), "0"))
 
     def _continued(self, bits: Tuple[bool, ...]) -> Optional[Tuple[bool, ...]]:
         """These bits, with values for newer variables; None where a hard clause does not hold in them.
@@ -788,6 +789,10 @@ def _files_fail() -> Iterator[None]:
 
 def _is_true(number: int, bits: Sequence[bool]) -> bool:
     return bits[abs(number) - 1] == (number > 0)
+
+
+def _bits(digits: str) -> Tuple[bool, ...]:
+    return tuple(digit == "1" for digit in digits)
 
 
 def _clause_line(weight: Optional[int], numbers: Iterable[int]) -> str:
@@ -1128,6 +1133,24 @@ def _ended_by_signals() -> Iterator[None]:
 
 
 @contextlib.contextmanager
+def _signals_wait() -> Iterator[None]:
+    """Signals that come meanwhile are heard at the end, so that no child is started and lost."""
+    came: List[int] = []
+    handlers = {}
+    if threading.current_thread() is threading.main_thread():
+        for number in (signal.SIGINT, signal.SIGTERM, signal.SIGHUP):
+            if callable(signal.getsignal(number)):
+                handlers[number] = signal.signal(number, lambda number, _: came.append(number))
+    try:
+        yield
+    finally:
+        for number, handler in handlers.items():
+            signal.signal(number, handler)
+    for number in came:
+        signal.raise_signal(number)
+
+
+@contextlib.contextmanager
 def _folder(path: Union[str, "os.PathLike[str]", None]) -> Iterator[pathlib.Path]:
     """The folder, or one that is removed at the end. FolderInUse: another run has it."""
     if path is None:
@@ -1240,15 +1263,19 @@ class _Run:
         """
         guard = ["setpriv", "--pdeathsig", "KILL", "--"] if _has_setpriv() else []
         with tempfile.TemporaryFile() as out, tempfile.TemporaryFile() as err:
+            child = None
             try:
-                child = subprocess.Popen([*guard, self._program, *words], stdin=subprocess.DEVNULL, stdout=out, stderr=err)
-            except OSError as error:
-                raise ProgramFailed(f"{self._program} does not run ({error.strerror}); 'make' builds it") from error
-            try:
+                with _signals_wait():
+                    child = subprocess.Popen([*guard, self._program, *words], stdin=subprocess.DEVNULL, stdout=out, stderr=err)
                 yield child, out.fileno(), err.fileno()
+            except OSError as error:
+                if child is None:
+                    raise ProgramFailed(f"{self._program} does not run ({error.strerror}); 'make' builds it") from error
+                raise
             finally:
-                child.kill()
-                child.wait()
+                if child is not None:
+                    child.kill()
+                    child.wait()
 
     def _call(self, *words: str) -> Tuple[int, str, str]:
         """Status, output and messages."""
@@ -1263,24 +1290,23 @@ class _Run:
         words += ["--lower", str(self.bound_proof)] if ask.lower else []
         words += ["--progress"] if "--progress" in self._help else []
         self._start = time.monotonic()
-        with self._child(*words, str(self.instance)) as (child, out, err):
-            try:
+        self.status, self.stopped, self.is_checked = None, None, False
+        said = message = ""
+        try:
+            with self._child(*words, str(self.instance)) as (child, out, err):
                 self._follow(child, out, err, ask)
-            except KeyboardInterrupt:
-                self.stopped = "interrupt"
-            finally:
-                if ask.follow is _show:
-                    print(_CLEAR, end="", file=sys.stderr, flush=True)
-            # From a terminal, Ctrl-C reaches the program first.
-            if child.poll() == -signal.SIGINT:
-                self.stopped = "interrupt"
-            if self.stopped:
-                child.kill()
-                child.wait()
-                self._take_kept()
-                return
-            said, message = _text(out), self.PROGRESS.sub("", _text(err)).strip()
-        self.status = child.returncode
+                self.status = child.returncode
+                said, message = _text(out), self.PROGRESS.sub("", _text(err)).strip()
+        except KeyboardInterrupt:
+            self.stopped = "interrupt"
+        finally:
+            if ask.follow is _show:
+                print(_CLEAR, end="", file=sys.stderr, flush=True)
+        # From a terminal, Ctrl-C may end the program first.
+        if self.stopped or self.status == -signal.SIGINT:
+            self.status, self.stopped = None, self.stopped or "interrupt"
+            self._take_kept()
+            return
         if self.status not in self.STATUSES:
             raise ProgramFailed(f"wmax solve ended with status {self.status}: {message or 'without a message'}")
         self.result.write_text(said, encoding="utf-8")
@@ -1397,37 +1423,42 @@ class _Contradiction:
     def __init__(self, instance: Instance, clauses: Iterable[_Clause], program: str, profile: Optional[int]) -> None:
         self._instance = instance
         self._program, self._profile = program, profile
-        self._groups: Dict[int, List[Tuple[int, ...]]] = {}
-        for clause in clauses:
-            if clause.weight is None:
-                self._groups.setdefault(clause.group, []).append(clause.numbers)
+        self._clauses = tuple(clauses)
+        self._groups: Dict[int, List[Tuple[int, ...]]] = {}  # the clauses by the calls, once they are needed
 
     def find(self, time_limit: float, conflicts: int) -> Tuple[List[Constraint], bool]:
         """A small contradiction, and whether each of its constraints is known to be needed."""
         end = time.monotonic() + time_limit
+        self._groups = {}
+        for clause in self._clauses:
+            if clause.weight is None:
+                self._groups.setdefault(clause.group, []).append(clause.numbers)
         with _files_fail(), _ended_by_signals(), _folder(None) as home:
             run = _Run(self._program, home, self._profile)
             core = self._trimmed(run, list(self._groups), _Request(None, None)) or list(self._groups)
-            needed = set()
-            size = len(core)
-            while size > 1 and not run.stopped:
-                # Many at once first, and one by one at last.
-                size = max(1, size // 4)
-                for part in [core[place:place + size] for place in range(0, len(core), size)]:
-                    rest = [group for group in core if group not in part]
-                    left = end - time.monotonic()
-                    if left <= 0 or run.stopped or len(rest) == len(core):
-                        continue
-                    shorter = self._trimmed(run, rest, _Request(left, conflicts))
-                    core = shorter or core
-                    if size == 1 and run.said.status == "OPTIMUM FOUND":
-                        needed.update(part)
-            run.stopped = None
+            core, is_minimal = self._shortened(run, core, end, conflicts)
             self._try(run, core, _Request(None, None))
             if run.said.status != "UNSATISFIABLE":
                 raise CheckFailed("the constraints that are left are not shown to contradict each other")
             run.check()
-        return [self._constraint(group) for group in core], needed == set(core) or len(core) == 1
+        return [self._constraint(group) for group in core], is_minimal
+
+    def _shortened(self, run: "_Run", core: List[int], end: float, conflicts: int) -> Tuple[List[int], bool]:
+        """Leaves out what can be left out until the time ends: many at once first, and one by one at last."""
+        needed = set()
+        size = len(core)
+        while size > 1:
+            size = max(1, size // 4)
+            for part in [set(core[place:place + size]) for place in range(0, len(core), size)]:
+                rest = [group for group in core if group not in part]
+                left = end - time.monotonic()
+                if left <= 0 or run.stopped == "interrupt":
+                    return core, False
+                if len(rest) < len(core):
+                    core = self._trimmed(run, rest, _Request(left, conflicts)) or core
+                    if size == 1 and run.said.status == "OPTIMUM FOUND":
+                        needed |= part
+        return core, len(core) == 1 or needed == set(core)
 
     def _trimmed(self, run: "_Run", groups: List[int], ask: _Request) -> Optional[List[int]]:
         """Those of these groups to which certificates come down; None where no contradiction was shown."""
