@@ -6,5 +6,6 @@ pub mod Judging
 pub mod Mending
 pub mod Names
 pub mod Sheets
+pub mod Showing
 pub mod Summary
 pub mod Vectors

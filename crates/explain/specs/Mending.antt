@@ -6,7 +6,7 @@ use Rattle.std.specs.Io.KnownBytes.{Appends}
 use lib.Chars.{codes}
 use Rattle.text.specs.Text.{numbered_text}
 use Rattle.text.specs.Writing.{AppendsPart}
-use Rattle.explain.specs.Explanation.{shown_text}
+use Rattle.explain.specs.Showing.{shown_text}
 use Rattle.explain.specs.declared.mending.TheConstants.{MOST_SHOWN}
 
 -- the line of this number; nothing where there is none

@@ -10,4 +10,5 @@ pub mod mending;
 mod names;
 mod putting;
 mod sheet;
+pub mod showing;
 pub mod summary;

@@ -6,8 +6,8 @@ ghost use Rattle.explain.specs.Mending.{BreaksMending, Mends, cut_text, line_of,
 ghost use Rattle.explain.specs.Mending.{shown_line, word_line};
 
 use crate::advice::{Advice, advise};
-use crate::putting::put_shown;
 use crate::sheet::Sheet;
+use crate::showing::put_shown;
 use std::io::Write;
 use text::cutting::{lines, tokens};
 use text::output::WriteFault;
