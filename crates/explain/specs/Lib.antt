@@ -1,4 +1,5 @@
 pub mod ClauseLines
+pub mod Contradicting
 pub mod Explained
 pub mod Explanation
 pub mod Falsified

@@ -3,6 +3,7 @@
 
 mod advice;
 mod clause_lines;
+pub mod contradicting;
 pub mod explaining;
 pub mod falsified;
 pub mod judging;
