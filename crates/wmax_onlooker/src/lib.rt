@@ -9,4 +9,5 @@ pub mod keeper;
 pub mod onlooker;
 pub mod progress;
 pub mod standard_error;
+pub mod standard_output;
 pub mod whole_file;
