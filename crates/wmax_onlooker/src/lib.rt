@@ -2,6 +2,7 @@
 //! best lower bound, and how far the run is.
 #![tactic(auto)]
 
+pub mod beginning;
 pub mod bounding;
 pub mod file_id;
 pub mod files;
