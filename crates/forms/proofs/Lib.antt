@@ -4,3 +4,4 @@ mod FactSizes
 mod Staging
 mod MassLaws
 mod Knowing
+mod NextOutput

@@ -65,16 +65,21 @@ pub(crate) fn more_fault(numbered: &[Numbered], number: u64, made: usize) -> Opt
     ensures { (s : Forms) (present : ℕ) → s.numbered ≡ numbered_in present numbered.now
         → s.made ≡ made → result ≡ fault_of (more_line number s) }
 {
-    let Some(Numbered::Count(count)) = find(numbered, number) else {
+    let Some(item) = find(numbered, number) else {
         return Some(LineFault::Name);
     };
-    if count.totalizer.outputs().len() >= count.totalizer.size() {
-        return Some(LineFault::Name);
+    match item {
+        Numbered::Group(_) => Some(LineFault::Name),
+        Numbered::Count(count) => {
+            if count.totalizer.outputs().len() >= count.totalizer.size() {
+                Some(LineFault::Name)
+            } else if count.totalizer.count_stage_clauses() > MOST_COUNT_CLAUSES - made {
+                Some(LineFault::Limit)
+            } else {
+                None
+            }
+        }
     }
-    if count.totalizer.count_stage_clauses() > MOST_COUNT_CLAUSES - made {
-        return Some(LineFault::Limit);
-    }
-    None
 }
 
 /// How many times the form with a stamp has the fact of a count; 0 of a group.
