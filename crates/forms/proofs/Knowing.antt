@@ -60,6 +60,7 @@ apart l (k ∷ c) p q =
 
 all_apart : (c : List Literal) → has_repeat c ≡ false → is_tautology c ≡ false
     → IsDistinct eqb (map (λ k. k.variable) c)
+unfolding IsDistinct
 all_apart [] p q = tt
 all_apart (l ∷ c) p q =
     let pp = or_parts (contains_literal l c) (has_repeat c) p in
@@ -81,3 +82,17 @@ pub known_few : (n : ℕ) (c : List Literal) → greatest_variable c ≤ n → h
 known_few n c h p q =
     subst (λ k. k ≤ n + 1) (length-map c (λ k. k.variable))
     (length-le_from_distinct_below (map (λ k. k.variable) c) (n + 1) (all_apart c p q) (small n c h))
+
+-- variables that are below the width have places
+pub below_width : (width : ℕ) (c : List Literal) → greatest_variable c < width
+    → All (λ l. l.variable < width) c
+below_width width c h = All-from_recursion (λ l. l.variable < width) c (by c h)
+  where
+    by : (d : List Literal) → greatest_variable d < width
+        → AllByRecursion (λ l. l.variable < width) d
+    by [] g = tt
+    by (l ∷ d) g = (omega arith, by d (omega arith))
+
+pub known_within : (s : Forms) (width : ℕ) (c : List Literal) → s.variables < width
+    → are_known s c ≡ true → All (λ l. l.variable < width) c
+known_within s width c lt h = below_width width c (omega (arith, (known s c h).below))

@@ -5,3 +5,5 @@ mod Staging
 mod MassLaws
 mod Knowing
 mod NextOutput
+mod Withins
+mod Widths

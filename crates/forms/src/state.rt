@@ -8,7 +8,7 @@ ghost use Rattle.forms.specs.Forms.{are_known, at_number, begun, bound_line, cla
 ghost use Rattle.forms.specs.Forms.{fact_size, less_clause, less_fact, less_numbered, numbered_size};
 ghost use Rattle.forms.specs.Answers.{IsMade, IsTaken, IsFact};
 
-use crate::citing::{minus, plus, subtract_item};
+use crate::citing::{subtract_clause, subtract_item};
 use crate::faults::{LineFault, MOST_COUNT_CLAUSES, MOST_TERMS};
 use crate::groups::are_excluded;
 use crate::growing::{add_stages, grow_item, more_fault, multiplier_of, widen};
@@ -254,8 +254,7 @@ impl Forms {
         ensures { OnOk result (self.new ≡ less_clause weight clause.now self.old) }
     {
         self.bound.widen(greatest_variable(clause) as usize + 1)?;
-        self.bound.add_literals(clause, minus(weight));
-        self.bound.add_constant(plus(weight));
+        subtract_clause(&mut self.bound, clause, weight);
         self.terms += clause_size(clause);
         Ok(())
     }
