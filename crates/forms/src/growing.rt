@@ -1,14 +1,15 @@
 // The stages of counts, and room for their variables.
-ghost use Rattle.std.specs.Prelude.{◌≡◌, ℕ, ◌+◌, ◌-◌, ◌*◌, ◌<◌, ◌≤◌, ◌^◌, ◌++◌, [], length};
-ghost use Rattle.std.specs.Prelude.{List, IfOk, OnOk};
+ghost use Rattle.std.specs.Prelude.{◌≡◌, ℕ, ◌+◌, ◌-◌, ◌*◌, ◌<◌, ◌≤◌, ◌^◌, ◌++◌, ◌∷◌, [], length};
+ghost use Rattle.std.specs.Prelude.{List, IfOk, OnOk, pos};
 ghost use Rattle.cnf.specs.declared.limits.TheConstants.{VARIABLE_LIMIT};
 ghost use Rattle.totalizer.specs.Stages.{size_of, stages};
 ghost use Rattle.totalizer.specs.Grown.{HasStages};
-ghost use Rattle.cnf.specs.Literal.{Literal};
+ghost use Rattle.cnf.specs.Literal.{Literal, positive};
 ghost use Rattle.linear.specs.Costs.{widened, width_of};
 ghost use Rattle.totalizer.specs.Stages.{Tree};
 ghost use Rattle.forms.specs.declared.faults.TheConstants.{MOST_COUNT_CLAUSES};
 ghost use Rattle.forms.specs.Forms.{Count as CountOf, Forms, more_line, multiplier_of, next_stage};
+ghost use Rattle.forms.specs.Forms.{plus};
 ghost use Rattle.forms.specs.Answers.{IsGrown, IsMore, fault_of};
 ghost use Rattle.forms.specs.Stamped.{IsStamped, numbered_at, numbered_in};
 ghost use Rattle.forms.specs.Within.{CanGrow, IsWithin};
@@ -18,6 +19,7 @@ use crate::faults::{LineFault, MOST_COUNT_CLAUSES};
 use crate::numbered::{Numbered, find};
 use cnf::clause_list::ClauseList;
 use cnf::marks::Marks;
+use cnf::types::Lit;
 use linear::bounds::CostBound;
 use std::alloc::AllocError;
 use totalizer::totalizer::Totalizer;
@@ -133,6 +135,19 @@ pub(crate) fn grow_item(
         }
         Numbered::Group(_) => Ok(fresh),
     }
+}
+
+/// Adds the latest output of a count, which is a variable, to a form, so many times.
+pub(crate) fn add_output(bound: &mut CostBound, variable: u32, multiplier: u128)
+    requires from_one { 0 < variable }
+    requires small { variable < VARIABLE_LIMIT }
+    requires width { variable < width_of bound.old.form }
+    requires few { multiplier ≤ 2 ^ 94 }
+    requires room { bound.old.mass + 2 * multiplier ≤ 2 ^ 120 }
+    ensures form { bound.new.form ≡ plus (pos multiplier) (positive variable ∷ []) bound.old.form }
+    ensures mass { bound.new.mass ≤ bound.old.mass + 2 * multiplier }
+{
+    bound.add_literals(&[Lit::new(variable, false)], multiplier as i128);
 }
 
 /// Room for the variables below a number.
