@@ -1,25 +1,32 @@
 -- Counts with one more output.
 use Rattle.std.proofs.Common.{◌≡◌, ℕ, ◌+◌, ◌-◌, ◌<◌, ◌≤◌, true, false, List, [], ◌∷◌, ◌++◌, length}
 use Rattle.std.proofs.Common.{refl, sym, ◌∙◌, ap, subst, arith, rules, Some, None, Ok, nat_le, pos}
-use Rattle.std.proofs.Common.{inl, inr, slice_set}
-use Rattle.std.specs.Prelude.{Option}
+use Rattle.std.proofs.Common.{inl, inr, slice_set, set, get_or, zero, suc}
+use Rattle.std.specs.Prelude.{Option, Result, Err}
 use Rattle.std.proofs.lemmas.Bool.{cases_Bool, leb-true, leb-false}
+use Rattle.std.proofs.lemmas.List.{length-map, map-set}
 use Rattle.std.proofs.lemmas.List.Elements.{All-weaker}
+use Rattle.std.proofs.lemmas.Option.{slice_get_within}
 use Rattle.cnf.specs.Literal.{Literal, positive}
-use Rattle.totalizer.specs.Stages.{Tree, Leaf, Node, size_of, outputs_of, stage}
+use Rattle.totalizer.specs.Stages.{Tree, Leaf, Node, Staged, size_of, outputs_of, stage}
 use Rattle.totalizer.specs.Grown.{HasStages}
 use Rattle.totalizer.proofs.Laws.{outputs_more, outputs_next, stage_below, stage_has, stage_takes}
-use Rattle.totalizer.proofs.Laws.{tree_below_more}
-use Rattle.linear.specs.Costs.{widened}
+use Rattle.totalizer.proofs.Laws.{stage_worth, tree_below_more}
+use Rattle.linear.specs.Costs.{CostForm, widened}
 use Rattle.forms.specs.declared.numbered.Numbered.{Numbered as Stamped}
 use Rattle.forms.specs.declared.numbered.Numbered.TheVariants.{Count as StampedCount}
 use Rattle.forms.specs.declared.numbered.Numbered.TheVariants.{Group as StampedGroup}
+use Rattle.forms.specs.declared.faults.LineFault.{LineFault}
 use Rattle.forms.specs.declared.faults.LineFault.TheVariants.{Name, Limit}
 use Rattle.forms.specs.declared.faults.TheConstants.{MOST_COUNT_CLAUSES}
-use Rattle.forms.specs.Answers.{fault_of}
-use Rattle.forms.specs.Forms.{Forms, Numbered, Count, Group, at_number, last_of, more_line}
-use Rattle.forms.specs.Forms.{next_stage, plus}
-use Rattle.forms.specs.Within.{IsCount, IsWithin}
+use Rattle.forms.specs.Answers.{IsMore, fault_of}
+use Rattle.forms.specs.Forms.{Forms, Made, Numbered, Count, Group, at_number, last_of, more_line}
+use Rattle.forms.specs.Forms.{multiplier_of, next_stage, plus}
+use Rattle.forms.specs.declared.state.Forms.TheInside.{Inside}
+use Rattle.forms.specs.Kept.{IsKept, forms_in}
+use Rattle.forms.specs.Stamped.{IsStamped, numbered_at, numbered_in}
+use Rattle.forms.specs.Within.{CanGrow, IsCount, IsWithin}
+use Rattle.forms.proofs.Stamps.{found}
 use Rattle.forms.proofs.Staging.{some_leaf}
 
 pub count_grows : (v terms : ℕ) (inputs : List Literal) (tree : Tree) (multiplier : ℕ) → 0 < v
@@ -41,22 +48,6 @@ count_grows v terms inputs tree multiplier some more h =
       small = omega (arith, takes.same_size, h.small);
       often = h.often;
     }
-
--- with more variables
-pub within_more : (v w terms : ℕ) (n : Stamped) → v ≤ w → IsWithin v terms n
-    → IsWithin w terms n
-within_more v w terms (StampedGroup lits) le h =
-    (h.0, All-weaker (λ l. l.variable ≤ v) (λ l. l.variable ≤ w) (λ l p. omega (arith, p))
-    lits.items h.1)
-within_more v w terms (StampedCount c) le h = record {
-  some = h.some;
-  known = All-weaker (λ l. l.variable ≤ v) (λ l. l.variable ≤ w) (λ l p. omega (arith, p))
-      c.inputs.items h.known;
-  below = tree_below_more (v + 1) (w + 1) c.totalizer (omega arith) h.below;
-  stages = h.stages;
-  small = h.small;
-  often = h.often;
-}
 
 -- why there is no further output
 pub no_item : (number : ℕ) (s : Forms) → at_number s.numbered number ≡ None
@@ -165,6 +156,13 @@ open_count number s h = by (at_number s.numbered number) refl
               ]
         ]
 
+pub refused : (line : Result Made LineFault) (fault : LineFault) → Some fault ≡ fault_of line
+    → line ≡ Err fault
+refused (Ok m) fault e = absurd (cc)
+refused (Err g) fault e =
+    let same : fault ≡ g = cc in
+    ap (λ x. Err x) (sym same)
+
 -- what the line leaves
 pub more_made : (number : ℕ) (s : Forms) (inputs : List Literal) (tree : Tree) (multiplier : ℕ)
     → IsOpen number s inputs tree multiplier
@@ -187,3 +185,146 @@ more_made number s inputs tree multiplier h =
     let e : nat_le (size_of tree) (length (outputs_of tree)) ≡ false = search rules in
     let f : nat_le (s.made + length g.clauses) MOST_COUNT_CLAUSES ≡ true = search rules in
     rw (h.is, e, f, latest_output (s.variables + 1) tree h.more) refl
+
+-- a stage makes a variable, and a clause for each
+pub record IsStep (variables made : ℕ) (g : Staged) : Type 0 where
+  pub rises : variables + 2 ≤ g.fresh
+  pub worth : g.fresh ≤ variables + 1 + length g.clauses
+  pub room : made + length g.clauses ≤ MOST_COUNT_CLAUSES
+
+-- of its clauses and the next new variable
+pub record IsAfter (variables made : ℕ) (clauses : List (List Literal)) (next : ℕ) : Type 0 where
+  pub rises : variables + 2 ≤ next
+  pub worth : next ≤ variables + 1 + length clauses
+  pub room : made + length clauses ≤ MOST_COUNT_CLAUSES
+
+-- what is known of the count with a number that has a further output
+module _ (number : ℕ) (f : Inside) (kept : IsKept f)
+    (none : None ≡ fault_of (more_line number (forms_in f))) where
+  pub chosen_count : OpenCount number (forms_in f)
+  chosen_count = open_count number (forms_in f) none
+
+  place : (k : ℕ) → at_number (numbered_in f.present f.numbered.items) k
+      ≡ Some (Count chosen_count.inputs chosen_count.tree chosen_count.multiplier)
+      → (0 < k) × (k - 1 < length f.numbered.items)
+  place zero e = absurd (cc)
+  place (suc j) e =
+      let lt = slice_get_within (numbered_in f.present f.numbered.items) j _ e in
+      (omega arith, omega (arith, length-map f.numbered.items (numbered_at f.present), lt))
+
+  pub chosen_place : (0 < number) × (number - 1 < length f.numbered.items)
+  chosen_place = place number chosen_count.open_one.is
+
+  module _ (n : Stamped) (is : n ≡ get_or f.numbered.items (number - 1) n) where
+    pub chosen_item : numbered_at f.present n
+        ≡ Count chosen_count.inputs chosen_count.tree chosen_count.multiplier
+    chosen_item =
+        let at = found f.numbered.items number n chosen_place.0 (omega (arith, chosen_place)) is f.present in
+        let e : Some (numbered_at f.present n) ≡ Some (Count chosen_count.inputs chosen_count.tree chosen_count.multiplier) =
+        sym at ∙ chosen_count.open_one.is in
+        cc
+
+    pub chosen_within : IsWithin f.variables f.terms n
+    chosen_within =
+        subst (IsWithin f.variables f.terms) (sym is)
+        (kept.within (number - 1) n chosen_place.1)
+
+    pub chosen_stamped : IsStamped f.present n
+    chosen_stamped =
+        subst (IsStamped f.present) (sym is) (kept.stamped (number - 1) n chosen_place.1)
+
+    pub chosen_grows : CanGrow n
+    chosen_grows = grows n chosen_item chosen_within
+      where
+        grows : (m : Stamped)
+            → numbered_at f.present m ≡ Count chosen_count.inputs chosen_count.tree chosen_count.multiplier
+            → IsWithin f.variables f.terms m → CanGrow m
+        grows (StampedGroup lits) e h = absurd (cc)
+        grows (StampedCount c) e h =
+            let t : c.totalizer ≡ chosen_count.tree = cc in
+            (subst (λ u. length (outputs_of u) < size_of u) (sym t) chosen_count.open_one.more, h.small)
+
+    pub chosen_step : IsStep f.variables f.made (next_stage (f.variables + 1) chosen_count.tree)
+    chosen_step = step n chosen_item chosen_within
+      where
+        step : (m : Stamped)
+            → numbered_at f.present m ≡ Count chosen_count.inputs chosen_count.tree chosen_count.multiplier
+            → IsWithin f.variables f.terms m
+            → IsStep f.variables f.made (next_stage (f.variables + 1) chosen_count.tree)
+        step (StampedGroup lits) e h = absurd (cc)
+        step (StampedCount c) e h =
+            let t : c.totalizer ≡ chosen_count.tree = cc in
+            let has : HasStages (length (outputs_of chosen_count.tree)) chosen_count.tree =
+            subst (λ u. HasStages (length (outputs_of u)) u) t h.stages in
+            record {
+              rises = omega (arith, stage_rises (f.variables + 1) chosen_count.tree chosen_count.open_one.more);
+              worth = stage_worth (length (outputs_of chosen_count.tree)) (f.variables + 1) chosen_count.tree has;
+              room = chosen_count.open_one.room;
+            }
+
+    pub chosen_multiplier : (multiplier : ℕ) → multiplier ≡ multiplier_of (numbered_at f.present n)
+        → multiplier ≡ chosen_count.multiplier
+    chosen_multiplier multiplier e = e ∙ ap multiplier_of chosen_item
+
+    -- what the next stage leaves
+    module _ (item : Stamped) (before clauses : List (List Literal)) (next : ℕ) (bare : before ≡ [])
+        (grown : (present multiplier : ℕ) (inputs : List Literal) (tree : Tree)
+        → numbered_at present n ≡ Count inputs tree multiplier
+        → IsMore (next_stage (f.variables + 1) tree) inputs multiplier before
+        (numbered_at present item) clauses next) where
+      more : IsMore (next_stage (f.variables + 1) chosen_count.tree) chosen_count.inputs
+          chosen_count.multiplier before (numbered_at f.present item) clauses next
+      more =
+          grown f.present chosen_count.multiplier chosen_count.inputs chosen_count.tree chosen_item
+
+      same_clauses : clauses ≡ (next_stage (f.variables + 1) chosen_count.tree).clauses
+      same_clauses =
+          more.clauses ∙ ap (λ cs. cs ++ (next_stage (f.variables + 1) chosen_count.tree).clauses) bare
+
+      pub chosen_after : IsAfter f.variables f.made clauses next
+      chosen_after = record {
+        rises = omega (arith, chosen_step.rises, more.fresh);
+        worth = omega (arith, chosen_step.worth, more.fresh, ap length same_clauses);
+        room = omega (arith, chosen_step.room, ap length same_clauses);
+      }
+
+      pub chosen_line : (form : CostForm) (count : ℕ) → count ≡ length clauses
+          → form ≡ plus (pos chosen_count.multiplier) (positive (next - 1) ∷ [])
+          (widened next (f.bound).form)
+          → more_line number (forms_in f) ≡ Ok (record {
+            forms = record {
+              variables = next - 1;
+              form = form;
+              has_form = f.has_form;
+              numbered = numbered_in f.present (set f.numbered.items (number - 1) item);
+              made = f.made + count;
+              terms = f.terms;
+            };
+            clauses = clauses;
+          })
+      chosen_line form count counts e =
+          let g = next_stage (f.variables + 1) chosen_count.tree in
+          let q : g.fresh ≡ next = sym more.fresh in
+          let k : g.clauses ≡ clauses = sym same_clauses in
+          let n : length g.clauses ≡ count = ap length k ∙ sym counts in
+          let ns : slice_set (numbered_in f.present f.numbered.items) (number - 1) (Count chosen_count.inputs g.tree chosen_count.multiplier)
+              ≡ numbered_in f.present (set f.numbered.items (number - 1) item) =
+          ap (slice_set (numbered_in f.present f.numbered.items) (number - 1)) (sym more.item)
+          ∙ sym (map-set (numbered_at f.present) f.numbered.items (number - 1) item) in
+          let m : plus (pos chosen_count.multiplier) (positive (g.fresh - 1) ∷ []) (widened g.fresh (f.bound).form)
+              ≡ form =
+          ap (λ x. plus (pos chosen_count.multiplier) (positive (x - 1) ∷ [])
+          (widened x (f.bound).form)) q ∙ sym e in
+          more_made number (forms_in f) chosen_count.inputs chosen_count.tree
+          chosen_count.multiplier chosen_count.open_one
+          ∙ (λ i. Ok (record {
+            forms = record {
+              variables = q i - 1;
+              form = m i;
+              has_form = f.has_form;
+              numbered = ns i;
+              made = f.made + n i;
+              terms = f.terms;
+            };
+            clauses = k i;
+          }))
