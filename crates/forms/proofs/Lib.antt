@@ -4,6 +4,7 @@ mod FactSizes
 mod Staging
 mod MassLaws
 mod Knowing
+mod NextOutput
 mod Withins
 mod Widths
 mod Weighing

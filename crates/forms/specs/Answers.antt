@@ -1,5 +1,6 @@
 -- What a line comes to.
-use Rattle.std.specs.Prelude.{◌≡◌, ◌+◌, ◌<◌, ◌≤◌, ℕ, List, [], length, Option, Some, None, Result, Ok}
+use Rattle.std.specs.Prelude.{◌≡◌, ◌+◌, ◌<◌, ◌≤◌, ℕ, List, [], ◌++◌, length, Option, Some, None}
+use Rattle.std.specs.Prelude.{Result, Ok}
 use Rattle.std.specs.Prelude.{Err}
 use Rattle.cnf.specs.Literal.{Literal}
 use Rattle.cnf.specs.declared.limits.TheConstants.{NUMBER_LIMIT}
@@ -9,7 +10,8 @@ use Rattle.forms.specs.declared.faults.LineFault.TheVariants.{Name, Limit, Worth
 use Rattle.forms.specs.declared.types.NamedFact.{NamedFact}
 use Rattle.forms.specs.declared.faults.TheConstants.{MOST_TERMS}
 use Rattle.cnf.specs.Refute.{Clauses}
-use Rattle.forms.specs.Forms.{Forms, Made, begun, facts_size, form_line, less_facts}
+use Rattle.forms.specs.Forms.{Forms, Made, Numbered, Count, begun, facts_size, form_line}
+use Rattle.forms.specs.Forms.{less_facts}
 
 -- what it leaves, or why it is refused; then nothing has changed
 abbrev pub IsTaken : Result Forms LineFault → Forms → Forms → Option LineFault → Type 0
@@ -23,6 +25,11 @@ abbrev pub IsMade : Result Made LineFault → Forms → Forms → List (List Lit
 IsMade line old new clauses None = line ≡ Ok (record { forms = new; clauses = clauses })
 IsMade line old new clauses (Some fault) = (line ≡ Err fault) × (new ≡ old) × (clauses ≡ [])
 
+-- why a line is refused, if it is
+abbrev pub fault_of : Result Made LineFault → Option LineFault
+fault_of (Ok m) = None
+fault_of (Err fault) = Some fault
+
 -- the stages are there, with the next new variable, and make no more clauses than there is room
 -- for; or they make more
 pub record HasGrown (g : Staged) (room : ℕ) (t : Tree) (cs : List (List Literal)) (next : ℕ) :
@@ -35,6 +42,14 @@ pub record HasGrown (g : Staged) (room : ℕ) (t : Tree) (cs : List (List Litera
 abbrev pub IsGrown : Staged → ℕ → Tree → List (List Literal) → Option ℕ → Type 0
 IsGrown g room t cs None = room < length g.clauses
 IsGrown g room t cs (Some next) = HasGrown g room t cs next
+
+-- a count has the next stage, whose clauses are behind those that were there
+pub record IsMore (g : Staged) (inputs : List Literal) (multiplier : ℕ)
+    (before : List (List Literal)) (n : Numbered) (after : List (List Literal)) (next : ℕ) :
+    Type 0 where
+  pub item : n ≡ Count inputs g.tree multiplier
+  pub clauses : after ≡ before ++ g.clauses
+  pub fresh : next ≡ g.fresh
 
 -- what a form line may spell
 abbrev pub IsFact : NamedFact → Type 0

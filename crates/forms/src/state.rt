@@ -12,7 +12,7 @@ ghost use Rattle.forms.specs.Answers.{HasFormFault, HasRoom, HasSizeFault, IsFac
 use crate::citing::{subtract_clause, subtract_item};
 use crate::faults::{LineFault, MOST_COUNT_CLAUSES, MOST_TERMS};
 use crate::groups::are_excluded;
-use crate::growing::{add_stages, grow_item, more_fault, multiplier_of, widen};
+use crate::growing::{add_output, add_stages, grow_item, more_fault, multiplier_of, widen};
 use crate::known::{greatest_variable, repeats_variable};
 use crate::numbered::{Count, Numbered, next_stamp, numbered_size};
 use crate::sizes::{clause_size, facts_size};
@@ -379,15 +379,13 @@ impl Forms {
         if let Some(fault) = more_fault(&self.numbered, number, self.made) {
             return Ok(Some(fault));
         }
-        let place = number as usize - 1;
-        let multiplier = multiplier_of(&self.numbered[place], self.present);
-        let item = &mut self.numbered[place];
+        let item = &mut self.numbered[number as usize - 1];
+        let multiplier = multiplier_of(item, self.present);
         match grow_item(item, &mut self.bound, &mut self.marks, self.variables + 1, clauses) {
             Ok(fresh) => {
                 self.variables = fresh - 1;
                 self.made += clauses.len();
-                let output = Lit::new(fresh - 1, false);
-                self.bound.add_literals(&[output], multiplier as i128);
+                add_output(&mut self.bound, fresh - 1, multiplier);
                 Ok(None)
             }
             Err(error) => {
