@@ -7,3 +7,4 @@ mod Knowing
 mod NextOutput
 mod Withins
 mod Widths
+mod NewCount
