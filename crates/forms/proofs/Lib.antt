@@ -8,3 +8,5 @@ mod NextOutput
 mod Withins
 mod Widths
 mod NewCount
+mod Weighing
+mod FormLines

@@ -6,6 +6,8 @@ use Rattle.totalizer.proofs.Laws.{tree_below_more}
 use Rattle.forms.specs.declared.numbered.Numbered.{Numbered as Stamped}
 use Rattle.forms.specs.declared.numbered.Numbered.TheVariants.{Count as StampedCount}
 use Rattle.forms.specs.declared.numbered.Numbered.TheVariants.{Group as StampedGroup}
+use Rattle.forms.specs.Forms.{numbered_size}
+use Rattle.forms.specs.Stamped.{numbered_at}
 use Rattle.forms.specs.Within.{IsWithin}
 
 pub within_one : (variables m n : ℕ) (x : Stamped) → m ≤ n → IsWithin variables m x
@@ -24,6 +26,12 @@ within_one variables m n (StampedCount c) le h =
 pub within_more : (variables m n : ℕ) (xs : List Stamped) → m ≤ n → All (IsWithin variables m) xs
     → All (IsWithin variables n) xs
 within_more variables m n xs le h k d lt = within_one variables m n _ le (h k d lt)
+
+-- each fact has a term
+pub size_some : (variables terms p : ℕ) (x : Stamped) → IsWithin variables terms x
+    → 1 ≤ numbered_size (numbered_at p x)
+size_some variables terms p (StampedGroup lits) h = omega (arith, h.0)
+size_some variables terms p (StampedCount c) h = omega (arith, h.some)
 
 pub wider_one : (v w terms : ℕ) (n : Stamped) → v ≤ w → IsWithin v terms n
     → IsWithin w terms n

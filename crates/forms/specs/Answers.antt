@@ -1,12 +1,17 @@
 -- What a line comes to.
-use Rattle.std.specs.Prelude.{◌≡◌, ◌<◌, ◌≤◌, ℕ, List, [], ◌++◌, length, Option, Some, None, Result, Ok}
+use Rattle.std.specs.Prelude.{◌≡◌, ◌+◌, ◌<◌, ◌≤◌, ℕ, List, [], ◌++◌, length, Option, Some, None}
+use Rattle.std.specs.Prelude.{Result, Ok}
 use Rattle.std.specs.Prelude.{Err}
 use Rattle.cnf.specs.Literal.{Literal}
 use Rattle.cnf.specs.declared.limits.TheConstants.{NUMBER_LIMIT}
 use Rattle.totalizer.specs.Stages.{Staged, Tree}
 use Rattle.forms.specs.declared.faults.LineFault.{LineFault}
+use Rattle.forms.specs.declared.faults.LineFault.TheVariants.{Name, Limit, Worth}
 use Rattle.forms.specs.declared.types.NamedFact.{NamedFact}
-use Rattle.forms.specs.Forms.{Forms, Made, Numbered, Count}
+use Rattle.forms.specs.declared.faults.TheConstants.{MOST_TERMS}
+use Rattle.cnf.specs.Refute.{Clauses}
+use Rattle.forms.specs.Forms.{Forms, Made, Numbered, Count, begun, facts_size, form_line}
+use Rattle.forms.specs.Forms.{less_facts}
 
 -- what it leaves, or why it is refused; then nothing has changed
 abbrev pub IsTaken : Result Forms LineFault → Forms → Forms → Option LineFault → Type 0
@@ -49,3 +54,22 @@ pub record IsMore (g : Staged) (inputs : List Literal) (multiplier : ℕ)
 -- what a form line may spell
 abbrev pub IsFact : NamedFact → Type 0
 IsFact f = f.weight < NUMBER_LIMIT
+
+-- the facts are there, and there is room for their terms
+abbrev pub HasRoom : Clauses → Forms → List NamedFact → Type 0
+HasRoom at s facts =
+    (n : ℕ) × (facts_size at s.numbered facts ≡ Some n) × (s.terms + n ≤ MOST_TERMS)
+
+-- why there is no room for the facts, if there is none
+abbrev pub HasSizeFault : Clauses → Forms → List NamedFact → Option LineFault → Type 0
+HasSizeFault at s facts None = HasRoom at s facts
+HasSizeFault at s facts (Some Name) = facts_size at s.numbered facts ≡ None
+HasSizeFault at s facts (Some Limit) =
+    (n : ℕ) × (facts_size at s.numbered facts ≡ Some n) × (MOST_TERMS < s.terms + n)
+HasSizeFault at s facts (Some Worth) = ⊥
+
+-- why a form line is refused, or what it leaves
+abbrev pub HasFormFault : Clauses → Option ℕ → List NamedFact → Forms → Option LineFault → Type 0
+HasFormFault at scale facts s None =
+    HasRoom at s facts × (form_line at scale facts s ≡ Ok (less_facts at (begun scale s) facts))
+HasFormFault at scale facts s (Some fault) = form_line at scale facts s ≡ Err fault

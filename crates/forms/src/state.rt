@@ -5,8 +5,9 @@ ghost use Rattle.cnf.specs.declared.limits.TheConstants.{NUMBER_LIMIT};
 ghost use Rattle.adder.specs.Parts.{weight_in};
 ghost use Rattle.forms.specs.Forms.{forms_of, heard, count_line, more_line, group_line, form_line};
 ghost use Rattle.forms.specs.Forms.{are_known, at_number, begun, bound_line, clause_size, cut_line};
-ghost use Rattle.forms.specs.Forms.{fact_size, less_clause, less_fact, less_numbered, numbered_size};
-ghost use Rattle.forms.specs.Answers.{IsMade, IsTaken, IsFact};
+ghost use Rattle.forms.specs.Forms.{fact_size, less_clause, less_fact, less_facts, less_numbered};
+ghost use Rattle.forms.specs.Forms.{numbered_size};
+ghost use Rattle.forms.specs.Answers.{HasFormFault, HasRoom, HasSizeFault, IsFact, IsMade, IsTaken};
 
 use crate::citing::{subtract_clause, subtract_item};
 use crate::faults::{LineFault, MOST_COUNT_CLAUSES, MOST_TERMS};
@@ -204,22 +205,66 @@ impl Forms {
         ensures { IfOk result (λ fault. IsTaken
             (form_line (T.at table.now) scale facts.now self.old) self.old self.new fault) }
     {
-        if scale.is_none() && !self.has_form {
-            return Ok(Some(LineFault::Name));
+        if let Some(fault) = self.form_fault(table, scale, facts) {
+            return Ok(Some(fault));
         }
-        let Some(size) = facts_size(&self.numbered, table, facts) else {
-            return Ok(Some(LineFault::Name));
-        };
-        if size > (MOST_TERMS - self.terms) as u128 {
-            return Ok(Some(LineFault::Limit));
+        self.begin_form(scale);
+        self.subtract_all(table, facts)?;
+        Ok(None)
+    }
+
+    /// Why a form line is refused, if it is.
+    fn form_fault<T: ClauseTable>(
+        &self,
+        table: &T,
+        scale: Option<u64>,
+        facts: &[NamedFact],
+    ) -> Option<LineFault>
+        ensures { HasFormFault (T.at table.now) scale facts.now self.now result }
+    {
+        match scale {
+            None if !self.has_form => Some(LineFault::Name),
+            None => self.size_fault(table, facts),
+            Some(_) => self.size_fault(table, facts),
         }
-        if let Some(scale) = scale {
-            self.begin(scale);
+    }
+
+    /// Why there is no room for the facts, if there is none.
+    fn size_fault<T: ClauseTable>(&self, table: &T, facts: &[NamedFact]) -> Option<LineFault>
+        ensures { HasSizeFault (T.at table.now) self.now facts.now result }
+    {
+        match facts_size(&self.numbered, table, facts) {
+            None => Some(LineFault::Name),
+            Some(size) if size > (MOST_TERMS - self.terms) as u128 => Some(LineFault::Limit),
+            Some(_) => None,
         }
+    }
+
+    /// Begins a form, if there is a scale: so many times the cost.
+    fn begin_form(&mut self, scale: Option<u64>)
+        requires { IfSome scale (λ d. d < NUMBER_LIMIT) }
+        ensures { self.new ≡ begun scale self.old }
+    {
+        match scale {
+            Some(scale) => self.begin(scale),
+            None => {}
+        }
+    }
+
+    /// Takes facts, which are there, off the present form.
+    fn subtract_all<T: ClauseTable>(
+        &mut self,
+        table: &T,
+        facts: &[NamedFact],
+    ) -> Result<(), AllocError>
+        requires facts { All IsFact facts.now }
+        requires room { HasRoom (T.at table.now) self.old facts.now }
+        ensures { OnOk result (self.new ≡ less_facts (T.at table.now) self.old facts.now) }
+    {
         for fact in facts {
             self.subtract(table, fact)?;
         }
-        Ok(None)
+        Ok(())
     }
 
     /// Begins a form: so many times the cost.
