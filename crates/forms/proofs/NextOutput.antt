@@ -308,11 +308,11 @@ module _ (number : ℕ) (f : Inside) (kept : IsKept f)
           let k : g.clauses ≡ clauses = sym same_clauses in
           let n : length g.clauses ≡ count = ap length k ∙ sym counts in
           let ns : slice_set (numbered_in f.present f.numbered.items) (number - 1) (Count chosen_count.inputs g.tree chosen_count.multiplier)
-              ≡ numbered_in f.present (set f.numbered.items (number - 1) item) =
+          ≡ numbered_in f.present (set f.numbered.items (number - 1) item) =
           ap (slice_set (numbered_in f.present f.numbered.items) (number - 1)) (sym more.item)
           ∙ sym (map-set (numbered_at f.present) f.numbered.items (number - 1) item) in
           let m : plus (pos chosen_count.multiplier) (positive (g.fresh - 1) ∷ []) (widened g.fresh (f.bound).form)
-              ≡ form =
+          ≡ form =
           ap (λ x. plus (pos chosen_count.multiplier) (positive (x - 1) ∷ [])
           (widened x (f.bound).form)) q ∙ sym e in
           more_made number (forms_in f) chosen_count.inputs chosen_count.tree

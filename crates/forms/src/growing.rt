@@ -145,7 +145,7 @@ pub(crate) fn grow_item(
     ensures grown { (present multiplier : ℕ) (inputs : List Literal) (tree : Tree)
         → numbered_at present item.old ≡ CountOf inputs tree multiplier
         → IfOk result (λ next. IsMore (next_stage fresh tree) inputs multiplier clauses.old
-            (numbered_at present item.new) clauses.new next) }
+        (numbered_at present item.new) clauses.new next) }
     ensures within { IfOk result (λ next. (terms : ℕ) → IsWithin (fresh - 1) terms item.old
         → IsWithin (next - 1) terms item.new) }
     ensures stamped { OnOk result ((present : ℕ) → IsStamped present item.old
@@ -185,11 +185,7 @@ pub(crate) fn add_output(bound: &mut CostBound, variable: u32, multiplier: u128)
 /// # Errors
 ///
 /// `AllocError` where memory was refused.
-pub(crate) fn widen(
-    bound: &mut CostBound,
-    marks: &mut Marks,
-    fresh: u32,
-) -> Result<(), AllocError>
+pub(crate) fn widen(bound: &mut CostBound, marks: &mut Marks, fresh: u32) -> Result<(), AllocError>
     requires { 0 < fresh }
     ensures widened { OnOk result (bound.new
         ≡ record bound.old { form = widened fresh bound.old.form }) }

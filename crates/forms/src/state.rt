@@ -393,7 +393,13 @@ impl Forms {
         }
         let item = &mut self.numbered[number as usize - 1];
         let multiplier = multiplier_of(item, self.present);
-        match grow_item(item, &mut self.bound, &mut self.marks, self.variables + 1, clauses) {
+        match grow_item(
+            item,
+            &mut self.bound,
+            &mut self.marks,
+            self.variables + 1,
+            clauses,
+        ) {
             Ok(fresh) => {
                 self.variables = fresh - 1;
                 self.made += clauses.len();

@@ -36,8 +36,15 @@ returns-then-count_stage_clauses-room c =
     let left = c.args.count - suc d in
     let whole : suc d + left ≡ c.args.count = omega (arith, c.loop-done-test.true) in
     subst (λ n. c.args.room < length (stages n 1 v t).clauses) whole
-    (omega (arith, stages_rise (suc d) left 1 v t, next, ap length inv.clauses,
-    c.len.ensures, c.if-count_stage_clauses-room.true, inv.few))
+    (omega (
+      arith,
+      stages_rise (suc d) left 1 v t,
+      next,
+      ap length inv.clauses,
+      c.len.ensures,
+      c.if-count_stage_clauses-room.true,
+      inv.few,
+    ))
 
 pub add_stage-requires-clause-more : goal.add_stage-requires-clause-more
 add_stage-requires-clause-more c =
@@ -49,8 +56,8 @@ add_stage-requires-clause-more c =
       arith,
       ap (λ x. length (outputs_of x)) inv.tree,
       outputs_stages d v t
-      (omega (arith, c.size.ensures, c.if-size-eq1.false, c.requires.some, c.requires.few))
-      c.requires.bare (omega (arith, c.loop-done-test.true, c.requires.few)),
+          (omega (arith, c.size.ensures, c.if-size-eq1.false, c.requires.some, c.requires.few))
+          c.requires.bare (omega (arith, c.loop-done-test.true, c.requires.few)),
       ap size_of inv.tree,
       stages_size d 1 v t,
       c.loop-done-test.true,
@@ -100,7 +107,13 @@ loop-done-preserved c =
           ∙ ap (λ x. x ++ cs) inv.clauses ∙ sym (ap (λ g. g.clauses) all);
       fresh = made.fresh ∙ sym (ap (λ g. g.fresh) all);
       few =
-          omega (arith, ap length made.clauses, length-append c.loop-done.clauses cs,
-          c.count_stage_clauses.ensures c.loop-done.next, c.if-count_stage_clauses-room.false,
-          c.len.ensures, inv.few);
+          omega (
+            arith,
+            ap length made.clauses,
+            length-append c.loop-done.clauses cs,
+            c.count_stage_clauses.ensures c.loop-done.next,
+            c.if-count_stage_clauses-room.false,
+            c.len.ensures,
+            inv.few,
+          );
     }

@@ -25,8 +25,12 @@ add_stages-requires-clause-few c =
     let f = c.self.inside in
     let known =
     subst (λ s. are_known s c.args.inputs.now ≡ true) (sym c.self.view_is) c.requires.known in
-    omega (arith, c.requires.few, new_size c.args.outputs c.args.inputs.now f c.self.invariant known c.requires.some c.requires.few
-    c.in_ok-totalizer.totalizer c.in_ok-totalizer.ensures)
+    omega (
+      arith,
+      c.requires.few,
+      new_size c.args.outputs c.args.inputs.now f c.self.invariant known c.requires.some c.requires.few
+          c.in_ok-totalizer.totalizer c.in_ok-totalizer.ensures,
+    )
 
 pub add_stages-requires-clause-variables : goal.add_stages-requires-clause-variables
 add_stages-requires-clause-variables c =
@@ -45,9 +49,12 @@ widen-requires c =
     subst (IsGrown (stages c.args.outputs 1 (f.variables + 1) c.in_ok-totalizer.totalizer)
     (MOST_COUNT_CLAUSES - f.made) c.add_stages.new.totalizer c.add_stages.new.clauses)
     c.in-Some.is c.in_ok-next.ensures in
-    omega (arith, new_from c.args.outputs c.args.inputs.now f c.self.invariant known c.requires.some c.requires.few
-    c.in_ok-totalizer.totalizer c.in_ok-totalizer.ensures
-    c.add_stages.new.totalizer c.add_stages.new.clauses c.in-Some.fresh has)
+    omega (
+      arith,
+      new_from c.args.outputs c.args.inputs.now f c.self.invariant known c.requires.some c.requires.few
+          c.in_ok-totalizer.totalizer c.in_ok-totalizer.ensures
+          c.add_stages.new.totalizer c.add_stages.new.clauses c.in-Some.fresh has,
+    )
 
 pub overflow_sub-self : goal.overflow_sub-self
 overflow_sub-self c =
@@ -58,9 +65,12 @@ overflow_sub-self c =
     subst (IsGrown (stages c.args.outputs 1 (f.variables + 1) c.in_ok-totalizer.totalizer)
     (MOST_COUNT_CLAUSES - f.made) c.add_stages.new.totalizer c.add_stages.new.clauses)
     c.in-Some.is c.in_ok-next.ensures in
-    omega (arith, new_from c.args.outputs c.args.inputs.now f c.self.invariant known c.requires.some c.requires.few
-    c.in_ok-totalizer.totalizer c.in_ok-totalizer.ensures
-    c.add_stages.new.totalizer c.add_stages.new.clauses c.in-Some.fresh has)
+    omega (
+      arith,
+      new_from c.args.outputs c.args.inputs.now f c.self.invariant known c.requires.some c.requires.few
+          c.in_ok-totalizer.totalizer c.in_ok-totalizer.ensures
+          c.add_stages.new.totalizer c.add_stages.new.clauses c.in-Some.fresh has,
+    )
 
 pub invariant_of-self-2 : goal.invariant_of-self-2
 invariant_of-self-2 c =
@@ -97,8 +107,12 @@ invariant_of-self-2 c =
       made = omega (arith, few, c.len.ensures);
       terms = c.self.invariant.terms;
       mass =
-          omega (arith, c.in_ok-widen.ensures.mass, c.self.invariant.mass,
-          mass_rises f.terms f.made c.len.result);
+          omega (
+            arith,
+            c.in_ok-widen.ensures.mass,
+            c.self.invariant.mass,
+            mass_rises f.terms f.made c.len.result,
+          );
       within =
           c.in_ok-push_count.ensures.within (v - 1) f.terms
           (within_wider f.variables (v - 1) f.terms f.numbered.items (omega (arith, from))

@@ -152,8 +152,8 @@ add_output-requires-clause-room c =
       arith,
       c.in-Ok.ensures.mass,
       output_mass f.terms f.made (length c.grow_item.new.clauses) (f.bound).mass
-      c.multiplier_of-multiplier.result c.self.invariant.mass
-      (omega (arith, after.rises, after.worth)) often,
+          c.multiplier_of-multiplier.result c.self.invariant.mass
+          (omega (arith, after.rises, after.worth)) often,
       mass_room f.terms (f.made + length c.grow_item.new.clauses) c.self.invariant.terms after.room,
     )
 
