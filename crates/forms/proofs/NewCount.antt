@@ -1,6 +1,6 @@
 -- Counts that are made.
-use Rattle.std.proofs.Common.{◌≡◌, ℕ, ◌+◌, ◌-◌, ◌<◌, ◌≤◌, ◌^◌, true, false, List, [], ◌∷◌, ◌++◌, length}
-use Rattle.std.proofs.Common.{refl, sym, ◌∙◌, ap, subst, arith, rules, Ok, nat_le}
+use Rattle.std.proofs.Common.{◌≡◌, ℕ, ◌+◌, ◌-◌, ◌<◌, ◌≤◌, ◌^◌, true, false, List, [], ◌∷◌, ◌++◌}
+use Rattle.std.proofs.Common.{length, refl, sym, ◌∙◌, ap, subst, arith, rules, Ok, nat_le}
 use Rattle.std.specs.Prelude.{All, Err}
 use Rattle.std.proofs.lemmas.List.Elements.{All-from_recursion}
 use Rattle.cnf.specs.Literal.{Literal}
@@ -49,8 +49,7 @@ module _ (outputs : ℕ) (inputs : List Literal) (f : Inside) (kept : IsKept f)
     new_limit many =
         let g = totalizer_of outputs (f.variables + 1) inputs in
         let more : MOST_COUNT_CLAUSES - f.made < length g.clauses =
-        subst (λ u. MOST_COUNT_CLAUSES - f.made < length (stages outputs 1 (f.variables + 1) u).clauses)
-        is many in
+        omega (arith, many, ap (λ u. length (stages outputs 1 (f.variables + 1) u).clauses) is) in
         let a : nat_le 1 outputs ≡ true = search rules in
         let b : nat_le outputs (length inputs) ≡ true = search rules in
         let e : nat_le (f.made + length g.clauses) MOST_COUNT_CLAUSES ≡ false =

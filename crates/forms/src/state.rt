@@ -393,17 +393,12 @@ impl Forms {
         }
         let item = &mut self.numbered[number as usize - 1];
         let multiplier = multiplier_of(item, self.present);
-        match grow_item(
-            item,
-            &mut self.bound,
-            &mut self.marks,
-            self.variables + 1,
-            clauses,
-        ) {
-            Ok(fresh) => {
-                self.variables = fresh - 1;
+        let fresh = self.variables + 1;
+        match grow_item(item, &mut self.bound, &mut self.marks, fresh, clauses) {
+            Ok(next) => {
+                self.variables = next - 1;
                 self.made += clauses.len();
-                add_output(&mut self.bound, fresh - 1, multiplier);
+                add_output(&mut self.bound, next - 1, multiplier);
                 Ok(None)
             }
             Err(error) => {

@@ -1,6 +1,6 @@
 -- One stage more.
-use Rattle.std.proofs.Common.{◌≡◌, ◌+◌, ◌-◌, ◌<◌, ◌≤◌, suc, length, sym, ◌∙◌, ap, subst, arith, ◌++◌}
-use Rattle.std.proofs.Common.{[], length-append}
+use Rattle.std.proofs.Common.{◌≡◌, ◌+◌, ◌-◌, ◌<◌, ◌≤◌, suc, length, sym, ◌∙◌, ap, subst}
+use Rattle.std.proofs.Common.{arith, ◌++◌, [], length-append}
 use Rattle.totalizer.specs.Stages.{size_of, outputs_of, stage, stages}
 use Rattle.totalizer.proofs.Laws.{stages_from, stages_worth, stages_size}
 use Rattle.forms.proofs.Staging.{leaf_stages, next_length, next_stage, outputs_stages, stages_rise}
@@ -66,7 +66,12 @@ add_stage-requires-clause-more c =
 
 pub add_stage-requires-clause-from_one : goal.add_stage-requires-clause-from_one
 add_stage-requires-clause-from_one c =
-    omega (arith, c.loop-done.invariant.fresh, c.requires.from_one, stages_from c.loop-done.done 1 c.args.fresh c.args.totalizer.now)
+    omega (
+      arith,
+      c.loop-done.invariant.fresh,
+      c.requires.from_one,
+      stages_from c.loop-done.done 1 c.args.fresh c.args.totalizer.now,
+    )
 
 pub add_stage-requires-clause-room : goal.add_stage-requires-clause-room
 add_stage-requires-clause-room c =
