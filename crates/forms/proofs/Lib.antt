@@ -7,5 +7,6 @@ mod Knowing
 mod NextOutput
 mod Withins
 mod Widths
+mod NewCount
 mod Weighing
 mod FormLines

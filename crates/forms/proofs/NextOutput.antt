@@ -72,7 +72,8 @@ module _ (number : ℕ) (s : Forms) (inputs : List Literal) (tree : Tree) (multi
       → Some Limit ≡ fault_of (more_line number s)
   too_many h many =
       let e : nat_le (size_of tree) (length (outputs_of tree)) ≡ false = search rules in
-      let f : nat_le (s.made + length (next_stage (s.variables + 1) tree).clauses) MOST_COUNT_CLAUSES ≡ false = search rules in
+      let n = length (next_stage (s.variables + 1) tree).clauses in
+      let f : nat_le (s.made + n) MOST_COUNT_CLAUSES ≡ false = search rules in
       rw (is, e, f) refl
 
   pub can_grow : length (outputs_of tree) < size_of tree
@@ -80,7 +81,8 @@ module _ (number : ℕ) (s : Forms) (inputs : List Literal) (tree : Tree) (multi
       → None ≡ fault_of (more_line number s)
   can_grow h few =
       let e : nat_le (size_of tree) (length (outputs_of tree)) ≡ false = search rules in
-      let f : nat_le (s.made + length (next_stage (s.variables + 1) tree).clauses) MOST_COUNT_CLAUSES ≡ true = search rules in
+      let n = length (next_stage (s.variables + 1) tree).clauses in
+      let f : nat_le (s.made + n) MOST_COUNT_CLAUSES ≡ true = search rules in
       rw (is, e, f) refl
 
 -- a stage that makes an output takes a variable, the output
@@ -151,7 +153,8 @@ open_count number s h = by (at_number s.numbered number) refl
                 | inr m ↦
                     let gt = leb-false (s.made + length g.clauses) MOST_COUNT_CLAUSES m in
                     let z : None ≡ Some Limit =
-                    h ∙ sym (too_many number s inputs tree multiplier e (omega arith) (omega arith)) in
+                    h
+                    ∙ sym (too_many number s inputs tree multiplier e (omega arith) (omega arith)) in
                     absurd (cc)
               ]
         ]
@@ -219,9 +222,10 @@ module _ (number : ℕ) (f : Inside) (kept : IsKept f)
     pub chosen_item : numbered_at f.present n
         ≡ Count chosen_count.inputs chosen_count.tree chosen_count.multiplier
     chosen_item =
-        let at = found f.numbered.items number n chosen_place.0 (omega (arith, chosen_place)) is f.present in
-        let e : Some (numbered_at f.present n) ≡ Some (Count chosen_count.inputs chosen_count.tree chosen_count.multiplier) =
-        sym at ∙ chosen_count.open_one.is in
+        let o = chosen_count in
+        let e : Some (numbered_at f.present n) ≡ Some (Count o.inputs o.tree o.multiplier) =
+        sym (found f.numbered.items number n chosen_place.0 (omega (arith, chosen_place)) is f.present)
+        ∙ o.open_one.is in
         cc
 
     pub chosen_within : IsWithin f.variables f.terms n
@@ -237,28 +241,32 @@ module _ (number : ℕ) (f : Inside) (kept : IsKept f)
     chosen_grows = grows n chosen_item chosen_within
       where
         grows : (m : Stamped)
-            → numbered_at f.present m ≡ Count chosen_count.inputs chosen_count.tree chosen_count.multiplier
+            → numbered_at f.present m
+            ≡ Count chosen_count.inputs chosen_count.tree chosen_count.multiplier
             → IsWithin f.variables f.terms m → CanGrow m
         grows (StampedGroup lits) e h = absurd (cc)
         grows (StampedCount c) e h =
             let t : c.totalizer ≡ chosen_count.tree = cc in
-            (subst (λ u. length (outputs_of u) < size_of u) (sym t) chosen_count.open_one.more, h.small)
+            let more = chosen_count.open_one.more in
+            (subst (λ u. length (outputs_of u) < size_of u) (sym t) more, h.small)
 
     pub chosen_step : IsStep f.variables f.made (next_stage (f.variables + 1) chosen_count.tree)
     chosen_step = step n chosen_item chosen_within
       where
         step : (m : Stamped)
-            → numbered_at f.present m ≡ Count chosen_count.inputs chosen_count.tree chosen_count.multiplier
+            → numbered_at f.present m
+            ≡ Count chosen_count.inputs chosen_count.tree chosen_count.multiplier
             → IsWithin f.variables f.terms m
             → IsStep f.variables f.made (next_stage (f.variables + 1) chosen_count.tree)
         step (StampedGroup lits) e h = absurd (cc)
         step (StampedCount c) e h =
             let t : c.totalizer ≡ chosen_count.tree = cc in
-            let has : HasStages (length (outputs_of chosen_count.tree)) chosen_count.tree =
+            let tree = chosen_count.tree in
+            let has : HasStages (length (outputs_of tree)) tree =
             subst (λ u. HasStages (length (outputs_of u)) u) t h.stages in
             record {
-              rises = omega (arith, stage_rises (f.variables + 1) chosen_count.tree chosen_count.open_one.more);
-              worth = stage_worth (length (outputs_of chosen_count.tree)) (f.variables + 1) chosen_count.tree has;
+              rises = omega (arith, stage_rises (f.variables + 1) tree chosen_count.open_one.more);
+              worth = stage_worth (length (outputs_of tree)) (f.variables + 1) tree has;
               room = chosen_count.open_one.room;
             }
 
@@ -279,7 +287,8 @@ module _ (number : ℕ) (f : Inside) (kept : IsKept f)
 
       same_clauses : clauses ≡ (next_stage (f.variables + 1) chosen_count.tree).clauses
       same_clauses =
-          more.clauses ∙ ap (λ cs. cs ++ (next_stage (f.variables + 1) chosen_count.tree).clauses) bare
+          more.clauses
+          ∙ ap (λ cs. cs ++ (next_stage (f.variables + 1) chosen_count.tree).clauses) bare
 
       pub chosen_after : IsAfter f.variables f.made clauses next
       chosen_after = record {
@@ -307,14 +316,16 @@ module _ (number : ℕ) (f : Inside) (kept : IsKept f)
           let q : g.fresh ≡ next = sym more.fresh in
           let k : g.clauses ≡ clauses = sym same_clauses in
           let n : length g.clauses ≡ count = ap length k ∙ sym counts in
-          let ns : slice_set (numbered_in f.present f.numbered.items) (number - 1) (Count chosen_count.inputs g.tree chosen_count.multiplier)
-              ≡ numbered_in f.present (set f.numbered.items (number - 1) item) =
-          ap (slice_set (numbered_in f.present f.numbered.items) (number - 1)) (sym more.item)
+          let times = chosen_count.multiplier in
+          let before = numbered_in f.present f.numbered.items in
+          let ns : slice_set before (number - 1) (Count chosen_count.inputs g.tree times)
+          ≡ numbered_in f.present (set f.numbered.items (number - 1) item) =
+          ap (slice_set before (number - 1)) (sym more.item)
           ∙ sym (map-set (numbered_at f.present) f.numbered.items (number - 1) item) in
-          let m : plus (pos chosen_count.multiplier) (positive (g.fresh - 1) ∷ []) (widened g.fresh (f.bound).form)
-              ≡ form =
-          ap (λ x. plus (pos chosen_count.multiplier) (positive (x - 1) ∷ [])
-          (widened x (f.bound).form)) q ∙ sym e in
+          let m : plus (pos times) (positive (g.fresh - 1) ∷ []) (widened g.fresh (f.bound).form)
+          ≡ form =
+          ap (λ x. plus (pos times) (positive (x - 1) ∷ []) (widened x (f.bound).form)) q
+          ∙ sym e in
           more_made number (forms_in f) chosen_count.inputs chosen_count.tree
           chosen_count.multiplier chosen_count.open_one
           ∙ (λ i. Ok (record {

@@ -1,6 +1,6 @@
 -- Stages, one after another.
-use Rattle.std.proofs.Common.{◌≡◌, ℕ, zero, suc, ◌+◌, ◌<◌, ◌≤◌, List, [], ◌++◌, length, refl, sym, ◌∙◌}
-use Rattle.std.proofs.Common.{ap, subst, arith, append_assoc, append-nil, length-append}
+use Rattle.std.proofs.Common.{◌≡◌, ℕ, zero, suc, ◌+◌, ◌<◌, ◌≤◌, List, [], ◌++◌, length, refl}
+use Rattle.std.proofs.Common.{sym, ◌∙◌, ap, subst, arith, append_assoc, append-nil, length-append}
 use Rattle.cnf.specs.Literal.{Literal}
 use Rattle.totalizer.specs.Stages.{Tree, Leaf, Node, Staged, size_of, outputs_of, stage, stages}
 use Rattle.totalizer.specs.Grown.{HasStages}
@@ -26,8 +26,8 @@ stages_more (suc count) h v t =
     ap (staged_behind first.clauses) (stages_more count (h + 1) first.fresh first.tree)
     ∙ (λ i. record {
       tree = (stage (h + 1 + count) g.fresh g.tree).tree;
-      clauses = sym (append_assoc first.clauses g.clauses (stage (h + 1 + count) g.fresh g.tree).clauses)
-          i;
+      clauses = sym (append_assoc first.clauses g.clauses
+          (stage (h + 1 + count) g.fresh g.tree).clauses) i;
       fresh = (stage (h + 1 + count) g.fresh g.tree).fresh;
     })
     ∙ ap (λ k. staged_behind (first.clauses ++ g.clauses) (stage k g.fresh g.tree)) same

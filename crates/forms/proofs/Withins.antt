@@ -35,9 +35,11 @@ size_some variables terms p (StampedCount c) h = omega (arith, h.some)
 
 pub wider_one : (v w terms : ℕ) (n : Stamped) → v ≤ w → IsWithin v terms n
     → IsWithin w terms n
-wider_one v w terms (StampedGroup lits) le h =
-    (h.0, All-weaker (λ l. l.variable ≤ v) (λ l. l.variable ≤ w) (λ l p. omega (arith, p))
-    lits.items h.1)
+wider_one v w terms (StampedGroup lits) le h = (
+  h.0,
+  All-weaker (λ l. l.variable ≤ v) (λ l. l.variable ≤ w) (λ l p. omega (arith, p))
+      lits.items h.1,
+)
 wider_one v w terms (StampedCount c) le h = record {
   some = h.some;
   known = All-weaker (λ l. l.variable ≤ v) (λ l. l.variable ≤ w) (λ l p. omega (arith, p))

@@ -3,8 +3,8 @@
 -- enough. A form is a multiple of the cost, less multiples of facts. So it is at most that multiple
 -- of the cost, and what its least value exceeds is too dear.
 use Rattle.std.specs.Prelude.{◌≡◌, ℕ, zero, suc, ℤ, pos, negsuc, ◌+ℤ◌, ◌-ℤ◌, ◌*ℤ◌, ◌+◌, ◌-◌, ◌*◌}
-use Rattle.std.specs.Prelude.{◌/◌, min, max, Bool, true, false, not, ◌&&◌, ◌||◌, List, [], ◌∷◌, ◌++◌}
-use Rattle.std.specs.Prelude.{length, map, Option, Some, None, Result, Ok, Err, nat_le, ◌==◌}
+use Rattle.std.specs.Prelude.{◌/◌, min, max, Bool, true, false, not, ◌&&◌, ◌||◌, List, [], ◌∷◌}
+use Rattle.std.specs.Prelude.{◌++◌, length, map, Option, Some, None, Result, Ok, Err, nat_le, ◌==◌}
 use Rattle.std.specs.Prelude.{slice_get, slice_set, if◌then◌else◌}
 use Rattle.std.specs.List.{list_all, list_any}
 use Rattle.std.specs.Option.{option_map}
@@ -13,8 +13,8 @@ use Rattle.cnf.specs.Clause.{contains_literal, greatest_variable, has_repeat, is
 use Rattle.cnf.specs.declared.limits.TheConstants.{NUMBER_LIMIT}
 use Rattle.totalizer.specs.Stages.{Tree, Staged, outputs_of, size_of, stage, totalizer_of}
 use Rattle.linear.specs.Linear.{Linear, plus_constant, plus_literals}
-use Rattle.linear.specs.Costs.{CostForm, fixed_by, falsified, form_of, least, least_where, restarted}
-use Rattle.linear.specs.Costs.{widened}
+use Rattle.linear.specs.Costs.{CostForm, fixed_by, falsified, form_of, least, least_where}
+use Rattle.linear.specs.Costs.{restarted, widened}
 use Rattle.cnf.specs.Refute.{Clauses}
 use Rattle.forms.specs.declared.types.NamedFact.{NamedFact}
 use Rattle.forms.specs.declared.faults.LineFault.{LineFault}

@@ -1,6 +1,6 @@
 // The stages of counts, and room for their variables.
 ghost use Rattle.std.specs.Prelude.{◌≡◌, ℕ, ◌+◌, ◌-◌, ◌*◌, ◌<◌, ◌≤◌, ◌^◌, ◌++◌, ◌∷◌, [], length};
-ghost use Rattle.std.specs.Prelude.{List, IfOk, OnOk, pos};
+ghost use Rattle.std.specs.Prelude.{All, List, IfOk, OnErr, OnOk, pos};
 ghost use Rattle.cnf.specs.declared.limits.TheConstants.{VARIABLE_LIMIT};
 ghost use Rattle.totalizer.specs.Stages.{size_of, stages};
 ghost use Rattle.totalizer.specs.Grown.{HasStages};
@@ -11,12 +11,12 @@ ghost use Rattle.forms.specs.declared.faults.TheConstants.{MOST_COUNT_CLAUSES};
 ghost use Rattle.forms.specs.Forms.{Count as CountOf, Forms, more_line, multiplier_of, next_stage};
 ghost use Rattle.forms.specs.Forms.{plus};
 ghost use Rattle.forms.specs.Answers.{IsGrown, IsMore, fault_of};
-ghost use Rattle.forms.specs.Stamped.{IsStamped, numbered_at, numbered_in};
-ghost use Rattle.forms.specs.Within.{CanGrow, IsWithin};
+ghost use Rattle.forms.specs.Stamped.{AreStamped, IsStamped, numbered_at, numbered_in};
+ghost use Rattle.forms.specs.Within.{CanGrow, IsCount, IsWithin};
 
 use crate::citing::multiplier_at;
 use crate::faults::{LineFault, MOST_COUNT_CLAUSES};
-use crate::numbered::{Numbered, find};
+use crate::numbered::{Count, Numbered, find};
 use cnf::clause_list::ClauseList;
 use cnf::marks::Marks;
 use cnf::types::Lit;
@@ -58,6 +58,36 @@ pub(crate) fn add_stages(
         next = totalizer.add_stage(next, clauses)?;
     }
     Ok(Some(next))
+}
+
+/// Puts a count of these literals last, which no form has the fact of.
+///
+/// # Errors
+///
+/// `AllocError` where memory was refused; then no count has come.
+pub(crate) fn push_count(
+    numbered: &mut Vec<Numbered>,
+    inputs: &[Lit],
+    totalizer: Totalizer,
+) -> Result<(), AllocError>
+    ensures count { OnOk result ((present : ℕ) → numbered_in present numbered.new.items
+        ≡ numbered_in present numbered.old.items ++ CountOf inputs.now totalizer 0 ∷ []) }
+    ensures within { OnOk result ((variables terms : ℕ)
+        → All (IsWithin variables terms) numbered.old.items
+        → IsCount variables terms inputs.now totalizer 0
+        → All (IsWithin variables terms) numbered.new.items) }
+    ensures stamped { OnOk result ((present : ℕ) → AreStamped present numbered.old.items
+        → AreStamped present numbered.new.items) }
+    ensures err { OnErr result (numbered.new.items ≡ numbered.old.items) }
+{
+    let inputs = Vec::from_slice(*numbered.allocator(), inputs)?;
+    numbered.push(Numbered::Count(Count {
+        inputs,
+        totalizer,
+        multiplier: 0,
+        stamp: 0,
+    }))?;
+    Ok(())
 }
 
 /// Why the count with a number can have no further output, if it can't: there is no count with the
@@ -115,7 +145,7 @@ pub(crate) fn grow_item(
     ensures grown { (present multiplier : ℕ) (inputs : List Literal) (tree : Tree)
         → numbered_at present item.old ≡ CountOf inputs tree multiplier
         → IfOk result (λ next. IsMore (next_stage fresh tree) inputs multiplier clauses.old
-            (numbered_at present item.new) clauses.new next) }
+        (numbered_at present item.new) clauses.new next) }
     ensures within { IfOk result (λ next. (terms : ℕ) → IsWithin (fresh - 1) terms item.old
         → IsWithin (next - 1) terms item.new) }
     ensures stamped { OnOk result ((present : ℕ) → IsStamped present item.old
@@ -155,11 +185,7 @@ pub(crate) fn add_output(bound: &mut CostBound, variable: u32, multiplier: u128)
 /// # Errors
 ///
 /// `AllocError` where memory was refused.
-pub(crate) fn widen(
-    bound: &mut CostBound,
-    marks: &mut Marks,
-    fresh: u32,
-) -> Result<(), AllocError>
+pub(crate) fn widen(bound: &mut CostBound, marks: &mut Marks, fresh: u32) -> Result<(), AllocError>
     requires { 0 < fresh }
     ensures widened { OnOk result (bound.new
         ≡ record bound.old { form = widened fresh bound.old.form }) }

@@ -1,6 +1,6 @@
 // The state of forms and cuts: a method for each line.
 ghost use Rattle.std.specs.Prelude.{◌≡◌, ℕ, ◌+◌, ◌*◌, ◌<◌, ◌≤◌, ◌^◌, ◌∷◌, [], map, length, sum_by};
-ghost use Rattle.std.specs.Prelude.{All, IfOk, IfSome, OnErr, OnOk, Some};
+ghost use Rattle.std.specs.Prelude.{All, IfOk, IfSome, OnErr, OnOk, Some, true};
 ghost use Rattle.cnf.specs.declared.limits.TheConstants.{NUMBER_LIMIT};
 ghost use Rattle.adder.specs.Parts.{weight_in};
 ghost use Rattle.forms.specs.Forms.{forms_of, heard, count_line, more_line, group_line, form_line};
@@ -12,9 +12,11 @@ ghost use Rattle.forms.specs.Answers.{HasFormFault, HasRoom, HasSizeFault, IsFac
 use crate::citing::{subtract_clause, subtract_item};
 use crate::faults::{LineFault, MOST_COUNT_CLAUSES, MOST_TERMS};
 use crate::groups::are_excluded;
-use crate::growing::{add_output, add_stages, grow_item, more_fault, multiplier_of, widen};
+use crate::growing::{
+    add_output, add_stages, grow_item, more_fault, multiplier_of, push_count, widen,
+};
 use crate::known::{greatest_variable, repeats_variable};
-use crate::numbered::{Count, Numbered, next_stamp, numbered_size};
+use crate::numbered::{Numbered, next_stamp, numbered_size};
 use crate::sizes::{clause_size, facts_size};
 use crate::table::ClauseTable;
 use crate::types::NamedFact;
@@ -338,25 +340,35 @@ impl Forms {
         if outputs == 0 || outputs > inputs.len() as u64 || !self.are_known(inputs) {
             return Ok(Some(LineFault::Name));
         }
-        let alloc = *self.numbered.allocator();
-        let mut totalizer = Totalizer::new(alloc, inputs)?;
+        self.add_count(outputs as usize, inputs, clauses)
+    }
+
+    /// A count of literals that are there, with so many outputs, and its clauses. Answers `Limit`
+    /// where they are too many.
+    fn add_count(
+        &mut self,
+        outputs: usize,
+        inputs: &[Lit],
+        clauses: &mut ClauseList,
+    ) -> Result<Option<LineFault>, AllocError>
+        requires known { are_known self.old inputs.now ≡ true }
+        requires some { 1 ≤ outputs }
+        requires few { outputs ≤ length inputs.now }
+        requires none { clauses.old ≡ [] }
+        ensures { IfOk result (λ fault. IsMade (count_line outputs inputs.now self.old)
+            self.old self.new clauses.new fault) }
+    {
+        let mut totalizer = Totalizer::new(*self.numbered.allocator(), inputs)?;
         let room = MOST_COUNT_CLAUSES - self.made;
-        let fresh = self.variables + 1;
-        let Some(fresh) = add_stages(&mut totalizer, outputs as usize, fresh, room, clauses)? else {
+        let next = add_stages(&mut totalizer, outputs, self.variables + 1, room, clauses)?;
+        let Some(fresh) = next else {
             clauses.clear();
             return Ok(Some(LineFault::Limit));
         };
-        let inputs = Vec::from_slice(alloc, inputs)?;
-        self.numbered.reserve(1)?;
         widen(&mut self.bound, &mut self.marks, fresh)?;
+        push_count(&mut self.numbered, inputs, totalizer)?;
         self.variables = fresh - 1;
         self.made += clauses.len();
-        self.numbered.push(Numbered::Count(Count {
-            inputs,
-            totalizer,
-            multiplier: 0,
-            stamp: 0,
-        }))?;
         Ok(None)
     }
 
@@ -381,11 +393,12 @@ impl Forms {
         }
         let item = &mut self.numbered[number as usize - 1];
         let multiplier = multiplier_of(item, self.present);
-        match grow_item(item, &mut self.bound, &mut self.marks, self.variables + 1, clauses) {
-            Ok(fresh) => {
-                self.variables = fresh - 1;
+        let fresh = self.variables + 1;
+        match grow_item(item, &mut self.bound, &mut self.marks, fresh, clauses) {
+            Ok(next) => {
+                self.variables = next - 1;
                 self.made += clauses.len();
-                add_output(&mut self.bound, fresh - 1, multiplier);
+                add_output(&mut self.bound, next - 1, multiplier);
                 Ok(None)
             }
             Err(error) => {

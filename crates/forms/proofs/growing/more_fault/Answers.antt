@@ -30,8 +30,12 @@ returns-then-count_stage_clauses-made c = λ s present ns made.
     (ap (λ l. at_number l c.args.number) ns ∙ c.in-Some.ensures present
     ∙ ap (λ n. Some (numbered_at present n)) c.in-Count.is)
     (omega (arith, c.size.ensures, ap length c.outputs.ensures, c.if-outputs-size.false))
-    (omega (arith, made, c.count_stage_clauses.ensures (s.variables + 1),
-    c.if-count_stage_clauses-made.true))
+    (omega (
+      arith,
+      made,
+      c.count_stage_clauses.ensures (s.variables + 1),
+      c.if-count_stage_clauses-made.true,
+    ))
 
 pub returns-else-count_stage_clauses-made : goal.returns-else-count_stage_clauses-made
 returns-else-count_stage_clauses-made c = λ s present ns made.
@@ -39,5 +43,10 @@ returns-else-count_stage_clauses-made c = λ s present ns made.
     (ap (λ l. at_number l c.args.number) ns ∙ c.in-Some.ensures present
     ∙ ap (λ n. Some (numbered_at present n)) c.in-Count.is)
     (omega (arith, c.size.ensures, ap length c.outputs.ensures, c.if-outputs-size.false))
-    (omega (arith, made, c.requires, c.count_stage_clauses.ensures (s.variables + 1),
-    c.if-count_stage_clauses-made.false))
+    (omega (
+      arith,
+      made,
+      c.requires,
+      c.count_stage_clauses.ensures (s.variables + 1),
+      c.if-count_stage_clauses-made.false,
+    ))

@@ -1,6 +1,6 @@
 -- One more output.
-use Rattle.std.proofs.Common.{◌≡◌, ◌+◌, ◌-◌, ◌<◌, ◌≤◌, Some, None, length, ap, sym, ◌∙◌, arith, subst}
-use Rattle.std.proofs.Common.{refl, pos, ◌∷◌, []}
+use Rattle.std.proofs.Common.{◌≡◌, ◌+◌, ◌-◌, ◌<◌, ◌≤◌, Some, None, length, ap, sym, ◌∙◌, arith}
+use Rattle.std.proofs.Common.{subst, refl, pos, ◌∷◌, []}
 use Rattle.std.proofs.lemmas.List.Elements.{All-set}
 use Rattle.cnf.specs.Literal.{positive}
 use Rattle.linear.specs.Costs.{CostForm, widened, width_of}
@@ -66,7 +66,7 @@ overflow_sub-self c =
     let is = c.index_mut-item.ensures.value in
     let after =
     chosen_after c.args.number f c.self.invariant none n is c.grow_item.new.item c.clear.new.self
-    c.grow_item.new.clauses c.in-Ok.fresh c.clear.ensures c.in-Ok.ensures.grown in
+    c.grow_item.new.clauses c.in-Ok.next c.clear.ensures c.in-Ok.ensures.grown in
     omega (arith, after.rises)
 
 pub overflow_add-self : goal.overflow_add-self
@@ -79,11 +79,11 @@ overflow_add-self c =
     let is = c.index_mut-item.ensures.value in
     let after =
     chosen_after c.args.number f c.self.invariant none n is c.grow_item.new.item c.clear.new.self
-    c.grow_item.new.clauses c.in-Ok.fresh c.clear.ensures c.in-Ok.ensures.grown in
+    c.grow_item.new.clauses c.in-Ok.next c.clear.ensures c.in-Ok.ensures.grown in
     omega (arith, after.room, c.len.ensures)
 
-pub overflow_sub-fresh : goal.overflow_sub-fresh
-overflow_sub-fresh c =
+pub overflow_sub-next : goal.overflow_sub-next
+overflow_sub-next c =
     let f = c.self.inside in
     let none =
     c.in_default.ensures (forms_in f) f.present
@@ -92,7 +92,7 @@ overflow_sub-fresh c =
     let is = c.index_mut-item.ensures.value in
     let after =
     chosen_after c.args.number f c.self.invariant none n is c.grow_item.new.item c.clear.new.self
-    c.grow_item.new.clauses c.in-Ok.fresh c.clear.ensures c.in-Ok.ensures.grown in
+    c.grow_item.new.clauses c.in-Ok.next c.clear.ensures c.in-Ok.ensures.grown in
     omega (arith, after.rises)
 
 pub add_output-requires-clause-from_one : goal.add_output-requires-clause-from_one
@@ -105,7 +105,7 @@ add_output-requires-clause-from_one c =
     let is = c.index_mut-item.ensures.value in
     let after =
     chosen_after c.args.number f c.self.invariant none n is c.grow_item.new.item c.clear.new.self
-    c.grow_item.new.clauses c.in-Ok.fresh c.clear.ensures c.in-Ok.ensures.grown in
+    c.grow_item.new.clauses c.in-Ok.next c.clear.ensures c.in-Ok.ensures.grown in
     omega (arith, after.rises)
 
 pub add_output-requires-clause-small : goal.add_output-requires-clause-small
@@ -118,7 +118,7 @@ add_output-requires-clause-small c =
     let is = c.index_mut-item.ensures.value in
     let after =
     chosen_after c.args.number f c.self.invariant none n is c.grow_item.new.item c.clear.new.self
-    c.grow_item.new.clauses c.in-Ok.fresh c.clear.ensures c.in-Ok.ensures.grown in
+    c.grow_item.new.clauses c.in-Ok.next c.clear.ensures c.in-Ok.ensures.grown in
     omega (arith, after.worth, after.room, c.self.invariant.variables)
 
 pub add_output-requires-clause-few : goal.add_output-requires-clause-few
@@ -144,7 +144,7 @@ add_output-requires-clause-room c =
     let is = c.index_mut-item.ensures.value in
     let after =
     chosen_after c.args.number f c.self.invariant none n is c.grow_item.new.item c.clear.new.self
-    c.grow_item.new.clauses c.in-Ok.fresh c.clear.ensures c.in-Ok.ensures.grown in
+    c.grow_item.new.clauses c.in-Ok.next c.clear.ensures c.in-Ok.ensures.grown in
     let often =
     c.multiplier_of-multiplier.ensures.small f.variables f.terms
     (chosen_within c.args.number f c.self.invariant none n is) in
@@ -152,8 +152,8 @@ add_output-requires-clause-room c =
       arith,
       c.in-Ok.ensures.mass,
       output_mass f.terms f.made (length c.grow_item.new.clauses) (f.bound).mass
-      c.multiplier_of-multiplier.result c.self.invariant.mass
-      (omega (arith, after.rises, after.worth)) often,
+          c.multiplier_of-multiplier.result c.self.invariant.mass
+          (omega (arith, after.rises, after.worth)) often,
       mass_room f.terms (f.made + length c.grow_item.new.clauses) c.self.invariant.terms after.room,
     )
 
@@ -167,11 +167,11 @@ invariant_of-self c =
     let is = c.index_mut-item.ensures.value in
     let after =
     chosen_after c.args.number f c.self.invariant none n is c.grow_item.new.item c.clear.new.self
-    c.grow_item.new.clauses c.in-Ok.fresh c.clear.ensures c.in-Ok.ensures.grown in
+    c.grow_item.new.clauses c.in-Ok.next c.clear.ensures c.in-Ok.ensures.grown in
     let often =
     c.multiplier_of-multiplier.ensures.small f.variables f.terms
     (chosen_within c.args.number f c.self.invariant none n is) in
-    let v = c.in-Ok.fresh in
+    let v = c.in-Ok.next in
     let wide = ap (λ b. width_of b.form) c.in-Ok.ensures.widened in
     let form = ap width_of c.add_output.ensures.form in
     let mass =
@@ -213,7 +213,7 @@ returns-in-Ok c =
     (ap (numbered_in f.present) (sym c.deref.ensures.value)) refl in
     let n = c.index_mut-item.result.now in
     let is = c.index_mut-item.ensures.value in
-    let v = c.in-Ok.fresh in
+    let v = c.in-Ok.next in
     let wide = ap (λ b. b.form) c.in-Ok.ensures.widened in
     let multiplier =
     chosen_multiplier c.args.number f c.self.invariant none n is
