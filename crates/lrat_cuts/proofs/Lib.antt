@@ -1,0 +1,12 @@
+mod LawResults
+mod LawMeaning
+mod LawForms
+mod LawCounts
+mod LawMore
+mod LawGroups
+mod LawFacts
+mod LawState
+mod LawAdditions
+mod LawCuts
+mod LawItems
+mod LawLines
