@@ -3,7 +3,7 @@ ghost use Rattle.std.specs.Prelude.{◌≡◌, ◌+◌, ◌<◌, List, map, None
 ghost use Rattle.std.specs.Prelude.{All, IfSome, false};
 ghost use Rattle.cnf.specs.Literal.{Literal};
 ghost use Rattle.cnf.specs.declared.limits.TheConstants.{NUMBER_LIMIT, VARIABLE_LIMIT};
-ghost use Rattle.forms.specs.Forms.{count_line, more_line, group_line, form_line};
+ghost use Rattle.forms.specs.Forms.{heard, count_line, more_line, group_line, form_line};
 ghost use Rattle.forms.specs.Answers.{IsFact};
 ghost use Rattle.lrat_live.specs.Listed.{listed_at};
 ghost use Rattle.lrat_read.specs.Form.{Addition, Deletion};
@@ -89,30 +89,46 @@ fn taken_worth(cost: Option<u64>, scale: u64, worth: Option<u64>) -> Option<u64>
     }
 }
 
-/// Each unit clause gives its variable a value, unless it has one.
+/// A clause is live from now on: a unit clause gives its variable a value, unless it has one.
+fn hear(forms: &mut Forms, clause: &[Lit]) -> Result<(), AllocError>
+    ensures { OnOk result (forms.new ≡ heard clause.now forms.old) }
+{
+    match clause {
+        [unit] => forms.hear(*unit),
+        _ => Ok(()),
+    }
+}
+
+/// These clauses are live from now on.
 fn hear_all(forms: &mut Forms, clauses: &ClauseList) -> Result<(), AllocError>
     ensures { OnOk result (forms.new ≡ heard_all clauses.now forms.old) }
 {
     for clause in clauses.iter() {
-        if let [unit] = clause {
-            forms.hear(*unit)?;
-        }
+        hear(forms, clause)?;
     }
     Ok(())
 }
 
-/// The forms with each of these facts as they name it.
-fn name_facts(named: &mut Vec<NamedFact>, facts: &[WeightedFact]) -> Result<(), AllocError>
-    ensures facts { OnOk result (named.new.items ≡ map fact_of facts.now) }
-    ensures small { OnOk result (All IsFact named.new.items) }
+/// The fact, as forms name it.
+fn named(fact: WeightedFact) -> NamedFact
+    ensures named { result ≡ fact_of fact }
+    ensures small { IsFact result }
 {
-    named.clear();
+    NamedFact {
+        weight: fact.weight(),
+        is_numbered: fact.is_numbered(),
+        number: fact.number(),
+    }
+}
+
+/// The facts, as forms name them.
+fn name_facts(names: &mut Vec<NamedFact>, facts: &[WeightedFact]) -> Result<(), AllocError>
+    ensures facts { OnOk result (names.new.items ≡ map fact_of facts.now) }
+    ensures small { OnOk result (All IsFact names.new.items) }
+{
+    names.clear();
     for fact in facts {
-        named.push(NamedFact {
-            weight: fact.weight(),
-            is_numbered: fact.is_numbered(),
-            number: fact.number(),
-        })?;
+        names.push(named(*fact))?;
     }
     Ok(())
 }
@@ -122,6 +138,7 @@ impl CutsBase {
     pub(crate) fn new(instance: &Instance) -> Result<Self, AllocError>
         ensures { IfOk result (λ b. b ≡ cuts_start instance.now) }
     {
+        instance.limits();
         let alloc = instance.allocator();
         let formula = weighted_formula(instance)?;
         let weights = weights(instance)?;
@@ -170,9 +187,7 @@ impl CutsBase {
     fn take(&mut self, lits: &[Lit]) -> Result<(), AllocError>
         ensures { OnOk result (self.new ≡ took lits.now self.old) }
     {
-        if let [unit] = lits {
-            self.forms.hear(*unit)?;
-        }
+        hear(&mut self.forms, lits)?;
         self.ended = lits.is_empty();
         if self.ended && self.proved < self.worth {
             self.proved = self.worth;
