@@ -3,4 +3,5 @@
 #![tactic(auto)]
 
 mod base;
+pub mod machine;
 mod table;
