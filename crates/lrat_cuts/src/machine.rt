@@ -4,7 +4,7 @@ ghost use Rattle.std.specs.Prelude.{OnErr};
 ghost use Rattle.text.specs.Text.{tokens_of};
 ghost use Rattle.lrat_read.specs.Reader.{IsReadAs};
 ghost use Rattle.lrat_read.specs.Words.{WordLine, word_line_of};
-ghost use Rattle.lrat_read.specs.WordReader.{IsHeld};
+ghost use Rattle.lrat_read.specs.WordReader.{IsHeld, IsWordRead};
 ghost use Rattle.lrat_cuts.specs.Cuts.{cuts_start, judged_line, judged_word};
 ghost use Rattle.lrat_cuts.specs.Machine.{LeadsTo, Puts, StepsTo};
 
@@ -74,8 +74,8 @@ fn judge_plain(
     }
 }
 
-/// Judges a line that begins with a word, where no line before added the empty clause.
-fn judge_word(
+/// Judges a line that begins with a word, where no line before it added the empty clause.
+fn judge_held(
     base: &mut CutsBase,
     form: WordForm,
     words: &WordReader,
@@ -102,6 +102,26 @@ fn judge_word(
         WordForm::Cut => base.cut(words.lits(), cost, made),
         WordForm::Bound => Ok(base.bound(words.number())),
     }
+}
+
+/// Judges a line that begins with a word. The clauses that it makes are in `made` then.
+fn judge_word(
+    base: &mut CutsBase,
+    form: WordForm,
+    words: &WordReader,
+    cost: Option<u64>,
+    made: &mut ClauseList,
+) -> Result<Option<Cause>, AllocError>
+    requires word { form ≡ WordForm.NoWord → ⊥ }
+    requires none { made.old ≡ [] }
+    ensures judged { IfOk result (λ fault. (ts : List (List ℕ)) → IsWordRead ts form words.now
+        → LeadsTo (judged_line cost base.old ts) base.new fault) }
+    ensures puts { IfOk result (λ fault. fault ≡ None → Puts base.old made.new base.new) }
+{
+    if base.has_ended() {
+        return Ok(Some(Cause::TrailingLine));
+    }
+    judge_held(base, form, words, cost, made)
 }
 
 impl CutsMachine {
@@ -141,22 +161,25 @@ impl CutsMachine {
         ensures err { OnErr result (self.new.lines ≡ self.old.lines) }
     {
         self.made.clear();
-        let fault = match self.words.read(line)? {
+        match self.words.read(line)? {
             WordForm::NoWord => {
                 let form = self.reader.read(line)?;
-                judge_plain(&mut self.base, form, &self.reader.line())?
+                let fault = judge_plain(&mut self.base, form, &self.reader.line())?;
+                self.lines += 1;
+                Ok(fault)
             }
-            _ if self.base.has_ended() => Some(Cause::TrailingLine),
-            form => judge_word(
-                &mut self.base,
-                form,
-                &self.words,
-                self.cost,
-                &mut self.made,
-            )?,
-        };
-        self.lines += 1;
-        Ok(fault)
+            form => {
+                let fault = judge_word(
+                    &mut self.base,
+                    form,
+                    &self.words,
+                    self.cost,
+                    &mut self.made,
+                )?;
+                self.lines += 1;
+                Ok(fault)
+            }
+        }
     }
 
     /// The cost that each cut has to hold for, if there is one.
