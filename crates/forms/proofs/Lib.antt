@@ -1,3 +1,8 @@
 mod Repeating
 mod Stamps
-mod Sizes
+mod FactSizes
+mod Staging
+mod MassLaws
+mod Knowing
+mod Withins
+mod Widths

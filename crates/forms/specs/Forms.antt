@@ -204,19 +204,24 @@ less_clause w c s = record s {
 }
 
 -- less so many times the fact of a count or group
+abbrev pub less_item : ℕ → Numbered → CostForm → CostForm
+less_item w (Group inputs) f = plus_number (pos 0 -ℤ pos w) (plus (pos w) inputs f)
+less_item w (Count inputs tree multiplier) f = plus (pos w) (outputs_of tree) (less w inputs f)
+
+-- the form has its fact so many times more
+abbrev pub cited : ℕ → Numbered → Numbered
+cited w (Group inputs) = Group inputs
+cited w (Count inputs tree multiplier) = Count inputs tree (multiplier + w)
+
 abbrev pub less_numbered : ℕ → ℕ → Forms → Forms
 less_numbered w j s = by (at_number s.numbered j)
   where
     by : Option Numbered → Forms
     by None = s
-    by (Some (Group inputs)) = record s {
-      form = plus_number (pos 0 -ℤ pos w) (plus (pos w) inputs s.form);
-      terms = s.terms + numbered_size (Group inputs);
-    }
-    by (Some (Count inputs tree multiplier)) = record s {
-      form = plus (pos w) (outputs_of tree) (less w inputs s.form);
-      numbered = slice_set s.numbered (j - 1) (Count inputs tree (multiplier + w));
-      terms = s.terms + numbered_size (Count inputs tree multiplier);
+    by (Some n) = record s {
+      form = less_item w n s.form;
+      numbered = slice_set s.numbered (j - 1) (cited w n);
+      terms = s.terms + numbered_size n;
     }
 
 -- less so many times a fact, which is there

@@ -1,15 +1,11 @@
 -- How the state of forms is kept.
-use Rattle.std.specs.Prelude.{◌≡◌, ℕ, ◌+◌, ◌*◌, ◌<◌, ◌≤◌, ◌^◌, List, All, length}
-use Rattle.cnf.specs.Literal.{Literal}
-use Rattle.linear.specs.Costs.{CostForm, width_of}
-use Rattle.totalizer.specs.Stages.{Tree, outputs_of, size_of}
+use Rattle.std.specs.Prelude.{ℕ, ◌+◌, ◌*◌, ◌<◌, ◌≤◌, ◌^◌, All, length}
+use Rattle.linear.specs.Costs.{width_of}
 use Rattle.forms.specs.declared.state.Forms.TheInside.{Inside}
-use Rattle.forms.specs.declared.numbered.Numbered.{Numbered as Stamped}
-use Rattle.forms.specs.declared.numbered.Numbered.TheVariants.{Count as StampedCount}
-use Rattle.forms.specs.declared.numbered.Numbered.TheVariants.{Group as StampedGroup}
 use Rattle.forms.specs.declared.faults.TheConstants.{MOST_COUNT_CLAUSES, MOST_TERMS}
 use Rattle.forms.specs.Forms.{Forms}
 use Rattle.forms.specs.Stamped.{AreStamped, numbered_in}
+use Rattle.forms.specs.Within.{IsWithin}
 
 abbrev pub forms_in : Inside → Forms
 forms_in f = record {
@@ -20,17 +16,6 @@ forms_in f = record {
   made = f.made;
   terms = f.terms;
 }
-
--- literals of variables up to a number
-abbrev pub AreWithin : ℕ → List Literal → Type 0
-AreWithin variables c = All (λ l. l.variable ≤ variables) c
-
--- what is known of a count or group
-abbrev pub IsWithin : ℕ → ℕ → Stamped → Type 0
-IsWithin variables terms (StampedGroup lits) = AreWithin variables lits.items
-IsWithin variables terms (StampedCount c) =
-    AreWithin variables c.inputs.items × AreWithin variables (outputs_of c.totalizer)
-    × (c.multiplier ≤ terms * 2 ^ 62)
 
 -- so much may the form have beside the cost, after so many terms and clauses of counts
 abbrev pub most_mass : ℕ → ℕ → ℕ

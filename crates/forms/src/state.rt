@@ -1,16 +1,20 @@
 // The state of forms and cuts: a method for each line.
 ghost use Rattle.std.specs.Prelude.{◌≡◌, ℕ, ◌+◌, ◌*◌, ◌<◌, ◌≤◌, ◌^◌, ◌∷◌, [], map, length, sum_by};
-ghost use Rattle.std.specs.Prelude.{All, IfOk, OnOk};
+ghost use Rattle.std.specs.Prelude.{All, IfOk, IfSome, OnErr, OnOk, Some};
 ghost use Rattle.cnf.specs.declared.limits.TheConstants.{NUMBER_LIMIT};
 ghost use Rattle.adder.specs.Parts.{weight_in};
 ghost use Rattle.forms.specs.Forms.{forms_of, heard, count_line, more_line, group_line, form_line};
-ghost use Rattle.forms.specs.Forms.{cut_line, bound_line};
+ghost use Rattle.forms.specs.Forms.{are_known, at_number, begun, bound_line, clause_size, cut_line};
+ghost use Rattle.forms.specs.Forms.{fact_size, less_clause, less_fact, less_numbered, numbered_size};
 ghost use Rattle.forms.specs.Answers.{IsMade, IsTaken, IsFact};
 
+use crate::citing::{subtract_clause, subtract_item};
 use crate::faults::{LineFault, MOST_COUNT_CLAUSES, MOST_TERMS};
 use crate::groups::are_excluded;
+use crate::growing::{add_stages, grow_item, more_fault, multiplier_of, widen};
 use crate::known::{greatest_variable, repeats_variable};
-use crate::numbered::{Count, Numbered, find, next_stamp, numbered_size};
+use crate::numbered::{Count, Numbered, next_stamp, numbered_size};
+use crate::sizes::{clause_size, facts_size};
 use crate::table::ClauseTable;
 use crate::types::NamedFact;
 use crate::worth::worth_of;
@@ -53,6 +57,11 @@ impl Model for Forms {
     ghost use Rattle.forms.specs.Kept.{forms_in, IsKept};
 
     ghost Value = { FormsState };
+
+    ghost use Rattle.std.specs.Coded.{codes};
+    ghost use Rattle.totalizer.specs.TreeCode.{tree_code};
+
+    ghost coded = { Prim.hlevel (codes, tree_code) };
 
     ghost view = { forms_in };
 
@@ -199,7 +208,7 @@ impl Forms {
         let Some(size) = facts_size(&self.numbered, table, facts) else {
             return Ok(Some(LineFault::Name));
         };
-        if size > MOST_TERMS - self.terms {
+        if size > (MOST_TERMS - self.terms) as u128 {
             return Ok(Some(LineFault::Limit));
         }
         if let Some(scale) = scale {
@@ -244,10 +253,8 @@ impl Forms {
         requires room { self.old.terms + clause_size clause.now ≤ MOST_TERMS }
         ensures { OnOk result (self.new ≡ less_clause weight clause.now self.old) }
     {
-        let weight = weight as i128;
         self.bound.widen(greatest_variable(clause) as usize + 1)?;
-        self.bound.add_literals(clause, -weight);
-        self.bound.add_constant(weight);
+        subtract_clause(&mut self.bound, clause, weight);
         self.terms += clause_size(clause);
         Ok(())
     }
@@ -262,13 +269,9 @@ impl Forms {
         if number == 0 || number > self.numbered.len() as u64 {
             return;
         }
-        match &mut self.numbered[number as usize - 1] {
-            Numbered::Group(lits) => subtract_group(&mut self.bound, lits, weight),
-            Numbered::Count(count) => {
-                subtract_count(&mut self.bound, count, weight, self.present);
-            }
-        }
-        self.terms += numbered_size(&self.numbered[number as usize - 1]);
+        let item = &mut self.numbered[number as usize - 1];
+        self.terms += numbered_size(item);
+        subtract_item(&mut self.bound, item, weight, self.present);
     }
 
     /// A count of these literals with so many outputs, a totalizer whose clauses, and no others,
@@ -298,13 +301,17 @@ impl Forms {
             clauses.clear();
             return Ok(Some(LineFault::Limit));
         };
+        let inputs = Vec::from_slice(alloc, inputs)?;
+        self.numbered.reserve(1)?;
+        widen(&mut self.bound, &mut self.marks, fresh)?;
+        self.variables = fresh - 1;
+        self.made += clauses.len();
         self.numbered.push(Numbered::Count(Count {
-            inputs: Vec::from_slice(alloc, inputs)?,
+            inputs,
             totalizer,
             multiplier: 0,
             stamp: 0,
         }))?;
-        self.grow(fresh, clauses.len())?;
         Ok(None)
     }
 
@@ -324,32 +331,24 @@ impl Forms {
             self.old self.new clauses.new fault) }
     {
         clauses.clear();
-        if number == 0 || number > self.numbered.len() as u64 {
-            return Ok(Some(LineFault::Name));
+        if let Some(fault) = more_fault(&self.numbered, number, self.made) {
+            return Ok(Some(fault));
         }
-        let Numbered::Count(count) = &mut self.numbered[number as usize - 1] else {
-            return Ok(Some(LineFault::Name));
-        };
-        if count.totalizer.outputs().len() >= count.totalizer.size() {
-            return Ok(Some(LineFault::Name));
+        let place = number as usize - 1;
+        let multiplier = multiplier_of(&self.numbered[place], self.present);
+        let item = &mut self.numbered[place];
+        match grow_item(item, &mut self.bound, &mut self.marks, self.variables + 1, clauses) {
+            Ok(fresh) => {
+                self.variables = fresh - 1;
+                self.made += clauses.len();
+                let output = Lit::new(fresh - 1, false);
+                self.bound.add_literals(&[output], multiplier as i128);
+                Ok(None)
+            }
+            Err(error) => {
+                self.numbered.clear();
+                Err(error)
+            }
         }
-        if count.totalizer.count_stage_clauses() > MOST_COUNT_CLAUSES - self.made {
-            return Ok(Some(LineFault::Limit));
-        }
-        let fresh = count.totalizer.add_stage(self.variables + 1, clauses)?;
-        let multiplier = count.multiplier_at(self.present);
-        self.grow(fresh, clauses.len())?;
-        self.bound.add_literals(&[Lit::new(fresh - 1, false)], multiplier);
-        Ok(None)
-    }
-
-    /// There are the variables below a number now, and so many clauses of counts more.
-    fn grow(&mut self, fresh: u32, clauses: usize) -> Result<(), AllocError>
-    {
-        self.bound.widen(fresh as usize)?;
-        self.marks.grow(fresh - 1)?;
-        self.variables = fresh - 1;
-        self.made += clauses;
-        Ok(())
     }
 }

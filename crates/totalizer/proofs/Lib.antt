@@ -5,4 +5,8 @@ mod Counting
 mod Growing
 mod Apart
 mod Variables
+mod Unary
+mod Meaning
+mod Extending
+mod Outputs
 pub mod Laws

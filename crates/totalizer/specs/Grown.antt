@@ -39,10 +39,14 @@ pub record IsStageClause (n : ℕ) (c : List Literal) : Type 0 where
   pub open_one : is_tautology c ≡ false
   pub below : AreBelow n c
 
+-- the outputs are the number n in unary, as far as they go: output i, from 1, is true exactly where
+-- i is at most n
+abbrev pub AreUnary : Assignment → List Literal → ℕ → Type 0
+AreUnary t outputs n =
+    (i : ℕ) (l : Literal) → slice_get outputs i ≡ Some l → literal_value t l ≡ nat_le (i + 1) n
+
 -- output i of each node, from 1, is true exactly where at least i of its leaves are
 abbrev pub MeansRight : Assignment → Tree → Type 0
 MeansRight t (Leaf l) = Unit {0}
 MeansRight t (Node a b outputs) =
-    MeansRight t a × MeansRight t b
-    × ((i : ℕ) (l : Literal) → slice_get outputs i ≡ Some l
-    → literal_value t l ≡ nat_le (i + 1) (true_leaves t a + true_leaves t b))
+    MeansRight t a × MeansRight t b × AreUnary t outputs (true_leaves t a + true_leaves t b)

@@ -1,12 +1,16 @@
 -- The terms of facts, one fact after another.
 use Rattle.std.proofs.Common.{◌≡◌, ℕ, ◌+◌, ◌<◌, ◌≤◌, List, ◌∷◌, length, drop, get_or, refl, sym, ◌∙◌}
-use Rattle.std.proofs.Common.{ap, arith, Some, None}
+use Rattle.std.proofs.Common.{ap, arith, Some, None, false}
 use Rattle.std.specs.Prelude.{Option}
 use Rattle.std.specs.Option.{option_map}
 use Rattle.std.proofs.lemmas.List.{at_drop_more, at_drop_all}
 use Rattle.cnf.specs.Refute.{Clauses}
 use Rattle.forms.specs.declared.types.NamedFact.{NamedFact}
 use Rattle.forms.specs.Forms.{Numbered, fact_size, facts_size, plus_size}
+
+-- what stands past the end of a list
+abbrev pub no_fact : NamedFact
+no_fact = record { weight = 0; is_numbered = false; number = 0 }
 
 -- behind a fact that is not there
 none_first : (at : Clauses) (ns : List Numbered) (f : NamedFact) (fs : List NamedFact)
