@@ -4,4 +4,7 @@
 
 mod base;
 pub mod machine;
+pub mod pieces;
+pub mod streams;
 mod table;
+pub mod verdicts;
