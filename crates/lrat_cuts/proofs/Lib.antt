@@ -1,2 +1,4 @@
 mod Putting
 mod Judging
+mod PieceLaws
+mod EndedParts

@@ -26,13 +26,13 @@ abbrev pub cuts_verdict : Option ℕ → Problem → List ℕ → Verdict
 cuts_verdict cost p bytes = verdict_of (judged_text cost p bytes)
 
 -- the text up to its last line feed
+abbrev pub ended_with : ℕ → List ℕ → List ℕ
+ended_with b [] = if b == 10 then b ∷ [] else []
+ended_with b (c ∷ cs) = b ∷ c ∷ cs
+
 abbrev pub ended_part : List ℕ → List ℕ
 ended_part [] = []
-ended_part (b ∷ bs) = with b (ended_part bs)
-  where
-    with : ℕ → List ℕ → List ℕ
-    with b [] = if b == 10 then b ∷ [] else []
-    with b (c ∷ cs) = b ∷ c ∷ cs
+ended_part (b ∷ bs) = ended_with b (ended_part bs)
 
 abbrev pub lower_of : Result CutsState (Cause × ℕ) → LowerVerdict
 lower_of (Ok s) = AtLeast s.proved
