@@ -10,3 +10,7 @@ mod LawAdditions
 mod LawCuts
 mod LawItems
 mod LawLines
+mod Putting
+mod Judging
+mod PieceLaws
+mod EndedParts

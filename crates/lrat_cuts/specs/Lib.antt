@@ -1,2 +1,5 @@
 pub mod Cuts
+pub mod Machine
+pub mod Pieces
 pub mod Vectors
+pub mod Verdict
