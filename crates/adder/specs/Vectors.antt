@@ -1,15 +1,15 @@
--- Worked networks along a balanced tree.
+-- Worked networks of profile 3.
 use Rattle.std.specs.Prelude.{◌≡◌, ℕ, ◌+◌, ◌^◌, List, [], ◌∷◌, ◌++◌, map, Option, Some, None}
 use Rattle.std.specs.Prelude.{replicate, refl}
 use Rattle.cnf.specs.Literal.{Literal, positive}
 use Rattle.adder.specs.declared.cells.Cell.{Cell}
-use Rattle.adder.specs.declared.profiles.Profile.TheVariants.{Four}
+use Rattle.adder.specs.declared.profiles.Profile.TheVariants.{Three}
 use Rattle.adder.specs.Network.{Adders, adders_as}
 
 -- one variable, and a soft clause of each weight
 abbrev network_of : List ℕ → Adders
 network_of ws =
-    adders_as Four
+    adders_as Three
     (record {
       variables = 1;
       hard = [];
