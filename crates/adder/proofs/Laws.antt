@@ -5,5 +5,5 @@ pub use Rattle.adder.proofs.InEachProfile.{adders_with, adds_up, cells_extend, c
 pub use Rattle.adder.proofs.InEachProfile.{outputs_few}
 pub use Rattle.adder.proofs.InEachProfile.{outputs_sum}
 pub use Rattle.adder.proofs.Small.{filter_le, fresh_few}
-pub use Rattle.adder.proofs.Sums.{digit, relaxed_cases, relaxed_soft}
+pub use Rattle.adder.proofs.Sums.{digit, relaxed_cases, relaxed_soft, relaxed_weights}
 pub use Rattle.adder.proofs.Variables.{AreOf, IsCellWith, IsOutputOf, relaxed_with}

@@ -200,13 +200,13 @@ plain_each : (n v : ℕ) (cs : List (List Literal)) → n ≤ v → AllByRecursi
 plain_each n v [] le h = tt
 plain_each n v (c ∷ cs) le h = (plain_of n v c le h.0, plain_each n v cs le h.1)
 
-plain_soft : (n v : ℕ) (ss : List SoftClause) → n ≤ v
+pub plain_soft : (n v : ℕ) (ss : List SoftClause) → n ≤ v
     → AllByRecursion (λ s. IsClauseWithin n s.clause) ss
     → AllByRecursion (λ s. IsPlain v s.clause) ss
 plain_soft n v [] le h = tt
 plain_soft n v (s ∷ ss) le h = (plain_of n v s.clause le h.0, plain_soft n v ss le h.1)
 
-literals_of : (v : ℕ) (es : List Relaxed)
+pub literals_of : (v : ℕ) (es : List Relaxed)
     → AllByRecursion (λ e. IsPlain v (e.soft).clause × IsVariable v (e.literal).variable) es
     → AllByRecursion (λ e. IsVariable v (e.literal).variable) es
 literals_of v [] h = tt

@@ -18,6 +18,7 @@ mod RelaxedParts
 mod WeightedParts
 mod Weights
 mod WeightedCost
+mod WeightLimits
 mod RelaxedHold
 mod Lines
 mod Streams

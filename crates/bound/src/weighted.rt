@@ -1,8 +1,9 @@
 // An instance whose soft clauses are relaxed, with the weights of their relaxation literals.
 ghost use Rattle.std.specs.Prelude.{◌≡◌, ℕ, ◌+◌, ◌<◌, ◌≤◌, ◌++◌, map, length, All, IfOk, OnOk};
-ghost use Rattle.std.specs.Prelude.{if◌then◌else◌};
-ghost use Rattle.cnf.specs.declared.limits.TheConstants.{FORMULA_VARIABLE_LIMIT};
-ghost use Rattle.adder.specs.Network.{relaxed_one};
+ghost use Rattle.std.specs.Prelude.{if◌then◌else◌, sum_by};
+ghost use Rattle.cnf.specs.declared.limits.TheConstants.{FORMULA_VARIABLE_LIMIT, NUMBER_LIMIT};
+ghost use Rattle.adder.specs.Network.{relaxed_one, relaxed_variables};
+ghost use Rattle.adder.specs.declared.profiles.Profile.TheVariants.{Two};
 ghost use Rattle.adder.specs.declared.profiles.Relaxing.TheVariants.{UnitsByNegation};
 ghost use Rattle.cnf.specs.Marks.{HasPlace};
 ghost use Rattle.adder.specs.Parts.{weight_in};
@@ -35,13 +36,17 @@ pub fn weighted_formula(instance: &Instance) -> Result<Formula, AllocError>
 
 /// What each soft clause costs, and the literal that is true where it may be falsified: the
 /// negation of a unit clause's literal, and of each other clause its relaxation variable. A
-/// tautology costs nothing.
+/// tautology costs nothing. The weights sum to less than 2^62, and no variable is above those of
+/// the formula.
 ///
 /// # Errors
 ///
 /// `AllocError` where memory was refused.
 pub fn weights(instance: &Instance) -> Result<Vec<Relaxation>, AllocError>
-    ensures { IfOk result (λ w. map weight_in w.items ≡ weights_of instance.now) }
+    ensures weights { IfOk result (λ w. map weight_in w.items ≡ weights_of instance.now) }
+    ensures within { IfOk result
+        (λ w. All (λ r. r.lit.variable ≤ relaxed_variables Two instance.now) w.items) }
+    ensures sum { IfOk result (λ w. sum_by (λ r. r.weight) w.items < NUMBER_LIMIT) }
 {
     instance.limits();
     let alloc = instance.allocator();

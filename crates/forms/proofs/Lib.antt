@@ -3,3 +3,10 @@ mod Stamps
 mod FactSizes
 mod Staging
 mod MassLaws
+mod Knowing
+mod NextOutput
+mod Withins
+mod Widths
+mod NewCount
+mod Weighing
+mod FormLines

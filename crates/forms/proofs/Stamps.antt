@@ -2,7 +2,7 @@
 use Rattle.std.proofs.Common.{◌≡◌, ℕ, zero, suc, ◌+◌, ◌-◌, ◌<◌, ◌≤◌, Bool, true, false, List, [], ◌∷◌, ◌++◌, refl}
 use Rattle.std.proofs.Common.{length, map, take, drop, get_or, set, sym, ◌∙◌, ap, subst, arith}
 use Rattle.std.proofs.Common.{slice_get, Some, None, inl, inr}
-use Rattle.std.specs.Prelude.{◌==◌, if◌then◌else◌, Option}
+use Rattle.std.specs.Prelude.{◌==◌, if◌then◌else◌, Option, slice_set}
 use Rattle.std.specs.List.{AllByRecursion}
 use Rattle.std.specs.Option.{option_map}
 use Rattle.std.proofs.lemmas.Bool.{cases_Bool, eqb-true}
@@ -14,7 +14,8 @@ use Rattle.cnf.proofs.Laws.{all_push}
 use Rattle.forms.specs.declared.numbered.Numbered.{Numbered as Stamped}
 use Rattle.forms.specs.declared.numbered.Numbered.TheVariants.{Count as StampedCount}
 use Rattle.forms.specs.declared.numbered.Numbered.TheVariants.{Group as StampedGroup}
-use Rattle.forms.specs.Forms.{Numbered, Count, Group, at_number, cleared, without_multiplier}
+use Rattle.forms.specs.Forms.{Forms, Numbered, Count, Group, at_number, cited, cleared, less_item}
+use Rattle.forms.specs.Forms.{less_numbered, numbered_size, without_multiplier}
 use Rattle.forms.specs.Stamped.{AreStamped, IsStamped, numbered_in, numbered_at}
 
 later_one : (p : ℕ) (n : Stamped) → IsStamped p n
@@ -77,3 +78,12 @@ found ns (suc j) n lt le is p =
     ∙ ap (option_map (numbered_at p)) (slice_get-get_or ns j n (omega (arith, le)))
     ∙ ap (λ x. Some (numbered_at p x))
     (ap (λ k. get_or ns k n) (let e : j ≡ suc j - 1 = omega arith in e) ∙ sym is)
+
+-- less so many times the fact of what has a number
+pub less_is : (w j : ℕ) (s : Forms) (n : Numbered) → at_number s.numbered j ≡ Some n
+    → less_numbered w j s ≡ record s {
+      form = less_item w n s.form;
+      numbered = slice_set s.numbered (j - 1) (cited w n);
+      terms = s.terms + numbered_size n;
+    }
+less_is w j s n e = rw e refl

@@ -5,7 +5,8 @@ ghost use Rattle.std.specs.Int.RustNames.{unsigned_abs};
 ghost use Rattle.cnf.specs.declared.limits.TheConstants.{NUMBER_LIMIT};
 ghost use Rattle.linear.specs.Costs.{width_of};
 ghost use Rattle.totalizer.specs.Stages.{outputs_of};
-ghost use Rattle.forms.specs.Forms.{Group, cited, less, less_item, numbered_size};
+ghost use Rattle.forms.specs.Forms.{Group, cited, clause_size, less, less_item, numbered_size};
+ghost use Rattle.forms.specs.Forms.{plus_number};
 ghost use Rattle.forms.specs.Forms.{plus as plus_literals};
 ghost use Rattle.forms.specs.Within.{CanCite, IsWithin};
 ghost use Rattle.forms.specs.Stamped.{IsStamped, numbered_at};
@@ -37,6 +38,19 @@ pub(crate) fn subtract_item(bound: &mut CostBound, item: &mut Numbered, weight: 
             count.stamp = present;
         }
     }
+}
+
+/// Takes the fact of a clause off a form: its literals, less 1.
+pub(crate) fn subtract_clause(bound: &mut CostBound, clause: &[Lit], weight: u64)
+    requires weight { weight < NUMBER_LIMIT }
+    requires variables { All (λ l. l.variable < width_of bound.old.form) clause.now }
+    requires room { bound.old.mass + 3 * 2 ^ 62 * clause_size clause.now ≤ 2 ^ 120 }
+    ensures form { bound.new.form
+        ≡ plus_number (pos weight) (less weight clause.now bound.old.form) }
+    ensures mass { bound.new.mass ≤ bound.old.mass + 3 * 2 ^ 62 * clause_size clause.now }
+{
+    bound.add_literals(clause, minus(weight));
+    bound.add_constant(plus(weight));
 }
 
 /// Takes the fact of a group off a form: 1, less its literals.

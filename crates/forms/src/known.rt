@@ -29,6 +29,7 @@ pub(crate) fn repeats_variable(marks: &mut Marks, lits: &[Lit]) -> bool
 pub(crate) fn greatest_variable(lits: &[Lit]) -> u32
     ensures greatest { result ≡ greatest_variable lits.now }
     ensures small { result < VARIABLE_LIMIT }
+    ensures from_one { All (λ l. 0 < l.variable) lits.now }
 {
     let mut greatest = 0;
     for lit in lits {

@@ -8,6 +8,7 @@ mod growing;
 mod known;
 mod numbered;
 mod sizes;
+pub mod state;
 pub mod table;
 pub mod types;
 mod worth;

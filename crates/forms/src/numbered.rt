@@ -1,7 +1,8 @@
 // Counts and groups, which facts of a form name by their numbers.
-ghost use Rattle.std.specs.Prelude.{◌≡◌, ℕ, ◌<◌, Some, None, MatchOption};
+ghost use Rattle.std.specs.Prelude.{◌≡◌, ℕ, ◌<◌, All, Some, None, MatchOption};
 ghost use Rattle.forms.specs.Forms.{at_number, cleared, numbered_size, without_multiplier};
 ghost use Rattle.forms.specs.Stamped.{AreStamped, IsStamped, numbered_in, numbered_at};
+ghost use Rattle.forms.specs.Within.{IsWithin};
 
 use cnf::types::Lit;
 use totalizer::totalizer::Totalizer;
@@ -51,10 +52,14 @@ pub(crate) fn numbered_size(numbered: &Numbered) -> u64
 }
 
 /// The stamp of a form that is begun, which no count has.
-pub(crate) fn next_stamp(numbered: &mut [Numbered], present: u64) -> u64
-    requires { AreStamped present numbered.old }
-    ensures cleared { numbered_in result numbered.new ≡ cleared (numbered_in present numbered.old) }
-    ensures stamped { AreStamped result numbered.new }
+pub(crate) fn next_stamp(numbered: &mut Vec<Numbered>, present: u64) -> u64
+    requires { AreStamped present numbered.old.items }
+    ensures cleared {
+        numbered_in result numbered.new.items ≡ cleared (numbered_in present numbered.old.items)
+    }
+    ensures stamped { AreStamped result numbered.new.items }
+    ensures within { (variables terms : ℕ) → All (IsWithin variables terms) numbered.old.items
+        → All (IsWithin variables terms) numbered.new.items }
 {
     if present == u64::MAX {
         for place in 0..numbered.len() {
@@ -70,6 +75,8 @@ fn forget(item: &mut Numbered)
     ensures cleared { (p q : ℕ) → 0 < p
         → numbered_at p item.new ≡ without_multiplier (numbered_at q item.old) }
     ensures stamped { (p : ℕ) → IsStamped p item.new }
+    ensures within { (variables terms : ℕ) → IsWithin variables terms item.old
+        → IsWithin variables terms item.new }
 {
     match item {
         Numbered::Count(count) => {

@@ -82,7 +82,8 @@ impl CostBound {
 
     /// How many times the cost is taken.
     pub fn scale(&self) -> u64
-        ensures { result ≡ self.now.form.scale }
+        ensures scale { result ≡ self.now.form.scale }
+        ensures small { result < 2 ^ 62 }
     {
         self.scale
     }

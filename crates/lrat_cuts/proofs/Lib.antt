@@ -13,3 +13,7 @@ mod LawLines
 mod LawStart
 mod LawSound
 mod LawWorth
+mod Putting
+mod Judging
+mod PieceLaws
+mod EndedParts

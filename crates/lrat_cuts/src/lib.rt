@@ -1,13 +1,11 @@
-//! Totalizers that grow by stages.
+//! Certificates of forms and cuts: LRAT whose additions are RUP alone, with lines that bring linear
+//! lower bounds of the cost and the clauses that follow from them.
 #![tactic(auto)]
 
+mod base;
 pub mod law;
-
-/// One.
-pub fn one() -> u32
-    ensures { result ≡ 1 }
-{
-    1
-}
-
-ghost use Rattle.std.specs.Prelude.{◌≡◌};
+pub mod machine;
+pub mod pieces;
+pub mod streams;
+mod table;
+pub mod verdicts;

@@ -1,7 +1,7 @@
 -- How many clauses a stage makes.
 use Rattle.std.proofs.Common.{◌≡◌, ℕ, zero, suc, ◌+◌, ◌-◌, ◌/◌, ◌<◌, ◌≤◌, min, max, Bool, true}
 use Rattle.std.proofs.Common.{false}
-use Rattle.std.proofs.Common.{List, [], ◌∷◌, ◌++◌, length, refl, sym, ◌∙◌, ap, arith, nat_le, take}
+use Rattle.std.proofs.Common.{List, ◌∷◌, ◌++◌, length, refl, sym, ◌∙◌, ap, arith, nat_le, take}
 use Rattle.std.proofs.Common.{drop, length-append}
 use Rattle.std.specs.Prelude.{map}
 use Rattle.std.specs.declared.vec.Vec.{Vec}
@@ -68,10 +68,6 @@ module _ (left right : List Literal) (v : ℕ) where
 
 pub order_one : (own : List Literal) (r : ℕ) → 0 < length own → length (order_clause own r) ≡ 1
 order_one own r h = rw (slice_get-get_or own (length own - 1) none (omega arith)) refl
-
-pub order_none : (own : List Literal) (r : ℕ) → length own ≡ 0 → length (order_clause own r) ≡ 0
-order_none [] r h = refl
-order_none (l ∷ own) r h = absurd (omega arith)
 
 -- the clauses of a node, from those of its halves
 pub joined_count : (h : ℕ) (own : List Literal) (left right : List (List Literal)) (a b : Tree)

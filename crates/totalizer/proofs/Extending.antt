@@ -1,5 +1,5 @@
 -- The variables of stages can be given the values that they mean.
-use Rattle.std.proofs.Common.{◌≡◌, ℕ, zero, suc, ◌+◌, ◌<◌, ◌≤◌, Bool, true, false, not}
+use Rattle.std.proofs.Common.{◌≡◌, ℕ, zero, suc, ◌+◌, ◌<◌, Bool, true, false, not}
 use Rattle.std.proofs.Common.{List, [], ◌∷◌, ◌++◌, length, refl, sym, ◌∙◌, ap, arith, nat_le, subst}
 use Rattle.std.proofs.Common.{◌/◌, take, drop}
 use Rattle.std.specs.Prelude.{if◌then◌else◌}
@@ -48,10 +48,6 @@ means_same n t u (Node a b own) same below means =
           (unary_same n t u own (true_leaves t a + true_leaves t b) same below.2 means.2),
     )
 
-same_more : (m n : ℕ) (t u w : Assignment) → m ≤ n → SameBelow m t u → SameBelow n u w
-    → SameBelow m t w
-same_more m n t u w le first second v low = second v (omega arith) ∙ first v low
-
 -- an assignment that agrees with t below v, and under which a tree's outputs mean what they should
 pub record Extends (t : Assignment) (v : ℕ) (tree : Tree) : Type 0 where
   pub extended : Assignment
@@ -81,7 +77,7 @@ give_last w r a b own below_a below_b below means =
       );
     }
 
--- the variables of a stage can be given such values, and no other changes
+-- the variables of a stage can be given such values, and those below them keep theirs
 pub stage_extends : (t : Assignment) (h v : ℕ) (tree : Tree) → IsTreeBelow v tree
     → MeansRight t tree → Extends t v (stage h v tree).tree
 stage_extends t h v (Leaf l) below means =
@@ -106,7 +102,8 @@ stage_extends t h v (Node a b own) below means =
         let u = left.extended in
         let second = right u b_below (means_same v t u b left.same below.1 means.1) in
         let w = second.extended in
-        let both = same_more v f t u w from left.same second.same in
+        let both : SameBelow v t w =
+        λ k low. second.same k (omega arith) ∙ left.same k low in
         let na_below = stage_below h v a below.0 in
         let nb_below = stage_below h f b b_below in
         let whole = means_same v t w (Node a b own) both below means in
@@ -120,7 +117,7 @@ stage_extends t h v (Node a b own) below means =
         ) in
         rw e record {
           extended = third.extended;
-          same = same_more v r t w third.extended (omega arith) both third.same;
+          same = λ k low. third.same k (omega arith) ∙ both k low;
           means = third.means;
         }
 
@@ -130,13 +127,13 @@ stages_extend t zero h v tree below means =
     record { extended = t; same = λ k low. refl; means = means }
 stages_extend t (suc count) h v tree below means =
     let first = stage h v tree in
+    let from = (stage_takes h v tree).from in
     let one = stage_extends t h v tree below means in
     let rest = stages_extend one.extended count (h + 1) first.fresh first.tree
     (stage_below h v tree below) one.means in
     record {
       extended = rest.extended;
-      same = same_more v first.fresh t one.extended rest.extended (stage_takes h v tree).from
-          one.same rest.same;
+      same = λ k low. rest.same k (omega arith) ∙ one.same k low;
       means = rest.means;
     }
 

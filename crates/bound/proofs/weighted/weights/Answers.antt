@@ -1,6 +1,7 @@
 -- One soft clause more.
 use Rattle.std.proofs.Common.{◌≡◌, ◌+◌, ◌<◌, All, length, map, arith, ap}
 use Rattle.std.proofs.Common.{List, get_or, subst, ◌∙◌}
+use Rattle.std.proofs.lemmas.Grind.{common_steps}
 use Rattle.cnf.specs.Literal.{Literal}
 use Rattle.std.specs.Prelude.{if◌then◌else◌}
 use Rattle.cnf.specs.Instance.{IsClauseWithin}
@@ -9,6 +10,7 @@ use Rattle.adder.specs.declared.profiles.Relaxing.TheVariants.{UnitsByNegation}
 use Rattle.adder.specs.Network.{Relaxed, relaxed_one}
 use Rattle.adder.specs.Parts.{weight_in}
 use Rattle.bound.proofs.Relaxations.{soft_within}
+use Rattle.bound.proofs.WeightLimits.{limits_variables, limits_sum}
 use Rattle.bound.proofs.Weights.{weights_step}
 use Rattle.bound.proofs.weighted.weights.Goals as goal
 
@@ -49,3 +51,13 @@ loop-soft-preserved c =
       marks = c.push_weight.ensures.marks ∙ c.loop-soft.invariant.marks;
       whole = step ∙ c.loop-soft.invariant.whole;
     }
+
+pub returns-clause-within : goal.returns-clause-within
+returns-clause-within c =
+    limits_variables c.args.instance.now c.limits.ensures c.loop-soft.weights.items
+    (grind (arith, common_steps))
+
+pub returns-clause-sum : goal.returns-clause-sum
+returns-clause-sum c =
+    limits_sum c.args.instance.now c.limits.ensures c.loop-soft.weights.items
+    (grind (arith, common_steps))

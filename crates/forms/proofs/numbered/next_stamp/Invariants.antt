@@ -3,12 +3,16 @@ use Rattle.std.proofs.Common.{◌≡◌, ℕ, ◌<◌, length, take, drop}
 use Rattle.std.specs.Prelude.{All}
 use Rattle.forms.specs.Forms.{cleared}
 use Rattle.forms.specs.Stamped.{AreStamped, numbered_in}
+use Rattle.forms.specs.Within.{IsWithin}
 use Rattle.forms.proofs.numbered.next_stamp.Given as goal
 
 abbrev pub invariant-loop-place : goal.invariant-loop-place
 invariant-loop-place l = record {
-  cleared : numbered_in 1 (take l.place l.numbered)
-      ≡ cleared (numbered_in l.present (take l.place l.initial.numbered));
-  others : drop l.place l.numbered ≡ drop l.place l.initial.numbered;
-  stamped : AreStamped 1 (take l.place l.numbered);
+  long : length l.numbered.items ≡ length l.initial.numbered.items;
+  cleared : numbered_in 1 (take l.place l.numbered.items)
+      ≡ cleared (numbered_in l.present (take l.place l.initial.numbered.items));
+  others : drop l.place l.numbered.items ≡ drop l.place l.initial.numbered.items;
+  stamped : AreStamped 1 (take l.place l.numbered.items);
+  within : (variables terms : ℕ) → All (IsWithin variables terms) l.initial.numbered.items
+      → All (IsWithin variables terms) l.numbered.items;
 }

@@ -1,0 +1,46 @@
+use Rattle.std.proofs.Common.{◌≡◌, ◌≤◌, ◌++◌, ◌∷◌, [], ◌∙◌, sym, ap, true, subst, length, arith}
+use Rattle.std.specs.Prelude.{All}
+use Rattle.std.proofs.lemmas.List.Elements.{All-from_recursion, recursion_from_All}
+use Rattle.cnf.proofs.Laws.{all_push}
+use Rattle.forms.specs.declared.numbered.Numbered.TheVariants.{Group as StampedGroup}
+use Rattle.forms.specs.Forms.{are_known}
+use Rattle.forms.specs.Kept.{forms_in}
+use Rattle.forms.specs.Stamped.{IsStamped}
+use Rattle.forms.specs.Within.{AreWithin, IsWithin}
+use Rattle.forms.proofs.Knowing.{each_below, known}
+use Rattle.forms.proofs.state.Forms.group.Goals as goal
+
+pub invariant_of-self-2 : goal.invariant_of-self-2
+invariant_of-self-2 g c =
+    let old = c.self.invariant in
+    let f = c.self.inside in
+    let lits = c.args.lits.now in
+    let items = f.numbered.items in
+    let item = StampedGroup c.in_ok-lits.lits in
+    let same : forms_in f ≡ c.args.self.now = c.self.view_is ∙ c.are_known.ensures.unchanged in
+    let h : are_known (forms_in f) lits ≡ true =
+    ap (λ x. are_known x lits) same ∙ sym c.if-not-are_known.ensures.known in
+    let all : AreWithin f.variables lits =
+    All-from_recursion (λ l. l.variable ≤ f.variables) lits
+    (each_below f.variables lits (known (forms_in f) lits h).below) in
+    let within : IsWithin f.variables f.terms item =
+    (omega (arith, c.if-lits-lt2.false, ap length c.in_ok-lits.ensures.items),
+    subst (AreWithin f.variables) (sym c.in_ok-lits.ensures.items) all) in
+    record {
+      width = old.width;
+      marks = old.marks;
+      variables = old.variables;
+      made = old.made;
+      terms = old.terms;
+      mass = old.mass;
+      within =
+          subst (All (IsWithin f.variables f.terms)) (sym c.in_ok-push.ensures.items)
+          (All-from_recursion (IsWithin f.variables f.terms) (items ++ item ∷ [])
+          (all_push (IsWithin f.variables f.terms) items item
+          (recursion_from_All (IsWithin f.variables f.terms) items old.within) within));
+      stamped =
+          subst (All (IsStamped f.present)) (sym c.in_ok-push.ensures.items)
+          (All-from_recursion (IsStamped f.present) (items ++ item ∷ [])
+          (all_push (IsStamped f.present) items item
+          (recursion_from_All (IsStamped f.present) items old.stamped) tt));
+    }

@@ -1,0 +1,16 @@
+-- What the lines up to the last line feed prove.
+use Rattle.std.proofs.Common.{subst, sym, ap, ◌∙◌, None}
+use Rattle.lrat_cuts.specs.Pieces.{CheckerState, HasJudged}
+use Rattle.lrat_cuts.specs.Verdict.{lower_of}
+use Rattle.lrat_cuts.proofs.EndedParts.{ended_open, ended_refused}
+use Rattle.lrat_cuts.proofs.pieces.CutsChecker.finish_ended.Goals as goal
+
+pub returns-in-Some-clause-verdict : goal.returns-in-Some-clause-verdict
+returns-in-Some-clause-verdict c = λ p bytes s.
+    let inside = subst (λ (x : CheckerState). HasJudged x None p bytes) (sym c.self.view_is) s in
+    ?
+
+pub returns-in-None-clause-verdict : goal.returns-in-None-clause-verdict
+returns-in-None-clause-verdict c = λ p bytes s.
+    let inside = subst (λ (x : CheckerState). HasJudged x None p bytes) (sym c.self.view_is) s in
+    ?
