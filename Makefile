@@ -2,8 +2,12 @@
 # make demo     solves a week's roster, and checks the certificate of its optimum
 # make test     the gate (rt ci), and then the scripts of tests/ on the program that it left
 # make edits    all edits that the prover must refuse, also those that the gate leaves out (some hours; CRATES='wcnf ..' for some)
-# make install  the program and its manual page, under PREFIX (/usr/local)
+# make install  the program, its manual page, python/wmax.py and the converters of examples/, under PREFIX (/usr/local)
 PREFIX ?= /usr/local
+# Where python3 looks for modules below PREFIX. If it looks for none there, PYTHONPATH has to name this folder.
+PYTHON_FOLDER ?= $(shell python3 -c 'import site, sys, sysconfig; under = sys.argv[1]; \
+	print(next((it for it in site.getsitepackages() if it.startswith(under + "/lib/")), \
+	sysconfig.get_path("purelib", "posix_prefix", {"base": under})))' '$(PREFIX)' || echo '$(PREFIX)/lib/python3')
 .PHONY: all demo test edits install clean
 
 all:
@@ -24,6 +28,9 @@ install:
 	bash tools/manual > wmax.1
 	install -D -m 755 wmax "$(DESTDIR)$(PREFIX)/bin/wmax"
 	install -D -m 644 wmax.1 "$(DESTDIR)$(PREFIX)/share/man/man1/wmax.1"
+	install -D -m 644 python/wmax.py "$(DESTDIR)$(PYTHON_FOLDER)/wmax.py"
+	install -D -m 755 examples/older_form "$(DESTDIR)$(PREFIX)/bin/wmax-older-form"
+	install -D -m 755 examples/result_of_others "$(DESTDIR)$(PREFIX)/bin/wmax-result-of-others"
 
 clean:
 	rm -rf crates/*/out .lanes.* wmax wmax.1 build.log

@@ -12,7 +12,7 @@ explained() { # NAME STATUS LINE..: of text and result
 lines text 'c who works' 'h 1 2 3 0' 'c tea' '3 -1 0' '4 -2 0' '' 'c not above' '' '4 -3 0' 'h 4 0'
 lines result 'o 11' 's SATISFIABLE' 'v 1111'
 explained 'heaviest first, with the comments above' 0 'cost 11' 'given up: 3 of 3 soft clauses' \
-    '+ 4 = 4, line 5: 4 -2 0' '    c tea' '+ 4 = 8, line 9: 4 -3 0' '+ 3 = 11, line 4: 3 -1 0' '    c tea'
+    '+ 4 = 4, line 5: 4 -2 0' '+ 4 = 8, line 9: 4 -3 0' '+ 3 = 11, line 4: 3 -1 0' '    c tea'
 lines result 'o 3' 's OPTIMUM FOUND' 'v 1001'
 explained 'one clause' 0 'cost 3' 'given up: 1 of 3 soft clauses' '+ 3 = 3, line 4: 3 -1 0' '    c tea'
 lines result 'o 5' 's OPTIMUM FOUND' 'v 1001'
@@ -32,12 +32,28 @@ lines result 'o 7' 's SATISFIABLE' 'v 11'
 explained 'the older form' 0 'cost 7' 'given up: 2 of 2 soft clauses' '+ 4 = 4, line 7: 4 -2 0' '+ 3 = 7, line 6: 3 -1 0'
 lines result 'o 0' 's SATISFIABLE' 'v 00'
 explained 'the older form, broken' 1 'cost 0' 'given up: 0 of 2 soft clauses' 'broken, hard, line 4: 10 1 2 0' '    c needed'
-printf 'c cr\r\nh 1 2 0\r\n3 -1 0\r\n4 -2 0' > "$work/text"
+printf 'h 1 2 0\r\n3 -1 0\r\nc cr\r\n4 -2 0' > "$work/text"
 lines result 'o 4' 's SATISFIABLE' 'v 01'
 explained 'CR LF' 0 'cost 4' 'given up: 1 of 2 soft clauses' '+ 4 = 4, line 4: 4 -2 0' '    c cr'
 
-printf 'c a\tb\033[31mc\177\001 \303\251\nh 1 2 0\n3 -1 0\n4 -2 0\n' > "$work/text"
+printf 'h 1 2 0\n3 -1 0\nc a\tb\033[31mc\177\001 \303\251\n4 -2 0\n' > "$work/text"
 explained 'bytes that command a terminal' 0 'cost 4' 'given up: 1 of 2 soft clauses' '+ 4 = 4, line 4: 4 -2 0' $'    c a\tb?[31mc?? \303\251'
+
+# shown NAME BYTES WANTED: a comment with these bytes
+shown() {
+    printf "h 1 2 0\n3 -1 0\nc a${2}b\n4 -2 0\n" > "$work/text"
+    explained "$1" 0 'cost 4' 'given up: 1 of 2 soft clauses' '+ 4 = 4, line 4: 4 -2 0' "    c a${3}b"
+}
+shown 'C1 controls by code point' '\302\200\302\233\302\237' '??????'
+shown 'what follows C1 is shown' '\302\240\302\251' $'\302\240\302\251'
+shown 'bytes that are no part of UTF-8' '\200\233\237\240\351\377' '??????'
+shown 'overlong forms of ESC, DEL and the tab' '\300\233\301\277\340\200\211\360\200\200\233' '???????????'
+shown 'surrogates, and above U+10FFFF' '\355\240\200\364\220\200\200' '???????'
+shown 'characters that are cut off' '\342\200 \360\237\230 \303' '?? ??? ?'
+shown 'marks of direction' '\330\234\342\200\216\342\200\217' '????????'
+shown 'overrides of direction' '\342\200\252\342\200\256\342\201\246\342\201\251' '????????????'
+shown 'characters of two to four bytes' '\330\233\342\200\215\342\200\257\342\201\245\342\202\254\357\277\275\360\237\230\200' \
+    $'\330\233\342\200\215\342\200\257\342\201\245\342\202\254\357\277\275\360\237\230\200'
 
 # Names of variables.
 lines text 'c 1 = tea' 'c 2 = coffee  with milk' $'  c\t2\t=\t\033[1mmocha' 'c' 'h 1 2 0' '3 -1 0' '4 -2 0' 'c' 'c 3 = above' \
@@ -50,11 +66,19 @@ lines result 'o 7' 's SATISFIABLE' 'v 11'
 explained 'names, in the order of the comments' 0 'cost 7' 'given up: 2 of 2 soft clauses' '+ 4 = 4, line 7: 4 -2 0' '+ 3 = 7, line 6: 3 -1 0' \
     'true: tea' 'true: coffee with milk' 'true: ?[1mmocha'
 
-# A comment that names a variable says nothing of the clauses below it.
+# A comment that names a variable says nothing of the clause below it.
 lines text 'c why' 'c 2 = coffee' '4 -2 0' 'c 1 = tea' '3 -1 0' '' 'c 1 = tea once more' '1 -2 0'
 lines result 'o 8' 's SATISFIABLE' 'v 11'
 explained 'a name is no reason' 0 'cost 8' 'given up: 3 of 3 soft clauses' '+ 4 = 4, line 3: 4 -2 0' '    c why' \
-    '+ 3 = 7, line 5: 3 -1 0' '    c why' '+ 1 = 8, line 8: 1 -2 0' 'true: coffee' 'true: tea' 'true: tea once more'
+    '+ 3 = 7, line 5: 3 -1 0' '+ 1 = 8, line 8: 1 -2 0' 'true: coffee' 'true: tea' 'true: tea once more'
+
+# A comment belongs to the clause that follows it, be it hard or soft, and to no other.
+lines text 'c one is needed' 'h 1 2 0' '3 -1 0' 'c coffee' 'c or more' '4 -2 0' '4 -1 -2 0'
+lines result 'o 11' 's SATISFIABLE' 'v 11'
+explained 'a comment belongs to one clause' 0 'cost 11' 'given up: 3 of 3 soft clauses' '+ 4 = 4, line 6: 4 -2 0' '    c or more' \
+    '+ 4 = 8, line 7: 4 -1 -2 0' '+ 3 = 11, line 3: 3 -1 0'
+lines result 'o 0' 's SATISFIABLE' 'v 00'
+explained 'a comment of a hard clause' 1 'cost 0' 'given up: 0 of 3 soft clauses' 'broken, hard, line 2: h 1 2 0' '    c one is needed'
 
 # The sum of what is listed is the cost that `solve` told, and nothing is broken.
 awk -v dir="$work" -v count=60 -f tests/program/random.awk > "$work/wanted"
@@ -98,7 +122,7 @@ mended 'a byte order mark' '\357\273\277h 1 0\n' 'line 1: FirstToken' $'\357\273
     'It begins with a byte order mark, which editors do not show: save FILE as UTF-8 without it.'
 mended 'a no-break space' 'h 1\302\2402 0\n' 'line 1: Literal' $'h 1\302\2402 0' $'1\302\2402' \
     'It has a no-break space, which only looks like a space: type a plain one.'
-mended 'a byte order mark of UTF-16' '\377\376h\000 \0001\000\n' 'line 1: FirstToken' $'\377\376h? ?1?' $'\377\376h?' \
+mended 'a byte order mark of UTF-16' '\377\376h\000 \0001\000\n' 'line 1: FirstToken' '??h? ?1?' '??h?' \
     'It begins with a byte order mark, which editors do not show: save FILE as UTF-8 without it.'
 mended 'a narrow no-break space' 'h 1\342\200\2572 0\n' 'line 1: Literal' $'h 1\342\200\2572 0' $'1\342\200\2572' \
     'It has a no-break space, which only looks like a space: type a plain one.'
@@ -109,11 +133,13 @@ done
 mended 'a typographic minus sign' 'h 1 \342\210\2222 0\n' 'line 1: Literal' $'h 1 \342\210\2222 0' $'\342\210\2222' \
     "It has a long dash or a typographic minus sign: type a plain '-'."
 for byte in 213 214 215 216 217 250 251; do
-    mended "a hidden character, $byte" "h 1 2 0\\342\\200\\$byte\n" 'line 1: Literal' "$(printf "h 1 2 0\\342\\200\\$byte")" \
-        "$(printf "0\\342\\200\\$byte")" 'It has a character that editors do not show: type the line again.'
+    sign=$(printf "\\342\\200\\$byte")
+    case $byte in 216 | 217) sign='???' ;; esac # marks of direction
+    mended "a hidden character, $byte" "h 1 2 0\\342\\200\\$byte\n" 'line 1: Literal' "h 1 2 0$sign" "0$sign" \
+        'It has a character that editors do not show: type the line again.'
 done
 mended 'a file of gzip' '\037\213\010\000\n' 'line 1: FirstToken' '????' '????' "FILE is compressed: give it as '<(zcat FILE)'."
-mended 'a file of xz' '\3757zXZ\000\n' 'line 1: FirstToken' $'\3757zXZ?' $'\3757zXZ?' "FILE is compressed: give it as '<(xzcat FILE)'."
+mended 'a file of xz' '\3757zXZ\000\n' 'line 1: FirstToken' '?7zXZ?' '?7zXZ?' "FILE is compressed: give it as '<(xzcat FILE)'."
 mended 'no weight' 'c x\n-2 -1 0\n' 'line 2: FirstToken' '-2 -1 0' '-2' \
     "A clause begins with 'h' if it must hold, else with its weight: 'h -1 0' or '3 -1 0'."
 mended 'h in the older form' 'p wcnf 2 1 7\nh 1 0\n' 'line 2: FirstToken' 'h 1 0' h \
@@ -165,7 +191,7 @@ mended 'fewer clauses' 'c x\np wcnf 2 3 7\n7 1 0\n' 'line 2: Count' 'p wcnf 2 3 
 mended 'bytes that command a terminal' 'h\t1 \033[31m\001 0\r\n' 'line 1: Literal' $'h\t1 ?[31m? 0' '?[31m?' \
     "A literal is a variable, numbered from 1, with '-' before it for its negation."
 a=$(printf 'a%.0s' {1..100})
-mended 'C1 controls' 'h 1 \233x\302\233\303\204 0\n' 'line 1: Literal' $'h 1 ?x\302?\303\204 0' $'?x\302?\303\204' \
+mended 'C1 controls' 'h 1 \233x\302\233\303\204 0\n' 'line 1: Literal' $'h 1 ?x??\303\204 0' $'?x??\303\204' \
     "A literal is a variable, numbered from 1, with '-' before it for its negation."
 mended 'a long word' "h ${a}a 0\n" 'line 1: Literal' "h ${a:2} .." "$a .." "A literal is a variable, numbered from 1, with '-' before it for its negation." 3
 many=$(seq -s ' ' 1 40)

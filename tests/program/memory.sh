@@ -82,6 +82,7 @@ each 'explain, no result' explain text
 lines given 'core 3 1 3 4 0' '7 0 6 4 5 2 3 1 0'
 each 'encode: a core' encode --profile 5 --proof given text 3
 each 'lower: a core' lower text given
+each 'explain: a core' explain text result given
 lines text 'h 1 -1 0' '2 1 1 0' '3 -1 0'
 each 'a clause with complementary literals' solve --proof proof text
 printf 'c x\r\n\r\nh -1 0\r\n7 1 0' > "$work/text"

@@ -18,9 +18,14 @@ counted() {
 }
 
 counted counts
+counted sums
 counted refusals
+counted texts "$wmax"
 counted optima "$wmax" 150
 counted lies "$wmax"
+counted stops "$wmax"
+counted again "$wmax"
+counted reasons "$wmax"
 counted examples "$wmax"
 ok 'the example in its text' env WMAX="$wmax" python3 -m doctest python/wmax.py
 
@@ -28,6 +33,31 @@ ok 'the example in its text' env WMAX="$wmax" python3 -m doctest python/wmax.py
 sed -n '/^```python$/,/^```$/p' README.md | grep -v '^```' > "$work/readme.py"
 out=$(WMAX=$wmax PYTHONPATH=python timeout 60 python3 "$work/readme.py" 2>&1 < /dev/null)
 ok 'the lines in README.md' [ -n "$out" -a "$out" = "$(sed -n 's/.*)  # //p' "$work/readme.py")" ]
+
+# line NAME STATUS STDOUT WORD..: `python3 -m wmax` with these words, in the folder of this script
+line() {
+    local name=$1 wanted=$2 printed=$3
+    shift 3
+    out=$(cd "$work" && WMAX=$wmax PYTHONPATH=$OLDPWD/python timeout 60 python3 -m wmax "$@" 2> .err < /dev/null)
+    status=$?
+    err=$(cat "$work/.err")
+    ok "python3 -m wmax: $name" [ "$status $out" = "$wanted $printed" ]
+}
+lines a.wcnf 'c 1 = tea' 'c 2 = coffee' 'c one of them' 'h 1 2 0' 'c tea costs' '3 -1 0' 'c coffee costs' '4 -2 0'
+printf '%s\n' 'p wcnf 2 3 8' '8 1 2 0' '3 -1 0' '3 -2 0' | gzip > "$work/b.wcnf.gz"
+lines c.wcnf 'c 1 = tea' 'c it is late' 'h -1 0' 'c tea is wanted' 'h 1 0'
+line 'an optimum' 30 $'It costs 3, and nothing costs less, which was checked.\ntrue: tea\n     3  tea costs' a.wcnf
+line 'variables without names' 30 $'It costs 3, and nothing costs less, which was checked.\nv 10\n     3  not variable 1' b.wcnf.gz
+line 'all optima' 30 $'It costs 3, and nothing costs less, which was checked.\ntrue: tea\n     3  tea costs\nNo other solution costs as little.' --optima 5 --plot a.svg a.wcnf
+ok 'python3 -m wmax: the picture' grep -q '^</svg>$' "$work/a.svg"
+line 'no solution' 20 $'No assignment satisfies the hard clauses, which was checked. 2 of them do not go together:\n  it is late\n  tea is wanted' c.wcnf
+line 'no effort' 0 'no solution was met by this effort' --conflicts 0 a.wcnf
+line 'files that stay' 30 $'It costs 3, and nothing costs less, which was checked.\ntrue: tea\n     3  tea costs' --folder=-here a.wcnf
+call check --profile any ./-here/instance.{wcnf,result,lrat}
+expect 'they check' 0 YES ''
+line 'no file' 2 '' missing
+ok 'python3 -m wmax: what is missing' grep -q "^error: $work/missing: No such file" <<< "$err"
+line 'no words' 2 ''
 
 # example NAME WORD..: examples/NAME.py
 example() {

@@ -76,7 +76,7 @@ formula_true profile p k t =
     (adders_as profile p).outputs k i)
 
 -- what is given up for a soft clause, and what it costs
-abbrev given_up : Assignment → Relaxed → ℕ
+abbrev pub given_up : Assignment → Relaxed → ℕ
 given_up t e = if literal_value t e.literal then (e.soft).weight else 0
 
 value_with : (t : Assignment) (c : List Literal) (l : Literal)
@@ -156,7 +156,7 @@ tight_clauses t (e ∷ es) h =
     either true = refl
     either false = refl
 
-tight_cost : (t : Assignment) (relaxing : Relaxing) (v : ℕ) (ss : List SoftClause)
+pub tight_cost : (t : Assignment) (relaxing : Relaxing) (v : ℕ) (ss : List SoftClause)
     → AllByRecursion (IsRelaxedTightly t) (relaxed_from relaxing v ss)
     → sum_by (given_up t) (relaxed_from relaxing v ss) ≡ sum_by (cost_of t) ss
 tight_cost t relaxing v [] h = refl
@@ -173,7 +173,7 @@ tight_cost t relaxing v (s ∷ ss) h =
     turned true n = refl
     turned false n = refl
 
-soft_within : (n : ℕ) (relaxing : Relaxing) (v : ℕ) (ss : List SoftClause) → AreWithin n ss
+pub soft_within : (n : ℕ) (relaxing : Relaxing) (v : ℕ) (ss : List SoftClause) → AreWithin n ss
     → AllByRecursion (λ e. greatest_variable (e.soft).clause ≤ n) (relaxed_from relaxing v ss)
 soft_within n relaxing v [] h = tt
 soft_within n relaxing v (s ∷ ss) h = (
@@ -181,7 +181,7 @@ soft_within n relaxing v (s ∷ ss) h = (
   soft_within n relaxing (if (relaxed_one relaxing v s).is_fresh then v + 1 else v) ss h.1,
 )
 
-tight_same : (n m : ℕ) (t u : Assignment) (es : List Relaxed) → n ≤ m → SameUpTo m t u
+pub tight_same : (n m : ℕ) (t u : Assignment) (es : List Relaxed) → n ≤ m → SameUpTo m t u
     → AreRelaxedBelow (m + 1) es → AllByRecursion (λ e. greatest_variable (e.soft).clause ≤ n) es
     → AllByRecursion (IsRelaxedTightly t) es → AllByRecursion (IsRelaxedTightly u) es
 tight_same n m t u [] le same low within h = tt
@@ -191,7 +191,7 @@ tight_same n m t u (e ∷ es) le same low within h = (
   tight_same n m t u es le same low.1 within.1 h.1,
 )
 
-cost_same : (n : ℕ) (t u : Assignment) (ss : List SoftClause) → SameUpTo n t u → AreWithin n ss
+pub cost_same : (n : ℕ) (t u : Assignment) (ss : List SoftClause) → SameUpTo n t u → AreWithin n ss
     → sum_by (cost_of u) ss ≡ sum_by (cost_of t) ss
 cost_same n t u [] same h = refl
 cost_same n t u (s ∷ ss) same h =

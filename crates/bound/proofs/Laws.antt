@@ -12,3 +12,6 @@ pub use Rattle.bound.proofs.Fits.{compared_once, comparator_once, kept_once, out
 pub use Rattle.bound.proofs.Kept.{same_literals}
 pub use Rattle.bound.proofs.RelaxedHold.{relaxed_hold}
 pub use Rattle.bound.proofs.Subsets.{all_reverse}
+pub use Rattle.bound.proofs.WeightedCost.{AreTight, feasible_same, weighted_below, weighted_choice}
+pub use Rattle.bound.proofs.WeightedCost.{weighted_cost, weighted_hold, weighted_same}
+pub use Rattle.bound.proofs.WeightedCost.{solution_cost}

@@ -17,6 +17,7 @@ mod Parts
 mod RelaxedParts
 mod WeightedParts
 mod Weights
+mod WeightedCost
 mod WeightLimits
 mod RelaxedHold
 mod Lines

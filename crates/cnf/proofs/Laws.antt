@@ -22,4 +22,5 @@ pub use Rattle.cnf.proofs.Complements.{contained_true, tautologies-more, tautolo
 pub use Rattle.cnf.proofs.Repeats.{absent_own, repeat_distinct, repeat_push, repeats-more}
 pub use Rattle.cnf.proofs.Results.{on_err_at, on_ok_at}
 pub use Rattle.cnf.proofs.Rising.{rises_least, rises_weaker, rising_from}
-pub use Rattle.cnf.proofs.Sound.{literal_eq-true, negation-value}
+pub use Rattle.cnf.proofs.Sound.{AllHold, literal_eq-true, negation-value, rup_holds}
+pub use Rattle.cnf.proofs.Sound.{value-negation}

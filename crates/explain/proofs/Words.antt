@@ -3,7 +3,7 @@ use Rattle.std.proofs.Common.{◌≡◌, ℕ, ◌<◌, false, List, [], ◌∷�
 use Rattle.std.proofs.Common.{◌==◌}
 use lib.Chars.{codes}
 use Rattle.std.proofs.lemmas.Bool.{false≢true, lt-ltb}
-use Rattle.explain.specs.Explanation.{shown_text}
+use Rattle.explain.specs.Showing.{shown_text}
 use Rattle.explain.specs.Mending.{cut_text, place_text, word_line}
 use Rattle.explain.specs.declared.mending.TheConstants.{MOST_SHOWN}
 

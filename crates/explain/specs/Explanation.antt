@@ -1,41 +1,11 @@
 -- What is explained of a result: which lines are written, and whether the bits are right.
-use Rattle.std.specs.Prelude.{ℕ, ◌+◌, ◌-◌, Bool, not, ◌&&◌, ◌||◌, List, [], ◌∷◌, ◌++◌}
-use Rattle.std.specs.Prelude.{Option, Some, None, nat_le, nat_lt, ◌==◌, if◌then◌else◌, slice_get}
+use Rattle.std.specs.Prelude.{ℕ, ◌+◌, List, [], ◌∷◌, ◌++◌}
+use Rattle.std.specs.Prelude.{Option, Some, None, ◌==◌, if◌then◌else◌, slice_get}
 use Rattle.std.specs.Fmt.{decimal}
 use lib.Chars.{codes}
 use Rattle.explain.specs.declared.falsified.GivenUp.{GivenUp}
 use Rattle.explain.specs.ClauseLines.{SourceLine}
-
--- How many continuation bytes of UTF-8 may follow a byte, where so many could before it. Behind C2
--- none is counted: there 128 to 159 command a terminal, and greater ones are shown anyway.
-abbrev pub left_behind : ℕ → ℕ → ℕ
-left_behind left b =
-    if nat_lt b 128 then 0
-    else if nat_lt b 192 then left - 1
-    else if nat_lt b 195 then 0
-    else if nat_lt b 224 then 1
-    else if nat_lt b 240 then 2
-    else if nat_lt b 245 then 3
-    else 0
-
--- A byte that would command a terminal, where so many continuation bytes may come: below 32 but for
--- the tab, 127, and 128 to 159 where none may.
-abbrev pub is_control : ℕ → ℕ → Bool
-is_control left b =
-    (nat_lt b 32 && not (b == 9)) || ((b == 127)
-    || ((left == 0) && (nat_le 128 b && nat_lt b 160)))
-
--- a byte of a line as it is written: a question mark for one that would command
-abbrev pub shown : ℕ → ℕ → ℕ
-shown left b = if is_control left b then 63 else b
-
-abbrev pub shown_behind : ℕ → List ℕ → List ℕ
-shown_behind left [] = []
-shown_behind left (b ∷ bs) = shown left b ∷ shown_behind (left_behind left b) bs
-
--- a line as it is written
-abbrev pub shown_text : List ℕ → List ℕ
-shown_text line = shown_behind 0 line
+use Rattle.explain.specs.Showing.{shown_text}
 
 abbrev pub comment_text : List ℕ → List ℕ
 comment_text [] = []

@@ -1,4 +1,5 @@
 pub mod ClauseLines
+pub mod Contradicting
 pub mod Explained
 pub mod Explanation
 pub mod Falsified
@@ -6,5 +7,6 @@ pub mod Judging
 pub mod Mending
 pub mod Names
 pub mod Sheets
+pub mod Showing
 pub mod Summary
 pub mod Vectors

@@ -1,12 +1,12 @@
 -- What is shown of a faulty text.
-use Rattle.std.specs.Prelude.{ℕ, List, [], ◌∷◌, ◌++◌, length, take, Option, nat_lt, ◌==◌}
-use Rattle.std.specs.Prelude.{if◌then◌else◌}
+use Rattle.std.specs.Prelude.{ℕ, Bool, ◌||◌, List, [], ◌∷◌, ◌++◌, length, take, Option, nat_lt}
+use Rattle.std.specs.Prelude.{◌==◌, bytes_eq, if◌then◌else◌}
 use Rattle.std.specs.Fmt.{decimal}
 use Rattle.std.specs.Io.KnownBytes.{Appends}
 use lib.Chars.{codes}
 use Rattle.text.specs.Text.{numbered_text}
 use Rattle.text.specs.Writing.{AppendsPart}
-use Rattle.explain.specs.Explanation.{shown_text}
+use Rattle.explain.specs.Showing.{shown_text}
 use Rattle.explain.specs.declared.mending.TheConstants.{MOST_SHOWN}
 
 -- the line of this number; nothing where there is none
@@ -16,6 +16,12 @@ line_in (l ∷ ls) n = if l.0 == n then l.1 else line_in ls n
 
 abbrev pub line_of : List ℕ → ℕ → List ℕ
 line_of text n = line_in (numbered_text text) n
+
+-- the text begins as a file of gzip does (RFC 1952), or as one of xz
+abbrev pub is_packed : List ℕ → Bool
+is_packed text =
+    bytes_eq (take 2 text) (31 ∷ 139 ∷ [])
+    || bytes_eq (take 6 text) (253 ∷ 55 ∷ 122 ∷ 88 ∷ 90 ∷ 0 ∷ [])
 
 -- bytes as they are shown, and cut off at a limit
 abbrev pub cut_text : List ℕ → List ℕ

@@ -2,7 +2,7 @@
 use Rattle.std.specs.Prelude.{◌≡◌, [], ◌∷◌, true, false, refl}
 use Rattle.cnf.specs.Literal.{positive as p, negative as n}
 use Rattle.cnf.specs.Problem.{Problem}
-use Rattle.explain.specs.Explanation.{shown_text}
+use Rattle.explain.specs.Showing.{shown_text}
 use Rattle.explain.specs.Falsified.{false_soft, false_hard}
 
 abbrev one_of_two : Problem
@@ -20,11 +20,21 @@ given_up = refl
 broken : false_hard one_of_two (false ∷ false ∷ []) ≡ 0 ∷ []
 broken = refl
 
--- an umlaut (C3 84) and an em dash (E2 80 94) are shown whole
-two_characters :
-    shown_text (195 ∷ 132 ∷ 226 ∷ 128 ∷ 148 ∷ []) ≡ 195 ∷ 132 ∷ 226 ∷ 128 ∷ 148 ∷ []
-two_characters = refl
+-- an umlaut (C3 84), an em dash (E2 80 94) and a violin clef (F0 9D 84 9E) are shown whole
+three_characters :
+    shown_text (195 ∷ 132 ∷ 226 ∷ 128 ∷ 148 ∷ 240 ∷ 157 ∷ 132 ∷ 158 ∷ [])
+    ≡ 195 ∷ 132 ∷ 226 ∷ 128 ∷ 148 ∷ 240 ∷ 157 ∷ 132 ∷ 158 ∷ []
+three_characters = refl
 
--- ESC, and the control sequence introducer (9B) by itself and as UTF-8 (C2 9B)
-three_commands : shown_text (27 ∷ 155 ∷ 194 ∷ 155 ∷ []) ≡ 63 ∷ 63 ∷ 194 ∷ 63 ∷ []
-three_commands = refl
+-- ESC, the control sequence introducer as U+009B and as a byte, and U+202E
+commands :
+    shown_text (27 ∷ 194 ∷ 155 ∷ 155 ∷ 226 ∷ 128 ∷ 174 ∷ [])
+    ≡ 63 ∷ 63 ∷ 63 ∷ 63 ∷ 63 ∷ 63 ∷ 63 ∷ []
+commands = refl
+
+-- ESC spelled in two, three and four bytes, a surrogate, and a character that is cut off
+no_characters :
+    shown_text (192 ∷ 155 ∷ 224 ∷ 128 ∷ 155 ∷ 240 ∷ 128 ∷ 128 ∷ 155 ∷ 237 ∷ 160 ∷ 128 ∷ 226 ∷ 128
+    ∷ [])
+    ≡ 63 ∷ 63 ∷ 63 ∷ 63 ∷ 63 ∷ 63 ∷ 63 ∷ 63 ∷ 63 ∷ 63 ∷ 63 ∷ 63 ∷ 63 ∷ 63 ∷ []
+no_characters = refl

@@ -85,9 +85,9 @@ const BYTE_ORDER_MARK: &str =
 /// The byte order marks of UTF-8 and UTF-16.
 const ORDER_MARKS: [&[u8]; 3] = [b"\xef\xbb\xbf", b"\xff\xfe", b"\xfe\xff"];
 
-const GZIP: &str = "FILE is compressed: give it as '<(zcat FILE)'.";
+pub(crate) const GZIP: &str = "FILE is compressed: give it as '<(zcat FILE)'.";
 
-const XZ: &str = "FILE is compressed: give it as '<(xzcat FILE)'.";
+pub(crate) const XZ: &str = "FILE is compressed: give it as '<(xzcat FILE)'.";
 
 const NO_BREAK_SPACE: &str =
     "It has a no-break space, which only looks like a space: type a plain one.";

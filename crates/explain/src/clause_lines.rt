@@ -1,4 +1,4 @@
-// Which lines of a text have its clauses, with the comments above them. The text reads as an
+// Which lines of a text have its clauses, each with the comment that belongs to it. The text reads as an
 // instance: what is no clause there is blank, a comment, or the header of the older form.
 ghost use Rattle.std.specs.Prelude.{◌≡◌};
 
@@ -14,8 +14,8 @@ pub(crate) struct ClauseLine<'a> {
     line: u64,
     // The line.
     text: &'a [u8],
-    // The last comment above it that names no variable, unless a blank line or an empty comment is
-    // between; else empty.
+    // The last comment between the clause before it and this one that names no variable, unless a
+    // blank line or an empty comment follows it; else empty.
     comment: &'a [u8],
 }
 
@@ -42,8 +42,8 @@ impl<'a> ClauseLine<'a> {
         self.text
     }
 
-    /// The last comment above it that names no variable, unless a blank line or an empty comment is
-    /// between; else empty.
+    /// The last comment between the clause before it and this one that names no variable, unless a
+    /// blank line or an empty comment follows it; else empty.
     pub(crate) fn comment(&self) -> &[u8]
         ensures { result.now ≡ self.now.comment }
     {
@@ -86,15 +86,25 @@ impl<'a> ClauseLines<'a> {
                 Some([b'c']) => comment = comment_in(text),
                 Some([b'c', ..]) => comment = text,
                 Some([b'p']) => hard_word = last_token(text),
-                Some(word) if word == hard_word => clauses.add_hard(clause, wanted)?,
-                Some(_) => clauses.soft.push(clause)?,
+                Some(word) => {
+                    clauses.add(clause, word == hard_word, wanted)?;
+                    comment = b"";
+                }
             }
         }
         Ok(clauses)
     }
 
-    /// A hard clause comes, which is kept where it was asked for.
-    fn add_hard(&mut self, clause: ClauseLine<'a>, wanted: &[u32]) -> Result<(), AllocError> {
+    /// A clause comes; a hard one is kept where it was asked for.
+    fn add(
+        &mut self,
+        clause: ClauseLine<'a>,
+        is_hard: bool,
+        wanted: &[u32],
+    ) -> Result<(), AllocError> {
+        if !is_hard {
+            return self.soft.push(clause).map_err(AllocError::from);
+        }
         if wanted.get(self.hard.len()) == Some(&self.hard_count) {
             self.hard.push(clause)?;
         }

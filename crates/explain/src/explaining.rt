@@ -115,7 +115,8 @@ fn explain_report<W: Write>(
     }
 }
 
-const NO_SOLUTION: &[u8] = b"the result has no bits: it says that there is no solution\n";
+pub(crate) const NO_SOLUTION: &[u8] =
+    b"the result has no bits: it says that there is no solution\n";
 
 const NOTHING_MET: &[u8] = b"the result has no bits: no solution was met\n";
 

@@ -3,6 +3,7 @@
 
 mod advice;
 mod clause_lines;
+pub mod contradicting;
 pub mod explaining;
 pub mod falsified;
 pub mod judging;
@@ -10,4 +11,5 @@ pub mod mending;
 mod names;
 mod putting;
 mod sheet;
+pub mod showing;
 pub mod summary;

@@ -1,13 +1,13 @@
 //! What is shown of a faulty text, for the person who has to mend it: the line, the word, and what
 //! would mend it.
-ghost use Rattle.std.specs.Prelude.{◌≡◌, ℕ, List, take, OnOk, OnErr};
+ghost use Rattle.std.specs.Prelude.{◌≡◌, ℕ, List, take, OnOk, OnErr, ◌↔◌, IsSome, IsTrue};
 ghost use Rattle.explain.specs.Sheets.{Displays};
-ghost use Rattle.explain.specs.Mending.{BreaksMending, Mends, cut_text, line_of, place_text};
-ghost use Rattle.explain.specs.Mending.{shown_line, word_line};
+ghost use Rattle.explain.specs.Mending.{BreaksMending, Mends, cut_text, is_packed, line_of};
+ghost use Rattle.explain.specs.Mending.{place_text, shown_line, word_line};
 
-use crate::advice::{Advice, advise};
-use crate::putting::put_shown;
+use crate::advice::{Advice, GZIP, XZ, advise};
 use crate::sheet::Sheet;
+use crate::showing::put_shown;
 use std::io::Write;
 use text::cutting::{lines, tokens};
 use text::output::WriteFault;
@@ -39,6 +39,17 @@ pub fn write_mending<W: Write>(
     put_line(&mut sheet, writer, line);
     put_advice(&mut sheet, writer, &advice);
     sheet.finish(writer)
+}
+
+/// What to do with a text that begins as a file of gzip or of xz does; nothing where it does not.
+pub fn advise_unpacking(text: &[u8]) -> Option<&'static str>
+    ensures { IsSome result ↔ IsTrue (is_packed text.now) }
+{
+    match text {
+        [0x1f, 0x8b, ..] => Some(GZIP),
+        [0xfd, b'7', b'z', b'X', b'Z', 0, ..] => Some(XZ),
+        _ => None,
+    }
 }
 
 /// The line of this number; nothing where there is none.

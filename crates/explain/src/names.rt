@@ -6,8 +6,8 @@ ghost use Rattle.explain.specs.Names.{is_true_variable, name_line, name_text, na
 ghost use Rattle.explain.specs.Names.{words_text};
 
 use crate::falsified::is_true;
-use crate::putting::put_shown;
 use crate::sheet::Sheet;
+use crate::showing::put_shown;
 use std::io::Write;
 use text::cutting::{lines, tokens};
 use text::pieces::Tokens;

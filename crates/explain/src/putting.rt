@@ -1,15 +1,15 @@
 // The lines of an explanation.
-ghost use Rattle.std.specs.Prelude.{◌≡◌, ◌<◌, ◌^◌, sum_by};
+ghost use Rattle.std.specs.Prelude.{◌<◌, ◌^◌, sum_by};
 ghost use Rattle.std.specs.List.{flat_map};
 ghost use Rattle.explain.specs.Sheets.{Displays};
 ghost use Rattle.explain.specs.Explanation.{bits_line, broken_line, comment_text, cost_line};
-ghost use Rattle.explain.specs.Explanation.{count_line, is_control, left_behind, paid_line};
-ghost use Rattle.explain.specs.Explanation.{paid_lines, shown, shown_text, source_text};
+ghost use Rattle.explain.specs.Explanation.{count_line, paid_line, paid_lines, source_text};
 ghost use Rattle.explain.specs.Explanation.{source_text_at, told_text};
 
 use crate::clause_lines::ClauseLine;
 use crate::falsified::GivenUp;
 use crate::sheet::Sheet;
+use crate::showing::put_shown;
 use std::io::Write;
 
 /// There are too few or too many bits.
@@ -118,8 +118,8 @@ pub(crate) fn put_broken<W: Write>(sheet: &mut Sheet, writer: &mut W, hard: &[Cl
     }
 }
 
-/// A line of the text with its number, and the comment above it.
-fn put_source<W: Write>(sheet: &mut Sheet, writer: &mut W, clause_line: &ClauseLine<'_>)
+/// A line of the text with its number, and its comment.
+pub(crate) fn put_source<W: Write>(sheet: &mut Sheet, writer: &mut W, clause_line: &ClauseLine<'_>)
     ensures { Displays (W.contents writer.old) sheet.old (source_text clause_line.now)
         (W.contents writer.new) sheet.new }
 {
@@ -142,53 +142,4 @@ fn put_comment<W: Write>(sheet: &mut Sheet, writer: &mut W, comment: &[u8])
     sheet.put(writer, b"    ");
     put_shown(sheet, writer, comment);
     sheet.put(writer, b"\n");
-}
-
-/// A line, with a question mark for each byte that would command a terminal.
-pub(crate) fn put_shown<W: Write>(sheet: &mut Sheet, writer: &mut W, line: &[u8])
-    ensures { Displays (W.contents writer.old) sheet.old (shown_text line.now)
-        (W.contents writer.new) sheet.new }
-{
-    let mut left = 0;
-    for byte in line {
-        sheet.put(writer, &[show(left, *byte)]);
-        left = left_behind(left, *byte);
-    }
-}
-
-/// The byte, or a question mark for one that would command a terminal, where so many continuation
-/// bytes of UTF-8 may come.
-fn show(left: u32, byte: u8) -> u8
-    ensures { result ≡ shown left byte }
-{
-    if is_control(left, byte) { b'?' } else { byte }
-}
-
-/// Whether the byte would command a terminal: it is below 32 and no tab, or 127, or one of 128 to
-/// 159 where no continuation byte of UTF-8 is expected.
-fn is_control(left: u32, byte: u8) -> bool
-    ensures { result ≡ is_control left byte }
-{
-    byte < 32 && byte != b'\t' || byte == 127 || left == 0 && 128 <= byte && byte < 160
-}
-
-/// How many continuation bytes of UTF-8 may follow the byte, where so many could before it.
-fn left_behind(left: u32, byte: u8) -> u32
-    ensures { result ≡ left_behind left byte }
-{
-    if byte < 128 {
-        0
-    } else if byte < 192 {
-        left.saturating_sub(1)
-    } else if byte < 195 {
-        0
-    } else if byte < 224 {
-        1
-    } else if byte < 240 {
-        2
-    } else if byte < 245 {
-        3
-    } else {
-        0
-    }
 }

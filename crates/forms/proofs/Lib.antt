@@ -4,5 +4,9 @@ mod FactSizes
 mod Staging
 mod MassLaws
 mod Knowing
+mod NextOutput
 mod Withins
 mod Widths
+mod NewCount
+mod Weighing
+mod FormLines

@@ -1,6 +1,6 @@
 -- How much facts add to a form.
 use Rattle.std.proofs.Common.{◌≡◌, ℕ, ◌+◌, ◌*◌, ◌<◌, ◌≤◌, ◌^◌, List, length, arith}
-use Rattle.std.proofs.Math.Nat.{mul-le-mul_left}
+use Rattle.std.proofs.Math.Nat.{mul-add, mul-le-mul_left}
 use Rattle.cnf.specs.Literal.{Literal}
 use Rattle.forms.specs.Forms.{clause_size}
 use Rattle.forms.specs.Kept.{most_mass}
@@ -24,3 +24,17 @@ mass_room terms made h g = grind arith
 pub clause_weighed : (w : ℕ) (c : List Literal) → w ≤ 2 ^ 62
     → 2 * w * length c + w ≤ 3 * 2 ^ 62 * clause_size c
 clause_weighed w c h = omega (arith, weighed w (length c) h)
+
+-- one more output of a count, which takes a clause or more
+pub output_mass : (terms made n mass multiplier : ℕ) → mass ≤ most_mass terms made → 1 ≤ n
+    → multiplier ≤ terms * 2 ^ 62 → mass + 2 * multiplier ≤ most_mass terms (made + n)
+output_mass terms made n mass multiplier h some often =
+    let d : terms * (made + n) ≡ terms * made + terms * n = mul-add terms made n in
+    let one : terms * 1 ≤ terms * n = mul-le-mul_left terms some in
+    grind arith
+
+-- more clauses
+pub mass_rises : (terms made n : ℕ) → most_mass terms made ≤ most_mass terms (made + n)
+mass_rises terms made n =
+    let d : terms * (made + n) ≡ terms * made + terms * n = mul-add terms made n in
+    grind arith

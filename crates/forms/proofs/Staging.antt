@@ -1,6 +1,6 @@
 -- Stages, one after another.
-use Rattle.std.proofs.Common.{◌≡◌, ℕ, zero, suc, ◌+◌, ◌<◌, ◌≤◌, List, [], ◌++◌, length, refl, sym, ◌∙◌}
-use Rattle.std.proofs.Common.{ap, subst, arith, append_assoc, append-nil, length-append}
+use Rattle.std.proofs.Common.{◌≡◌, ℕ, zero, suc, ◌+◌, ◌<◌, ◌≤◌, List, [], ◌++◌, length, refl}
+use Rattle.std.proofs.Common.{sym, ◌∙◌, ap, subst, arith, append_assoc, append-nil, length-append}
 use Rattle.cnf.specs.Literal.{Literal}
 use Rattle.totalizer.specs.Stages.{Tree, Leaf, Node, Staged, size_of, outputs_of, stage, stages}
 use Rattle.totalizer.specs.Grown.{HasStages}
@@ -26,8 +26,8 @@ stages_more (suc count) h v t =
     ap (staged_behind first.clauses) (stages_more count (h + 1) first.fresh first.tree)
     ∙ (λ i. record {
       tree = (stage (h + 1 + count) g.fresh g.tree).tree;
-      clauses = sym (append_assoc first.clauses g.clauses (stage (h + 1 + count) g.fresh g.tree).clauses)
-          i;
+      clauses = sym (append_assoc first.clauses g.clauses
+          (stage (h + 1 + count) g.fresh g.tree).clauses) i;
       fresh = (stage (h + 1 + count) g.fresh g.tree).fresh;
     })
     ∙ ap (λ k. staged_behind (first.clauses ++ g.clauses) (stage k g.fresh g.tree)) same
@@ -59,15 +59,16 @@ outputs_stages (suc count) v t many bare few =
     (stages_has (suc count) 0 v t bare)) (omega arith)
     (omega (arith, stages_size (suc count) 1 v t))
 
+-- there is a leaf
+pub some_leaf : (t : Tree) → 1 ≤ size_of t
+some_leaf (Leaf l) = omega arith
+some_leaf (Node a b outputs) = omega (arith, some_leaf a, some_leaf b)
+
 -- a leaf has no more stages
 pub leaf_stages : (v : ℕ) (t : Tree) → size_of t ≡ 1
     → stages 1 1 v t ≡ record { tree = t; clauses = []; fresh = v }
 leaf_stages v (Leaf l) one = refl
-leaf_stages v (Node a b outputs) one = absurd (omega (arith, some a, some b))
-  where
-    some : (t : Tree) → 1 ≤ size_of t
-    some (Leaf l) = omega arith
-    some (Node a b outputs) = omega (arith, some a, some b)
+leaf_stages v (Node a b outputs) one = absurd (omega (arith, some_leaf a, some_leaf b))
 
 -- how many clauses there are with the next stage
 pub next_length : (d v : ℕ) (t now : Tree) (n : ℕ) → now ≡ (stages d 1 v t).tree

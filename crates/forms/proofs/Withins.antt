@@ -1,6 +1,8 @@
--- What is known of counts and groups, when there are more terms.
-use Rattle.std.proofs.Common.{ℕ, ◌+◌, ◌*◌, ◌≤◌, ◌^◌, List, arith}
+-- What is known of counts and groups, when there are more terms or variables.
+use Rattle.std.proofs.Common.{ℕ, ◌+◌, ◌*◌, ◌≤◌, ◌^◌, List, length, arith}
 use Rattle.std.specs.Prelude.{All}
+use Rattle.std.proofs.lemmas.List.Elements.{All-weaker}
+use Rattle.totalizer.proofs.Laws.{tree_below_more}
 use Rattle.forms.specs.declared.numbered.Numbered.{Numbered as Stamped}
 use Rattle.forms.specs.declared.numbered.Numbered.TheVariants.{Count as StampedCount}
 use Rattle.forms.specs.declared.numbered.Numbered.TheVariants.{Group as StampedGroup}
@@ -30,3 +32,24 @@ pub size_some : (variables terms p : ℕ) (x : Stamped) → IsWithin variables t
     → 1 ≤ numbered_size (numbered_at p x)
 size_some variables terms p (StampedGroup lits) h = omega (arith, h.0)
 size_some variables terms p (StampedCount c) h = omega (arith, h.some)
+
+pub wider_one : (v w terms : ℕ) (n : Stamped) → v ≤ w → IsWithin v terms n
+    → IsWithin w terms n
+wider_one v w terms (StampedGroup lits) le h = (
+  h.0,
+  All-weaker (λ l. l.variable ≤ v) (λ l. l.variable ≤ w) (λ l p. omega (arith, p))
+      lits.items h.1,
+)
+wider_one v w terms (StampedCount c) le h = record {
+  some = h.some;
+  known = All-weaker (λ l. l.variable ≤ v) (λ l. l.variable ≤ w) (λ l p. omega (arith, p))
+      c.inputs.items h.known;
+  below = tree_below_more (v + 1) (w + 1) c.totalizer (omega arith) h.below;
+  stages = h.stages;
+  small = h.small;
+  often = h.often;
+}
+
+pub within_wider : (v w terms : ℕ) (xs : List Stamped) → v ≤ w → All (IsWithin v terms) xs
+    → All (IsWithin w terms) xs
+within_wider v w terms xs le h k d lt = wider_one v w terms _ le (h k d lt)

@@ -3,8 +3,8 @@
 -- enough. A form is a multiple of the cost, less multiples of facts. So it is at most that multiple
 -- of the cost, and what its least value exceeds is too dear.
 use Rattle.std.specs.Prelude.{◌≡◌, ℕ, zero, suc, ℤ, pos, negsuc, ◌+ℤ◌, ◌-ℤ◌, ◌*ℤ◌, ◌+◌, ◌-◌, ◌*◌}
-use Rattle.std.specs.Prelude.{◌/◌, min, max, Bool, true, false, not, ◌&&◌, ◌||◌, List, [], ◌∷◌, ◌++◌}
-use Rattle.std.specs.Prelude.{length, map, Option, Some, None, Result, Ok, Err, nat_le, ◌==◌}
+use Rattle.std.specs.Prelude.{◌/◌, min, max, Bool, true, false, not, ◌&&◌, ◌||◌, List, [], ◌∷◌}
+use Rattle.std.specs.Prelude.{◌++◌, length, map, Option, Some, None, Result, Ok, Err, nat_le, ◌==◌}
 use Rattle.std.specs.Prelude.{slice_get, slice_set, if◌then◌else◌}
 use Rattle.std.specs.List.{list_all, list_any}
 use Rattle.std.specs.Option.{option_map}
@@ -13,8 +13,8 @@ use Rattle.cnf.specs.Clause.{contains_literal, greatest_variable, has_repeat, is
 use Rattle.cnf.specs.declared.limits.TheConstants.{NUMBER_LIMIT}
 use Rattle.totalizer.specs.Stages.{Tree, Staged, outputs_of, size_of, stage, totalizer_of}
 use Rattle.linear.specs.Linear.{Linear, plus_constant, plus_literals}
-use Rattle.linear.specs.Costs.{CostForm, fixed_by, falsified, form_of, least, least_where, restarted}
-use Rattle.linear.specs.Costs.{widened}
+use Rattle.linear.specs.Costs.{CostForm, fixed_by, falsified, form_of, least, least_where}
+use Rattle.linear.specs.Costs.{restarted, widened}
 use Rattle.cnf.specs.Refute.{Clauses}
 use Rattle.forms.specs.declared.types.NamedFact.{NamedFact}
 use Rattle.forms.specs.declared.faults.LineFault.{LineFault}
@@ -85,16 +85,17 @@ with_stage s g next =
       clauses = g.clauses;
     }) else Err Limit
 
+-- a count of these literals has such a totalizer; no form has its fact
+abbrev pub counted : List Literal → Forms → Staged → Result Made LineFault
+counted inputs s g = with_stage s g (λ t. record t {
+  numbered = s.numbered ++ Count inputs g.tree 0 ∷ [];
+})
+
 -- a count of these literals, with so many outputs
 abbrev pub count_line : ℕ → List Literal → Forms → Result Made LineFault
 count_line outputs inputs s =
     if are_known s inputs && nat_le 1 outputs && nat_le outputs (length inputs) then
-    counted (totalizer_of outputs (s.variables + 1) inputs) else Err Name
-  where
-    counted : Staged → Result Made LineFault
-    counted g = with_stage s g (λ t. record t {
-      numbered = s.numbered ++ Count inputs g.tree 0 ∷ [];
-    })
+    counted inputs s (totalizer_of outputs (s.variables + 1) inputs) else Err Name
 
 -- by number from 1
 abbrev pub at_number : List Numbered → ℕ → Option Numbered
@@ -105,31 +106,33 @@ at_number ns (suc j) = slice_get ns j
 abbrev pub plus : ℤ → List Literal → CostForm → CostForm
 plus w ls f = record f { rest = plus_literals w ls f.rest }
 
--- one more output of the count with this number, which belongs to the count's fact in the form
+-- the last of the literals, if there is one
+abbrev pub last_of : List Literal → List Literal
+last_of [] = []
+last_of (l ∷ []) = l ∷ []
+last_of (l ∷ k ∷ more) = last_of (k ∷ more)
+
+-- the stage that makes a count's next output; new variables from v on
+abbrev pub next_stage : ℕ → Tree → Staged
+next_stage v tree = stage (length (outputs_of tree) + 1) v tree
+
+-- the count with this number has one more output, which belongs to the count's fact in the form
+abbrev pub more_grown : ℕ → List Literal → ℕ → Forms → Staged → Result Made LineFault
+more_grown number inputs multiplier s g = with_stage s g (λ t. record t {
+  form = plus (pos multiplier) (last_of (outputs_of g.tree)) t.form;
+  numbered = slice_set s.numbered (number - 1) (Count inputs g.tree multiplier);
+})
+
+-- one more output of the count with this number
 abbrev pub more_line : ℕ → Forms → Result Made LineFault
 more_line number s = by (at_number s.numbered number)
   where
-    -- the outputs of the last stage
-    latest : Tree → List Literal
-    latest t = lasts (outputs_of t)
-      where
-        lasts : List Literal → List Literal
-        lasts [] = []
-        lasts (l ∷ []) = l ∷ []
-        lasts (l ∷ k ∷ more) = lasts (k ∷ more)
-
-    grown : List Literal → ℕ → Staged → Result Made LineFault
-    grown inputs multiplier g = with_stage s g (λ t. record t {
-      form = plus (pos multiplier) (latest g.tree) t.form;
-      numbered = slice_set s.numbered (number - 1) (Count inputs g.tree multiplier);
-    })
-
     by : Option Numbered → Result Made LineFault
     by None = Err Name
     by (Some (Group inputs)) = Err Name
     by (Some (Count inputs tree multiplier)) =
         if nat_le (size_of tree) (length (outputs_of tree)) then Err Name else
-        grown inputs multiplier (stage (length (outputs_of tree) + 1) (s.variables + 1) tree)
+        more_grown number inputs multiplier s (next_stage (s.variables + 1) tree)
 
 -- the pairs of each literal with those before it
 abbrev pub pairs_with : Literal → List Literal → List (Literal × Literal)
@@ -207,6 +210,11 @@ less_clause w c s = record s {
 abbrev pub less_item : ℕ → Numbered → CostForm → CostForm
 less_item w (Group inputs) f = plus_number (pos 0 -ℤ pos w) (plus (pos w) inputs f)
 less_item w (Count inputs tree multiplier) f = plus (pos w) (outputs_of tree) (less w inputs f)
+
+-- the form has its fact so many times; no group's is counted
+abbrev pub multiplier_of : Numbered → ℕ
+multiplier_of (Group inputs) = 0
+multiplier_of (Count inputs tree multiplier) = multiplier
 
 -- the form has its fact so many times more
 abbrev pub cited : ℕ → Numbered → Numbered

@@ -35,3 +35,9 @@ CanCite width (StampedGroup lits) =
 CanCite width (StampedCount c) =
     (0 < length c.inputs.items) × All (λ l. l.variable < width) c.inputs.items
     × All (λ l. l.variable < width) (outputs_of c.totalizer) × (c.multiplier ≤ 2 ^ 120)
+
+-- a count has fewer outputs than literals, and not too many
+abbrev pub CanGrow : Stamped → Type 0
+CanGrow (StampedGroup lits) = ⊥
+CanGrow (StampedCount c) =
+    (length (outputs_of c.totalizer) < size_of c.totalizer) × (size_of c.totalizer ≤ 2 ^ 26)

@@ -1,19 +1,22 @@
 // The state of forms and cuts: a method for each line.
 ghost use Rattle.std.specs.Prelude.{◌≡◌, ℕ, ◌+◌, ◌*◌, ◌<◌, ◌≤◌, ◌^◌, ◌∷◌, [], map, length, sum_by};
-ghost use Rattle.std.specs.Prelude.{All, IfOk, IfSome, OnErr, OnOk, Some};
+ghost use Rattle.std.specs.Prelude.{All, IfOk, IfSome, OnErr, OnOk, Some, true};
 ghost use Rattle.cnf.specs.declared.limits.TheConstants.{NUMBER_LIMIT};
 ghost use Rattle.adder.specs.Parts.{weight_in};
 ghost use Rattle.forms.specs.Forms.{forms_of, heard, count_line, more_line, group_line, form_line};
 ghost use Rattle.forms.specs.Forms.{are_known, at_number, begun, bound_line, clause_size, cut_line};
-ghost use Rattle.forms.specs.Forms.{fact_size, less_clause, less_fact, less_numbered, numbered_size};
-ghost use Rattle.forms.specs.Answers.{IsMade, IsTaken, IsFact};
+ghost use Rattle.forms.specs.Forms.{fact_size, less_clause, less_fact, less_facts, less_numbered};
+ghost use Rattle.forms.specs.Forms.{numbered_size};
+ghost use Rattle.forms.specs.Answers.{HasFormFault, HasRoom, HasSizeFault, IsFact, IsMade, IsTaken};
 
 use crate::citing::{subtract_clause, subtract_item};
 use crate::faults::{LineFault, MOST_COUNT_CLAUSES, MOST_TERMS};
 use crate::groups::are_excluded;
-use crate::growing::{add_stages, grow_item, more_fault, multiplier_of, widen};
+use crate::growing::{
+    add_output, add_stages, grow_item, more_fault, multiplier_of, push_count, widen,
+};
 use crate::known::{greatest_variable, repeats_variable};
-use crate::numbered::{Count, Numbered, next_stamp, numbered_size};
+use crate::numbered::{Numbered, next_stamp, numbered_size};
 use crate::sizes::{clause_size, facts_size};
 use crate::table::ClauseTable;
 use crate::types::NamedFact;
@@ -202,22 +205,66 @@ impl Forms {
         ensures { IfOk result (λ fault. IsTaken
             (form_line (T.at table.now) scale facts.now self.old) self.old self.new fault) }
     {
-        if scale.is_none() && !self.has_form {
-            return Ok(Some(LineFault::Name));
+        if let Some(fault) = self.form_fault(table, scale, facts) {
+            return Ok(Some(fault));
         }
-        let Some(size) = facts_size(&self.numbered, table, facts) else {
-            return Ok(Some(LineFault::Name));
-        };
-        if size > (MOST_TERMS - self.terms) as u128 {
-            return Ok(Some(LineFault::Limit));
+        self.begin_form(scale);
+        self.subtract_all(table, facts)?;
+        Ok(None)
+    }
+
+    /// Why a form line is refused, if it is.
+    fn form_fault<T: ClauseTable>(
+        &self,
+        table: &T,
+        scale: Option<u64>,
+        facts: &[NamedFact],
+    ) -> Option<LineFault>
+        ensures { HasFormFault (T.at table.now) scale facts.now self.now result }
+    {
+        match scale {
+            None if !self.has_form => Some(LineFault::Name),
+            None => self.size_fault(table, facts),
+            Some(_) => self.size_fault(table, facts),
         }
-        if let Some(scale) = scale {
-            self.begin(scale);
+    }
+
+    /// Why there is no room for the facts, if there is none.
+    fn size_fault<T: ClauseTable>(&self, table: &T, facts: &[NamedFact]) -> Option<LineFault>
+        ensures { HasSizeFault (T.at table.now) self.now facts.now result }
+    {
+        match facts_size(&self.numbered, table, facts) {
+            None => Some(LineFault::Name),
+            Some(size) if size > (MOST_TERMS - self.terms) as u128 => Some(LineFault::Limit),
+            Some(_) => None,
         }
+    }
+
+    /// Begins a form, if there is a scale: so many times the cost.
+    fn begin_form(&mut self, scale: Option<u64>)
+        requires { IfSome scale (λ d. d < NUMBER_LIMIT) }
+        ensures { self.new ≡ begun scale self.old }
+    {
+        match scale {
+            Some(scale) => self.begin(scale),
+            None => {}
+        }
+    }
+
+    /// Takes facts, which are there, off the present form.
+    fn subtract_all<T: ClauseTable>(
+        &mut self,
+        table: &T,
+        facts: &[NamedFact],
+    ) -> Result<(), AllocError>
+        requires facts { All IsFact facts.now }
+        requires room { HasRoom (T.at table.now) self.old facts.now }
+        ensures { OnOk result (self.new ≡ less_facts (T.at table.now) self.old facts.now) }
+    {
         for fact in facts {
             self.subtract(table, fact)?;
         }
-        Ok(None)
+        Ok(())
     }
 
     /// Begins a form: so many times the cost.
@@ -293,25 +340,35 @@ impl Forms {
         if outputs == 0 || outputs > inputs.len() as u64 || !self.are_known(inputs) {
             return Ok(Some(LineFault::Name));
         }
-        let alloc = *self.numbered.allocator();
-        let mut totalizer = Totalizer::new(alloc, inputs)?;
+        self.add_count(outputs as usize, inputs, clauses)
+    }
+
+    /// A count of literals that are there, with so many outputs, and its clauses. Answers `Limit`
+    /// where they are too many.
+    fn add_count(
+        &mut self,
+        outputs: usize,
+        inputs: &[Lit],
+        clauses: &mut ClauseList,
+    ) -> Result<Option<LineFault>, AllocError>
+        requires known { are_known self.old inputs.now ≡ true }
+        requires some { 1 ≤ outputs }
+        requires few { outputs ≤ length inputs.now }
+        requires none { clauses.old ≡ [] }
+        ensures { IfOk result (λ fault. IsMade (count_line outputs inputs.now self.old)
+            self.old self.new clauses.new fault) }
+    {
+        let mut totalizer = Totalizer::new(*self.numbered.allocator(), inputs)?;
         let room = MOST_COUNT_CLAUSES - self.made;
-        let fresh = self.variables + 1;
-        let Some(fresh) = add_stages(&mut totalizer, outputs as usize, fresh, room, clauses)? else {
+        let next = add_stages(&mut totalizer, outputs, self.variables + 1, room, clauses)?;
+        let Some(fresh) = next else {
             clauses.clear();
             return Ok(Some(LineFault::Limit));
         };
-        let inputs = Vec::from_slice(alloc, inputs)?;
-        self.numbered.reserve(1)?;
         widen(&mut self.bound, &mut self.marks, fresh)?;
+        push_count(&mut self.numbered, inputs, totalizer)?;
         self.variables = fresh - 1;
         self.made += clauses.len();
-        self.numbered.push(Numbered::Count(Count {
-            inputs,
-            totalizer,
-            multiplier: 0,
-            stamp: 0,
-        }))?;
         Ok(None)
     }
 
@@ -334,15 +391,14 @@ impl Forms {
         if let Some(fault) = more_fault(&self.numbered, number, self.made) {
             return Ok(Some(fault));
         }
-        let place = number as usize - 1;
-        let multiplier = multiplier_of(&self.numbered[place], self.present);
-        let item = &mut self.numbered[place];
-        match grow_item(item, &mut self.bound, &mut self.marks, self.variables + 1, clauses) {
-            Ok(fresh) => {
-                self.variables = fresh - 1;
+        let item = &mut self.numbered[number as usize - 1];
+        let multiplier = multiplier_of(item, self.present);
+        let fresh = self.variables + 1;
+        match grow_item(item, &mut self.bound, &mut self.marks, fresh, clauses) {
+            Ok(next) => {
+                self.variables = next - 1;
                 self.made += clauses.len();
-                let output = Lit::new(fresh - 1, false);
-                self.bound.add_literals(&[output], multiplier as i128);
+                add_output(&mut self.bound, next - 1, multiplier);
                 Ok(None)
             }
             Err(error) => {

@@ -1,5 +1,7 @@
 -- Literals that become false, one after the other.
-use Rattle.std.proofs.Common.{◌≡◌, ◌≢◌, ℕ, zero, suc, ℤ, pos, ◌+ℤ◌, ◌+◌, ◌<◌, List, [], ◌∷◌, ◌++◌, Option, Some, None, Bool, true, false, ◌||◌, length, get_or, set, take, arith, refl, sym, ap, ◌∙◌, subst, inl, inr, get_or-set_other}
+use Rattle.std.proofs.Common.{◌≡◌, ◌≢◌, ℕ, zero, suc, ℤ, ◌+ℤ◌, ◌+◌, ◌<◌, List, [], ◌∷◌, ◌++◌}
+use Rattle.std.proofs.Common.{Option, Some, None, Bool, true, false, ◌||◌, length, get_or, set}
+use Rattle.std.proofs.Common.{take, arith, refl, sym, ap, ◌∙◌, inl, inr, get_or-set_other}
 use Rattle.std.specs.List.{AllByRecursion}
 use Rattle.std.proofs.lemmas.Int.{ints}
 use Rattle.std.proofs.lemmas.List.{length-set, take_more}
@@ -73,7 +75,8 @@ least_pushed f ls i l n w h t lt is v e =
     let d : l.variable < length fs = omega (arith, k, v) in
     let s = sum_set_value f.scale (f.cost).coefficients (f.rest).coefficients fs l.variable
     (Some l.negated) (w.cost ∙ sym k) (w.rest ∙ sym k) d in
-    let g = ap (least_at f.scale (coefficient f.cost l.variable) (coefficient f.rest l.variable)) o in
+    let g = ap (least_at f.scale (coefficient f.cost l.variable) (coefficient f.rest l.variable))
+    o in
     let p : falsified (take (i + 1) ls) f.fixed ≡ set fs l.variable (Some l.negated)
     = ap (λ xs. falsified xs f.fixed) (take_more ls i l lt)
     ∙ ap (λ x. falsified (take i ls ++ x ∷ []) f.fixed) (sym is)

@@ -1,16 +1,21 @@
 -- What is kept of a bound of the cost as it changes.
-use Rattle.std.proofs.Common.{◌≡◌, ℕ, zero, suc, ℤ, pos, ◌+ℤ◌, ◌-ℤ◌, ◌*ℤ◌, ◌+◌, ◌-◌, ◌*◌, ◌^◌, ◌<◌, ◌≤◌, List, [], ◌∷◌, ◌++◌, Option, Some, None, Bool, length, get_or, set, replicate, arith, refl, sym, ap, ◌∙◌, subst}
+use Rattle.std.proofs.Common.{◌≡◌, ℕ, zero, suc, ℤ, pos, ◌+ℤ◌, ◌*ℤ◌, ◌+◌, ◌-◌, ◌*◌, ◌^◌, ◌<◌, ◌≤◌}
+use Rattle.std.proofs.Common.{List, [], ◌++◌, Option, Some, None, Bool, length, get_or, set}
+use Rattle.std.proofs.Common.{replicate, arith, refl, sym, ap, ◌∙◌, subst}
 use Rattle.std.specs.List.{sum_by}
 use Rattle.std.specs.Int.RustNames.{unsigned_abs}
 use Rattle.std.proofs.Math.IntN.{zero-*ℤ}
 use Rattle.std.proofs.Math.Nat.{mul-le-mul}
 use Rattle.std.proofs.lemmas.Int.{ints}
-use Rattle.std.proofs.lemmas.List.{length-set, length-append, length-replicate, get_or-replicate, replicate-append-replicate}
+use Rattle.std.proofs.lemmas.List.{length-set, length-append, length-replicate, get_or-replicate}
+use Rattle.std.proofs.lemmas.List.{replicate-append-replicate}
 use Rattle.std.proofs.lemmas.List.Sums.{sum_by-cons, sum_by-append, sum_by-set, get_or-le-sum_by}
-use Rattle.linear.specs.Linear.{Linear, plus_at, plus_constant, coefficient}
-use Rattle.linear.specs.Costs.{CostForm, HasOneWidth, least, least_sum, least_where, restarted, width_of, zero_below, widened, form_of}
+use Rattle.linear.specs.Linear.{plus_at, plus_constant, coefficient}
+use Rattle.linear.specs.Costs.{least, least_sum, least_where, restarted, width_of, widened, form_of}
 use Rattle.linear.specs.Bounds.{BoundState, HasLeast, IsBounded}
-use Rattle.linear.proofs.Sums.{least_at, plus_small, scaled_small, sum_small, sum_set_cost, sum_set_rest, sum_set_value, sum_none, sum_scaled, sum_widened, distributes}
+use Rattle.linear.proofs.Sums.{least_at, plus_small, scaled_small, sum_small, sum_set_cost}
+use Rattle.linear.proofs.Sums.{sum_set_rest, sum_set_value, sum_none, sum_scaled, sum_widened}
+use Rattle.linear.proofs.Sums.{distributes}
 
 no_mass : (n : ℕ) → sum_by unsigned_abs (replicate n (pos 0)) ≡ 0
 no_mass zero = refl
@@ -58,7 +63,11 @@ pub cost_small : (s : BoundState) (v : ℕ) → IsBounded s → v < width_of s.f
     → unsigned_abs (coefficient (s.form).cost v) ≤ s.weights
 cost_small s v b lt =
     let d : v < length ((s.form).cost).coefficients = omega (arith, (b.width).cost, lt) in
-    omega (arith, get_or-le-sum_by unsigned_abs ((s.form).cost).coefficients v (pos 0) d, b.coefficients)
+    omega (
+      arith,
+      get_or-le-sum_by unsigned_abs ((s.form).cost).coefficients v (pos 0) d,
+      b.coefficients,
+    )
 
 pub rest_small : (s : BoundState) (v : ℕ) → IsBounded s → v < width_of s.form
     → unsigned_abs (coefficient (s.form).rest v) ≤ s.mass
@@ -128,7 +137,8 @@ pub set_value_kept : (s : BoundState) (l k m j : ℤ) (v : ℕ) (x : Bool) → H
     → v < width_of s.form
     → m +ℤ least_at (s.form).scale (coefficient (s.form).cost v) (coefficient (s.form).rest v)
     (get_or (s.form).fixed v None)
-    ≡ l +ℤ least_at (s.form).scale (coefficient (s.form).cost v) (coefficient (s.form).rest v) (Some x)
+    ≡ l +ℤ least_at (s.form).scale (coefficient (s.form).cost v) (coefficient (s.form).rest v)
+    (Some x)
     → j +ℤ least_at 1 (coefficient (s.form).cost v) (pos 0) (get_or (s.form).fixed v None)
     ≡ k +ℤ least_at 1 (coefficient (s.form).cost v) (pos 0) (Some x)
     → HasLeast (record s {
@@ -153,7 +163,8 @@ set_value_kept s l k m j v x h lt e g =
     (sum_set_value 1 cs zs f.fixed v (Some x) (b.width).cost (length-replicate n (pos 0)) lt) in
     let same : least (restarted 1 (record f { fixed = fs }))
     ≡ ((pos 1 *ℤ (f.cost).constant) +ℤ pos 0) +ℤ least_sum 1 cs zs fs
-    = ap (λ a. ((pos 1 *ℤ (f.cost).constant) +ℤ pos 0) +ℤ least_sum 1 cs (replicate a (pos 0)) fs) d in
+    = ap (λ a. ((pos 1 *ℤ (f.cost).constant) +ℤ pos 0) +ℤ least_sum 1 cs (replicate a (pos 0)) fs)
+    d in
     record {
       bounded = record {
         width = record { cost = (b.width).cost ∙ sym d; rest = (b.width).rest ∙ sym d };
@@ -181,7 +192,8 @@ pub plus_cost_kept : (s : BoundState) (l k j x y : ℤ) (v n : ℕ) → HasLeast
     → (s.form).scale ≡ 0 → v < width_of s.form
     → unsigned_abs x ≤ n → unsigned_abs y ≤ n → s.weights + n < 2 ^ 62
     → j +ℤ least_at 1 (coefficient (s.form).cost v) (pos 0) (get_or (s.form).fixed v None)
-    ≡ (k +ℤ y) +ℤ least_at 1 (coefficient (s.form).cost v +ℤ x) (pos 0) (get_or (s.form).fixed v None)
+    ≡ (k +ℤ y) +ℤ least_at 1 (coefficient (s.form).cost v +ℤ x) (pos 0)
+    (get_or (s.form).fixed v None)
     → HasLeast (record s {
       form = record (s.form) { cost = plus_at x v (plus_constant y (s.form).cost) };
       weights = s.weights + n;
@@ -199,7 +211,8 @@ plus_cost_kept s l k j x y v n h e lt p q small g =
     at (sum_set_cost 1 cs zs f.fixed v (c +ℤ x) (b.width).cost (length-replicate w (pos 0)) lt) in
     let within : v < length cs = omega (arith, (b.width).cost, lt) in
     let t = sum_by-set unsigned_abs cs v (c +ℤ x) (pos 0) within in
-    let o : ((pos 1 *ℤ (f.cost).constant) +ℤ y) ≡ (pos 1 *ℤ ((f.cost).constant +ℤ y)) = omega (arith, ints) in
+    let o : ((pos 1 *ℤ (f.cost).constant) +ℤ y) ≡ (pos 1 *ℤ ((f.cost).constant +ℤ y)) =
+    omega (arith, ints) in
     let u = free_cost f.scale (f.cost).constant ((f.cost).constant +ℤ y) (f.rest).constant cs
     (set cs v (c +ℤ x)) (f.rest).coefficients f.fixed e (sym d) in
     record {
@@ -274,7 +287,12 @@ widened_kept s l k width h =
     let i = sum_widened f.scale n cs rs f.fixed (b.width).cost (b.width).rest in
     let j = sum_widened 1 n cs zs f.fixed (b.width).cost (length-replicate w (pos 0)) in
     let z : length fs ≡ w + n
-    = omega (arith, length-append f.fixed (replicate n None), length-replicate {A = Option Bool} n None) in
+    = omega (
+      arith,
+      length-append f.fixed (replicate n None),
+      length-replicate {A = Option Bool} n
+          None,
+    ) in
     let zeros : replicate (length fs) (pos 0) ≡ zs ++ replicate n (pos 0)
     = ap (λ a. replicate a (pos 0)) z ∙ sym (replicate-append-replicate w n (pos 0)) in
     let same = ap (λ xs. least_sum 1 (cs ++ replicate n (pos 0)) xs fs) zeros in
@@ -295,7 +313,8 @@ widened_kept s l k width h =
       alone = omega (arith, ints, h.alone, j, same);
     }
 
-pub new_kept : (n : ℕ) → HasLeast (record { form = form_of n []; weights = 0; mass = 0 }) (pos 0) (pos 0)
+pub new_kept : (n : ℕ) → HasLeast (record { form = form_of n []; weights = 0; mass = 0 }) (pos 0)
+    (pos 0)
 new_kept n =
     let zs = replicate n (pos 0) in
     let d = length-replicate n (pos 0) in

@@ -1,22 +1,27 @@
 -- What stands at a variable, and a bound of the cost in which that changes.
-use Rattle.std.proofs.Common.{◌≡◌, ℕ, zero, suc, ℤ, pos, ◌+ℤ◌, ◌-ℤ◌, ◌*ℤ◌, ◌+◌, ◌-◌, ◌^◌, ◌<◌, ◌≤◌, List, [], ◌∷◌, ◌++◌, Option, Some, None, Bool, true, false, not, replicate, map, length, get_or, set, arith, refl, sym, ap, ◌∙◌, subst}
+use Rattle.std.proofs.Common.{◌≡◌, ℕ, zero, suc, ℤ, pos, ◌+ℤ◌, ◌-ℤ◌, ◌+◌, ◌-◌, ◌^◌, ◌<◌, ◌≤◌, List}
+use Rattle.std.proofs.Common.{[], ◌∷◌, ◌++◌, Option, Some, None, Bool, true, false, not, replicate}
+use Rattle.std.proofs.Common.{map, length, get_or, set, arith, refl, sym, ap, ◌∙◌, subst}
 use Rattle.std.specs.Prelude.{if◌then◌else◌, ◌==◌, is_some}
 use Rattle.std.specs.List.{All, AllByRecursion}
 use Rattle.std.specs.Int.RustNames.{unsigned_abs}
 use Rattle.std.proofs.lemmas.Bool.{eq-eqb, ne_eqb}
 use Rattle.std.proofs.lemmas.Int.{ints}
-use Rattle.std.proofs.lemmas.List.{map-set, get_or-map, set-get_or, length-map, map-append, append-nil}
+use Rattle.std.proofs.lemmas.List.{map-set, get_or-map, set-get_or, length-map, map-append}
+use Rattle.std.proofs.lemmas.List.{append-nil}
 use Rattle.linear.specs.declared.terms.Term.{Term}
-use Rattle.linear.specs.Linear.{Linear, least_term, plus_at, plus_constant, plus_literal}
+use Rattle.linear.specs.Linear.{Linear, plus_at, plus_constant, plus_literal}
 use Rattle.cnf.specs.Literal.{Literal}
 use Rattle.std.proofs.lemmas.List.Elements.{recursion_from_All}
-use Rattle.linear.specs.Costs.{CostForm, fixed_by, form_of, restarted, widened, widened_linear, width_of}
+use Rattle.linear.specs.Costs.{CostForm, fixed_by, form_of, restarted, widened, widened_linear}
+use Rattle.linear.specs.Costs.{width_of}
 use Rattle.linear.specs.Terms.{AreSmall, rest_of, costs, rests, values, form_of_terms}
 use Rattle.linear.specs.Bounds.{BoundState, HasLeast, IsBounded}
 use Rattle.linear.specs.declared.bounds.CostBound.TheInside.{Inside}
 use Rattle.linear.specs.Kept.{state_in, IsKept}
 use Rattle.linear.proofs.Sums.{least_at, plus_small}
-use Rattle.linear.proofs.Moves.{cost_small, rest_small, plus_at_kept, set_value_kept, plus_cost_kept}
+use Rattle.linear.proofs.Moves.{cost_small, rest_small, plus_at_kept, set_value_kept}
+use Rattle.linear.proofs.Moves.{plus_cost_kept}
 
 pub map_same : {X Y : Type 0} (f : X → Y) (xs : List X) (i : ℕ) (x d : X) → i < length xs
     → f x ≡ f (get_or xs i d) → map f (set xs i x) ≡ map f xs
@@ -131,7 +136,8 @@ pub rest_put_kept : (k : ℤ) (s : ℕ) (r : ℤ) (p : ℕ) (ts : List Term) (v 
     → StandsAt ts v old → q + unsigned_abs w ≤ 2 ^ 120
     → new.cost ≡ old.cost → new.value ≡ old.value → new.stamp ≡ p
     → new.rest ≡ rest_of p old +ℤ w
-    → j +ℤ least_at s old.cost (rest_of p old) old.value ≡ l +ℤ least_at s old.cost new.rest old.value
+    → j +ℤ least_at s old.cost (rest_of p old) old.value ≡ l
+    +ℤ least_at s old.cost new.rest old.value
     → HasLeast (record {
       form = form_of_terms k s r p (set ts v new);
       weights = n;
@@ -147,7 +153,8 @@ rest_put_kept k s r p ts v old new w n q l a j h at small c f st e g =
     ≡ l +ℤ least_at s (get_or (costs ts) v (pos 0)) (get_or (rests p ts) v (pos 0) +ℤ w)
     (get_or (values ts) v None)
     = cc in
-    subst (λ (x : CostForm). HasLeast (record { form = x; weights = n; mass = q + unsigned_abs w }) j a)
+    subst (λ (x : CostForm). HasLeast (record { form = x; weights = n; mass = q + unsigned_abs w })
+    j a)
     (sym (rest_put k s r p ts v old new w at c f st e))
     (plus_at_kept b l a j w v h (within_width ts v at.within) small moved)
 
@@ -300,8 +307,10 @@ pub widened_form : (k : ℤ) (s : ℕ) (r : ℤ) (p : ℕ) (ts : List Term) (wid
     ≡ widened width (form_of_terms k s r p ts)
 widened_form k s r p ts width t c e f =
     let m = width - length ts in
-    let n : m ≡ width - length (values ts) = ap (λ x. width - x) (sym (length-map ts (λ u. u.value))) in
-    same_form k s r (costs (ts ++ replicate m t)) (costs ts ++ replicate (width - length (values ts)) (pos 0))
+    let n : m ≡ width - length (values ts) =
+    ap (λ x. width - x) (sym (length-map ts (λ u. u.value))) in
+    same_form k s r (costs (ts ++ replicate m t))
+    (costs ts ++ replicate (width - length (values ts)) (pos 0))
     (rests p (ts ++ replicate m t)) (rests p ts ++ replicate (width - length (values ts)) (pos 0))
     (values (ts ++ replicate m t)) (values ts ++ replicate (width - length (values ts)) None)
     (map-append (λ u. u.cost) ts (replicate m t)
@@ -339,8 +348,10 @@ pub literal_parts : (w : ℤ) (l : Literal) (f : Linear)
 literal_parts w l f = by_sign l.negated
   where
     by_sign : (b : Bool)
-        → plus_at (if b then pos 0 -ℤ w else w) l.variable (plus_constant (if b then w else pos 0) f)
-        ≡ (if b then plus_at (pos 0 -ℤ w) l.variable (plus_constant w f) else plus_at w l.variable f)
+        → plus_at (if b then pos 0 -ℤ w else w) l.variable
+        (plus_constant (if b then w else pos 0) f)
+        ≡ (if b then plus_at (pos 0 -ℤ w) l.variable (plus_constant w f) else plus_at w l.variable
+        f)
     by_sign true = refl
     by_sign false =
         let z : (f.constant +ℤ pos 0) ≡ f.constant = omega (arith, ints) in

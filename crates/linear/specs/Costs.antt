@@ -1,6 +1,6 @@
 -- So many times a cost, and something beside it: the least value over all values of the variables
 -- that have none.
-use Rattle.std.specs.Prelude.{◌≡◌, ℕ, ℤ, pos, ◌+ℤ◌, ◌*ℤ◌, ◌+◌, ◌-◌, Bool, true, false, not, List}
+use Rattle.std.specs.Prelude.{◌≡◌, ℕ, ℤ, pos, ◌+ℤ◌, ◌*ℤ◌, ◌-◌, Bool, not, List}
 use Rattle.std.specs.Prelude.{[], ◌∷◌, ◌++◌, length, replicate, Option, Some, None, slice_set}
 use Rattle.std.specs.Prelude.{slice_index_or}
 use Rattle.cnf.specs.Literal.{Literal, Assignment}

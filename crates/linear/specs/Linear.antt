@@ -1,5 +1,5 @@
 -- Linear functions of variables that are 0 or 1, and their least values.
-use Rattle.std.specs.Prelude.{ℕ, ℤ, pos, negsuc, ◌+ℤ◌, ◌-ℤ◌, ◌*ℤ◌, ◌+◌, Bool, true, false, List}
+use Rattle.std.specs.Prelude.{ℕ, ℤ, pos, negsuc, ◌+ℤ◌, ◌-ℤ◌, ◌+◌, Bool, true, false, List}
 use Rattle.std.specs.Prelude.{[], ◌∷◌, Option, Some, None, slice_set, slice_index_or}
 use Rattle.std.specs.Prelude.{if◌then◌else◌}
 use Rattle.cnf.specs.Literal.{Literal, Assignment, literal_value}

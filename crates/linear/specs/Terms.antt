@@ -1,5 +1,6 @@
 -- What stands at each variable: its coefficients and its value.
-use Rattle.std.specs.Prelude.{ℕ, ℤ, pos, Bool, List, map, Option, ◌==◌, ◌<◌, ◌≤◌, ◌^◌, if◌then◌else◌}
+use Rattle.std.specs.Prelude.{ℕ, ℤ, pos, Bool, List, map, Option, ◌==◌, ◌<◌, ◌≤◌, ◌^◌}
+use Rattle.std.specs.Prelude.{if◌then◌else◌}
 use Rattle.std.specs.Int.RustNames.{unsigned_abs}
 use Rattle.linear.specs.declared.terms.Term.{Term}
 use Rattle.linear.specs.Costs.{CostForm}

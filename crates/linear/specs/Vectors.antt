@@ -1,8 +1,9 @@
 -- Worked least values.
-use Rattle.std.specs.Prelude.{◌≡◌, ℕ, ℤ, pos, negsuc, Some, [], ◌∷◌, refl}
+use Rattle.std.specs.Prelude.{◌≡◌, pos, negsuc, [], ◌∷◌, refl}
 use Rattle.cnf.specs.Literal.{positive as p, negative as n}
 use Rattle.linear.specs.Linear.{plus_constant, plus_literals}
-use Rattle.linear.specs.Costs.{CostForm, form_of, restarted, fixed_by, falsified, least, least_where}
+use Rattle.linear.specs.Costs.{CostForm, form_of, restarted, fixed_by, falsified, least}
+use Rattle.linear.specs.Costs.{least_where}
 
 -- 3 for the first variable, 4 for the second
 abbrev two : CostForm

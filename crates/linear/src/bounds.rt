@@ -115,7 +115,8 @@ impl CostBound {
         requires variables { All (λ l. l.variable < width_of self.now.form) lits.now }
         requires no_repeat { has_repeat lits.now ≡ false }
         requires no_tautology { is_tautology lits.now ≡ false }
-        ensures least { result ≡ least_where self.now.form (falsified lits.now self.now.form.fixed) }
+        ensures least { result
+            ≡ least_where self.now.form (falsified lits.now self.now.form.fixed) }
         ensures small { unsigned_abs result < 2 ^ 126 }
         ensures width { HasOneWidth self.now.form }
     {

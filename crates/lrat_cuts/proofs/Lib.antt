@@ -1,3 +1,15 @@
+mod LawResults
+mod LawMeaning
+mod LawForms
+mod LawCounts
+mod LawMore
+mod LawGroups
+mod LawFacts
+mod LawState
+mod LawAdditions
+mod LawCuts
+mod LawItems
+mod LawLines
 mod Putting
 mod Judging
 mod PieceLaws

@@ -1,3 +1,5 @@
 pub mod Checking
+pub mod Explaining
+pub mod Faults
 pub mod Inputs
 pub mod Refusals

@@ -4,6 +4,7 @@ ghost use Rattle.lrat_check.specs.Checks.{IsTrueResult};
 ghost use Rattle.wmax.specs.Checking.{later};
 
 use crate::arguments::CheckRequest;
+use crate::faults::{Fault, end_output, open, read_whole, tell_packed};
 use crate::profiles::{choose_profile, refuse_profile};
 use adder::profiles::Profile;
 use lrat_check::checking::check_from_as;
@@ -11,22 +12,23 @@ use lrat_check::verdicts::{Cause, CheckFault, Verdict};
 use report::fault::RunFault;
 use report::options::ANY;
 use report::printing::{deliver, print_verdict, verdict_code};
-use std::fs::{self, File};
-use std::io::{self, Read, Write};
+use std::fs;
+use std::io::{Read, Write};
 use std::rt::{Env, Files};
-use wmax_onlooker::files::{UNREADABLE, read_file};
+use wmax_onlooker::files::UNREADABLE;
 use wmax_onlooker::standard_error::Messages;
+use wmax_onlooker::standard_output::standard_output;
 
 /// What is said of a certificate that cannot be read more than once.
 const NO_FILE: &str = "error: check --profile any needs a regular file as PROOF, not a pipe";
 
 /// The files are opened in their order before any is read, and read in their order. The certificate
 /// is judged while it is read, so none of it is kept but the clauses that are live.
-pub fn check<R: Files + AllocGlobal + Print + Env, E: Write>(
+pub fn check<'a, R: Files + AllocGlobal + Print + Env, E: Write>(
     rt: &R,
     messages: &mut Messages<'_, E>,
-    request: &CheckRequest<'_>,
-) -> Result<u8, RunFault> {
+    request: &CheckRequest<'a>,
+) -> Result<u8, Fault<'a>> {
     if request.profile == Some(ANY) {
         return check_any(rt, messages, request);
     }
@@ -34,32 +36,36 @@ pub fn check<R: Files + AllocGlobal + Print + Env, E: Write>(
         Ok(profile) => profile,
         Err(why) => return refuse_profile(messages, why),
     };
-    let mut text = File::open(rt, request.text).map_err(|_| UNREADABLE)?;
-    let mut answer = File::open(rt, request.result).map_err(|_| UNREADABLE)?;
-    let mut proof = File::open(rt, request.proof).map_err(|_| UNREADABLE)?;
-    let text = read_file(rt, &mut text)?;
-    let answer = read_file(rt, &mut answer)?;
-    let verdict = check_as(rt, &text, &answer, &mut proof, profile)?;
-    show(rt, &verdict)
+    let mut text = open(rt, request.text)?;
+    let mut answer = open(rt, request.result)?;
+    let mut proof = open(rt, request.proof)?;
+    let text = read_whole(rt, &mut text, request.text)?;
+    let answer = read_whole(rt, &mut answer, request.result)?;
+    match check_as(rt, &text, &answer, &mut proof, profile) {
+        Ok(verdict) => show_for(rt, messages, &text, &verdict),
+        Err(fault) => Err(Fault::of_file(fault, request.proof)),
+    }
 }
 
 /// The certificate is opened anew for each profile, so it has to be a file.
-fn check_any<R: Files + AllocGlobal + Print, E: Write>(
+fn check_any<'a, R: Files + AllocGlobal + Print, E: Write>(
     rt: &R,
     messages: &mut Messages<'_, E>,
-    request: &CheckRequest<'_>,
-) -> Result<u8, RunFault> {
-    let mut text = File::open(rt, request.text).map_err(|_| UNREADABLE)?;
-    let mut answer = File::open(rt, request.result).map_err(|_| UNREADABLE)?;
-    let data = fs::metadata(rt, request.proof).map_err(|_| UNREADABLE)?;
+    request: &CheckRequest<'a>,
+) -> Result<u8, Fault<'a>> {
+    let mut text = open(rt, request.text)?;
+    let mut answer = open(rt, request.result)?;
+    let Ok(data) = fs::metadata(rt, request.proof) else {
+        return Err(Fault::Unreadable(request.proof));
+    };
     if !data.is_file() {
         let _ = writeln!(messages.below(), "{NO_FILE}");
         return Ok(2);
     }
-    let text = read_file(rt, &mut text)?;
-    let answer = read_file(rt, &mut answer)?;
+    let text = read_whole(rt, &mut text, request.text)?;
+    let answer = read_whole(rt, &mut answer, request.result)?;
     let verdict = check_each(rt, &text, &answer, request.proof)?;
-    show(rt, &verdict)
+    show_for(rt, messages, &text, &verdict)
 }
 
 /// The profiles that are tried, the one that finds most optima first.
@@ -73,23 +79,24 @@ const EACH: [Profile; 5] = [
 
 /// Yes where one of the profiles says it; else the fault that stands last in the certificate, and
 /// of two such the one that was met first.
-fn check_each<R: Files + AllocGlobal>(
+fn check_each<'a, R: Files + AllocGlobal>(
     rt: &R,
     text: &[u8],
     answer: &[u8],
-    path: &str,
-) -> Result<Verdict, RunFault>
+    path: &'a str,
+) -> Result<Verdict, Fault<'a>>
     ensures sound { IfOk result (λ v. v ≡ Verdict.Yes → IsTrueResult text.now answer.now) }
 {
     let mut last: Option<CertificateFault> = None;
     for profile in EACH {
-        let mut proof = File::open(rt, path).map_err(|_| UNREADABLE)?;
-        match check_as(rt, text, answer, &mut proof, profile)? {
-            Verdict::Yes => return Ok(Verdict::Yes),
-            Verdict::No(cause, line) => last = Some(later_of(
+        let mut proof = open(rt, path)?;
+        match check_as(rt, text, answer, &mut proof, profile) {
+            Ok(Verdict::Yes) => return Ok(Verdict::Yes),
+            Ok(Verdict::No(cause, line)) => last = Some(later_of(
                 last,
                 CertificateFault { cause, line },
             )),
+            Err(fault) => return Err(Fault::of_file(fault, path)),
         }
     }
     match last {
@@ -134,9 +141,24 @@ fn check_as<R: AllocGlobal, P: Read>(
     }
 }
 
+/// Prints the verdict on what stands beside this text, and what to do with the text if it is
+/// packed; the exit status.
+pub(crate) fn show_for<'a, R: Print, E: Write>(
+    rt: &R,
+    messages: &mut Messages<'_, E>,
+    text: &[u8],
+    verdict: &Verdict,
+) -> Result<u8, Fault<'a>> {
+    let status = show(rt, verdict)?;
+    if let Verdict::No(Cause::Text, _) = verdict {
+        tell_packed(messages, text);
+    }
+    Ok(status)
+}
+
 /// Prints the verdict; its exit status.
-pub fn show<R: Print>(rt: &R, verdict: &Verdict) -> Result<u8, RunFault> {
-    let mut out = io::writer(rt);
-    deliver(print_verdict(verdict, &mut out), &mut out)?;
-    Ok(verdict_code(verdict))
+pub(crate) fn show<'a, R: Print>(rt: &R, verdict: &Verdict) -> Result<u8, Fault<'a>> {
+    let mut out = standard_output(rt);
+    let written = deliver(print_verdict(verdict, &mut out), &mut out);
+    end_output(written.map(|()| verdict_code(verdict)), out.is_closed())
 }

@@ -3,6 +3,7 @@ ghost use Rattle.std.specs.Prelude.{◌<◌};
 ghost use Rattle.cnf.specs.declared.limits.TheConstants.{NUMBER_LIMIT};
 
 use crate::arguments::EncodeRequest;
+use crate::faults::{Fault, end_output, open, read_whole, tell_text_fault};
 use crate::profiles::{choose_profile, refuse_profile};
 use adder::profiles::Profile;
 use bound::encoding::{WatchedWriter, write_formula};
@@ -11,84 +12,130 @@ use lrat_check::core_formula::{RefutedFormula, core_formula};
 use report::fault::RunFault;
 use report::options::MOST_COST;
 use report::printing::deliver;
-use std::fs::File;
-use std::io::{self, Read, Write};
+use std::io::{Read, Write};
 use std::mem::ManuallyDrop;
 use std::rt::{Env, Files};
 use wcnf::reading::read_from;
-use wmax_onlooker::files::{UNREADABLE, read_file};
+use wmax_onlooker::beginning::Beginning;
 use wmax_onlooker::standard_error::Messages;
+use wmax_onlooker::standard_output::standard_output;
 
 /// What is said of a `--proof` in another profile.
 const NO_CORES: &str = "error: encode takes --proof only with --profile 5";
 
 /// The formula for 'cost below COST', or with `--proof` that of the core lines of the certificate,
 /// which is opened after FILE and before any of it is read.
-pub fn encode<R: Files + AllocGlobal + Print + Env, E: Write>(
+pub fn encode<'a, R: Files + AllocGlobal + Print + Env, E: Write>(
     rt: &R,
     messages: &mut Messages<'_, E>,
-    request: &EncodeRequest<'_>,
-) -> Result<u8, RunFault> {
+    request: &EncodeRequest<'a>,
+) -> Result<u8, Fault<'a>> {
     let profile = match choose_profile(rt, request.profile) {
         Ok(profile) => profile,
         Err(why) => return refuse_profile(messages, why),
     };
     // `clap` lets no greater cost pass; said again, since nothing is known of that here.
     let cost = request.cost.min(MOST_COST);
-    let Some(proof) = request.proof else {
-        let mut text = File::open(rt, request.text).map_err(|_| UNREADABLE)?;
-        return encode_bound(rt, &mut text, cost, profile);
+    let Some(path) = request.proof else {
+        let mut text = Beginning::new(open(rt, request.text)?);
+        let ended = encode_bound(rt, &mut text, cost, profile);
+        return Ok(tell_ended(messages, ended, request.text, text.first()));
     };
     if !matches!(profile, Profile::Five) {
         let _ = writeln!(messages.below(), "{NO_CORES}");
         return Ok(2);
     }
-    let mut text = File::open(rt, request.text).map_err(|_| UNREADABLE)?;
-    let mut proof = File::open(rt, proof).map_err(|_| UNREADABLE)?;
-    encode_refuted(rt, messages, &mut text, &mut proof, cost)
+    let mut text = Beginning::new(open(rt, request.text)?);
+    let proof = Certificate {
+        file: open(rt, path)?,
+        path,
+    };
+    let ended = encode_refuted(rt, messages, &mut text, proof, cost);
+    Ok(tell_ended(messages, ended, request.text, text.first()))
+}
+
+/// The exit status of a command that read FILE from this path; it tells why there is no answer, if
+/// there is none. `first` are the first bytes of FILE.
+fn tell_ended<E: Write>(
+    messages: &mut Messages<'_, E>,
+    ended: Result<u8, Fault<'_>>,
+    path: &str,
+    first: &[u8],
+) -> u8 {
+    match ended {
+        Ok(status) => status,
+        Err(fault) => tell_text_fault(messages, fault.of_text(path), first),
+    }
 }
 
 /// Prints the formula for 'cost below COST'. The process ends after it, so the clauses of the text
 /// are not given back one by one.
-fn encode_bound<R: AllocGlobal + Print, T: Read>(
+fn encode_bound<'a, R: AllocGlobal + Print, T: Read>(
     rt: &R,
     text: &mut T,
     cost: u64,
     profile: Profile,
+) -> Result<u8, Fault<'a>>
+    requires { cost < NUMBER_LIMIT }
+{
+    let mut out = standard_output(rt);
+    let ended = write_bound(rt, text, cost, profile, &mut out);
+    end_output(ended, out.is_closed())
+}
+
+/// Writes the formula for 'cost below COST'.
+fn write_bound<R: AllocGlobal, T: Read, W: Write>(
+    rt: &R,
+    text: &mut T,
+    cost: u64,
+    profile: Profile,
+    out: &mut W,
 ) -> Result<u8, RunFault>
     requires { cost < NUMBER_LIMIT }
 {
     let instance = ManuallyDrop::new(read_from(rt.alloc(), text)?);
-    let mut out = io::writer(rt);
-    let mut watched = WatchedWriter::new(&mut out);
+    let mut watched = WatchedWriter::new(out);
     write_formula(&instance, cost, profile, &mut watched)?;
     deliver(Ok(()), &mut watched)?;
     Ok(0)
 }
 
+/// A certificate that is open, and where it is.
+#[derive(Drop)]
+struct Certificate<'a, P> {
+    /// The file.
+    file: P,
+    /// Its path.
+    path: &'a str,
+}
+
 /// Prints the formula that the certificate refutes for COST. A fault of its core lines is told on
 /// standard error, with its line.
-fn encode_refuted<R: AllocGlobal + Print, E: Write, T: Read, P: Read>(
+fn encode_refuted<'a, R: AllocGlobal + Print, E: Write, T: Read, P: Read + Drop>(
     rt: &R,
     messages: &mut Messages<'_, E>,
     text: &mut T,
-    proof: &mut P,
+    proof: Certificate<'a, P>,
     cost: u64,
-) -> Result<u8, RunFault>
+) -> Result<u8, Fault<'a>>
     requires { cost < NUMBER_LIMIT }
 {
-    let instance = ManuallyDrop::new(read_from(rt.alloc(), text)?);
-    let proof = read_file(rt, proof)?;
+    let instance = match read_from(rt.alloc(), text) {
+        Ok(instance) => ManuallyDrop::new(instance),
+        Err(fault) => return Err(Fault::Run(fault.into())),
+    };
+    let Certificate { mut file, path } = proof;
+    let proof = read_whole(rt, &mut file, path)?;
     match core_formula(&instance, cost, &proof) {
         Ok(RefutedFormula::Formula(formula)) => {
-            let mut out = io::writer(rt);
-            deliver(write_dimacs(&formula, &mut out), &mut out)?;
-            Ok(0)
+            let mut out = standard_output(rt);
+            let written = deliver(write_dimacs(&formula, &mut out), &mut out);
+            end_output(written.map(|()| 0), out.is_closed())
         }
         Ok(RefutedFormula::Nothing(cause, line)) => {
             let _ = writeln!(messages.below(), "error: line {line}: {cause:?}");
             Ok(2)
         }
-        Err(_) => Err(RunFault::Memory),
+        Err(_) => Err(Fault::Run(RunFault::Memory)),
     }
 }

@@ -1,8 +1,14 @@
 //! `wmax explain`: what there is of an instance, or what a result comes to, and how much less a
 //! solution could cost.
+ghost use Rattle.text.specs.Writing.{Writes};
+ghost use Rattle.wmax.specs.Explaining.{bound_text};
+
 use crate::arguments::ExplainRequest;
 use crate::checking::show;
+use crate::faults::{Fault, end_output, open, read_whole};
 use crate::lower_bounds::verdict_of;
+use contradiction::finding::{Finding, find_contradiction};
+use explain::contradicting::{write_contradiction, write_open, write_refuted};
 use explain::explaining::{ExplainFault, write_explanation};
 use explain::judging::{Judgement, judge};
 use explain::mending::write_mending;
@@ -11,103 +17,219 @@ use lrat_check::lower::LowerVerdict;
 use lrat_check::verdicts::{Cause, Verdict};
 use report::fault::RunFault;
 use report::printing::{deliver, fault_code, lower_code, print_fault, print_gap, print_lower};
-use std::fs::File;
-use std::io::{self, Read, Write};
+use std::alloc::Global;
+use std::io::{Read, Write};
 use std::rt::Files;
+use text::output::WriteFault;
 use wcnf::faults::ReadFault;
-use wmax_onlooker::files::{UNREADABLE, read_file};
+use wcnf::reading::read;
 use wmax_onlooker::standard_error::Messages;
+use wmax_onlooker::standard_output::standard_output;
 
 /// FILE, and RESULT and PROOF if they are named, are opened, then read in their order. Of a faulty
 /// FILE the line is shown, and what would mend it.
-pub fn explain<R: Files + AllocGlobal + Print, E: Write>(
+pub fn explain<'a, R: Files + AllocGlobal + Print, E: Write>(
     rt: &R,
     messages: &mut Messages<'_, E>,
-    request: &ExplainRequest<'_>,
-) -> Result<u8, RunFault> {
-    let mut text = File::open(rt, request.text).map_err(|_| UNREADABLE)?;
-    let Some(answer) = request.result else {
-        let text = read_file(rt, &mut text)?;
-        return explain_instance(rt, messages, &text);
-    };
-    let mut answer = File::open(rt, answer).map_err(|_| UNREADABLE)?;
-    let Some(proof) = request.proof else {
-        let text = read_file(rt, &mut text)?;
-        let answer = read_file(rt, &mut answer)?;
-        return explain_result(rt, messages, &text, &answer);
-    };
-    let mut proof = File::open(rt, proof).map_err(|_| UNREADABLE)?;
-    let text = read_file(rt, &mut text)?;
-    let answer = read_file(rt, &mut answer)?;
-    match explain_result(rt, messages, &text, &answer)? {
-        0 => explain_bound(rt, &text, &answer, &mut proof),
-        status => Ok(status),
+    request: &ExplainRequest<'a>,
+) -> Result<u8, Fault<'a>> {
+    match (request.result, request.proof) {
+        (None, _) => explain_one(rt, messages, request.text),
+        (Some(result), None) => explain_two(rt, messages, request.text, result),
+        (Some(result), Some(proof)) => explain_three(rt, messages, request.text, result, proof),
+    }
+}
+
+/// Prints how much there is of this instance.
+fn explain_one<'a, R: Files + AllocGlobal + Print, E: Write>(
+    rt: &R,
+    messages: &mut Messages<'_, E>,
+    path: &'a str,
+) -> Result<u8, Fault<'a>> {
+    let mut text = open(rt, path)?;
+    let text = read_whole(rt, &mut text, path)?;
+    explain_instance(rt, messages, &text)
+}
+
+/// Prints what this result comes to.
+fn explain_two<'a, R: Files + AllocGlobal + Print, E: Write>(
+    rt: &R,
+    messages: &mut Messages<'_, E>,
+    text_path: &'a str,
+    answer_path: &'a str,
+) -> Result<u8, Fault<'a>> {
+    let mut text = open(rt, text_path)?;
+    let mut answer = open(rt, answer_path)?;
+    let text = read_whole(rt, &mut text, text_path)?;
+    let answer = read_whole(rt, &mut answer, answer_path)?;
+    explain_result(rt, messages, &text, &answer)
+}
+
+/// Prints what this result comes to, and how far it is from what this certificate proves by itself.
+fn explain_three<'a, R: Files + AllocGlobal + Print, E: Write>(
+    rt: &R,
+    messages: &mut Messages<'_, E>,
+    text_path: &'a str,
+    answer_path: &'a str,
+    proof_path: &'a str,
+) -> Result<u8, Fault<'a>> {
+    let mut text = open(rt, text_path)?;
+    let mut answer = open(rt, answer_path)?;
+    let mut proof = open(rt, proof_path)?;
+    let text = read_whole(rt, &mut text, text_path)?;
+    let answer = read_whole(rt, &mut answer, answer_path)?;
+    match explain_beside(rt, messages, &text, &answer, &mut proof) {
+        Err(Fault::Run(RunFault::Read(fault))) => {
+            Err(Fault::of_file(RunFault::Read(fault), proof_path))
+        }
+        ended => ended,
+    }
+}
+
+/// Prints what a result comes to, and if it is right what the certificate proves by itself. That is
+/// judged first: where memory is refused for it, nothing is printed.
+fn explain_beside<'a, R: AllocGlobal + Print, E: Write, P: Read>(
+    rt: &R,
+    messages: &mut Messages<'_, E>,
+    text: &[u8],
+    answer: &[u8],
+    proof: &mut P,
+) -> Result<u8, Fault<'a>> {
+    match judge(rt.alloc(), text, answer) {
+        Ok(Judgement::Wrong) => explain_result(rt, messages, text, answer),
+        Ok(judgement) => {
+            let verdict = verdict_of(rt, text, proof);
+            if verdict == Err(RunFault::Memory) {
+                return Err(Fault::Run(RunFault::Memory));
+            }
+            match explain_result(rt, messages, text, answer)? {
+                0 => show_bound(rt, verdict, judgement),
+                status => Ok(status),
+            }
+        }
+        Err(fault) => explain_fault(rt, messages, text, fault),
     }
 }
 
 /// Prints what the certificate proves by itself, and how far the result is from that.
-fn explain_bound<R: AllocGlobal + Print, P: Read>(
+fn show_bound<'a, R: Print>(
     rt: &R,
-    text: &[u8],
-    answer: &[u8],
-    proof: &mut P,
-) -> Result<u8, RunFault> {
-    let verdict = verdict_of(rt, text, proof)?;
-    let mut out = io::writer(rt);
-    deliver(print_lower(&verdict, &mut out), &mut out)?;
-    if let LowerVerdict::AtLeast(lower) = verdict {
-        if let Ok(Judgement::Right(cost)) = judge(rt.alloc(), text, answer) {
-            deliver(print_gap(cost, lower, &mut out), &mut out)?;
-        }
+    verdict: Result<LowerVerdict, RunFault>,
+    judgement: Judgement,
+) -> Result<u8, Fault<'a>> {
+    let verdict = match verdict {
+        Ok(verdict) => verdict,
+        Err(fault) => return Err(Fault::Run(fault)),
+    };
+    let mut out = standard_output(rt);
+    let written = deliver(print_bound(&verdict, judgement, &mut out), &mut out);
+    end_output(written.map(|()| lower_code(&verdict)), out.is_closed())
+}
+
+/// Writes what a certificate proves by itself, and how far a solution is from that.
+fn print_bound<W: Write>(
+    verdict: &LowerVerdict,
+    judgement: Judgement,
+    writer: &mut W,
+) -> Result<(), WriteFault>
+    ensures { Writes result (W.contents writer.old) (bound_text verdict.now judgement)
+        (W.contents writer.new) }
+{
+    print_lower(verdict, writer)?;
+    match (verdict, judgement) {
+        (LowerVerdict::AtLeast(lower), Judgement::Right(cost)) => print_gap(cost, *lower, writer),
+        _ => Ok(()),
     }
-    Ok(lower_code(&verdict))
 }
 
 /// Prints how much there is of an instance.
-fn explain_instance<R: AllocGlobal + Print, E: Write>(
+fn explain_instance<'a, R: AllocGlobal + Print, E: Write>(
     rt: &R,
     messages: &mut Messages<'_, E>,
     text: &[u8],
-) -> Result<u8, RunFault> {
-    let mut out = io::writer(rt);
+) -> Result<u8, Fault<'a>> {
+    let mut out = standard_output(rt);
     match write_summary(rt.alloc(), text, &mut out) {
         Ok(()) => {
-            deliver(Ok(()), &mut out)?;
-            Ok(0)
+            let flushed = deliver(Ok(()), &mut out);
+            end_output(flushed.map(|()| 0), out.is_closed())
         }
+        Err(ExplainFault::Output) => end_output(Err(RunFault::Output), out.is_closed()),
         Err(fault) => explain_fault(rt, messages, text, fault),
     }
 }
 
 /// Prints what a result comes to.
-fn explain_result<R: AllocGlobal + Print, E: Write>(
+fn explain_result<'a, R: AllocGlobal + Print, E: Write>(
     rt: &R,
     messages: &mut Messages<'_, E>,
     text: &[u8],
     answer: &[u8],
-) -> Result<u8, RunFault> {
-    let mut out = io::writer(rt);
-    match write_explanation(rt.alloc(), text, answer, &mut out) {
+) -> Result<u8, Fault<'a>> {
+    let mut out = standard_output(rt);
+    match write_result(rt.alloc(), text, answer, &mut out) {
         Ok(is_right) => {
-            deliver(Ok(()), &mut out)?;
-            Ok(u8::from(!is_right))
+            let flushed = deliver(Ok(()), &mut out);
+            end_output(flushed.map(|()| u8::from(!is_right)), out.is_closed())
         }
+        Err(ExplainFault::Output) => end_output(Err(RunFault::Output), out.is_closed()),
         Err(fault) => explain_fault(rt, messages, text, fault),
     }
 }
 
+/// Writes what a result comes to; whether what it says of solutions is so, as far as that was found
+/// out.
+fn write_result<W: Write>(
+    alloc: Global,
+    text: &[u8],
+    answer: &[u8],
+    out: &mut W,
+) -> Result<bool, ExplainFault> {
+    match judge(alloc, text, answer)? {
+        Judgement::Unsatisfiable => write_reason(alloc, text, out),
+        _ => write_explanation(alloc, text, answer, out),
+    }
+}
+
+/// Writes which hard clauses contradict each other; whether there may be such.
+fn write_reason<W: Write>(alloc: Global, text: &[u8], out: &mut W) -> Result<bool, ExplainFault> {
+    let instance = match read(alloc, text) {
+        Ok(instance) => instance,
+        Err(fault) => return Err(ExplainFault::Text(fault)),
+    };
+    let Ok(found) = find_contradiction(&instance) else {
+        return Err(ExplainFault::Memory);
+    };
+    match found {
+        Finding::Contradiction(places) => {
+            write_contradiction(alloc, text, &places, instance.hard().len(), out)?;
+            Ok(true)
+        }
+        Finding::Open => end_reason(write_open(out), true),
+        Finding::Solution => end_reason(write_refuted(out), false),
+    }
+}
+
+/// What is answered once it is written.
+fn end_reason(written: Result<(), WriteFault>, answer: bool) -> Result<bool, ExplainFault> {
+    match written {
+        Ok(()) => Ok(answer),
+        Err(_) => Err(ExplainFault::Output),
+    }
+}
+
 /// The exit status where there is no explanation, or not all of it.
-fn explain_fault<R: Print, E: Write>(
+fn explain_fault<'a, R: Print, E: Write>(
     rt: &R,
     messages: &mut Messages<'_, E>,
     text: &[u8],
     fault: ExplainFault,
-) -> Result<u8, RunFault> {
+) -> Result<u8, Fault<'a>> {
     match fault {
         ExplainFault::Text(fault) => Ok(tell_text(messages, text, fault)),
         ExplainFault::Result(line) => show(rt, &Verdict::No(Cause::ResultForm, line)),
-        ExplainFault::Memory => Err(RunFault::Memory),
-        ExplainFault::Output => Err(RunFault::Output),
+        ExplainFault::Memory => Err(Fault::Run(RunFault::Memory)),
+        ExplainFault::Output => Err(Fault::Run(RunFault::Output)),
     }
 }
 

@@ -6,6 +6,7 @@ ghost use Rattle.lrat_check.specs.Lower.{lower_verdict};
 ghost use Rattle.wmax.specs.Inputs.{bound_left, undercuts};
 
 use crate::arguments::SolveRequest;
+use crate::faults::Fault;
 use crate::refusals::{KeptFileFault, Refused};
 use adder::profiles::Profile;
 use explain::judging::{Judgement, read_bits};
@@ -13,20 +14,20 @@ use lrat_check::checking::check_as;
 use lrat_check::lower::{LowerVerdict, check_lower};
 use lrat_check::verdicts::Cause;
 use report::fault::RunFault;
-use report::options::{BEST_OPTION, FROM_OPTION, LOWER_OPTION};
 use std::alloc::Global;
-use std::fs::File;
+use std::fs::{File, OpenFile};
 use std::io::Read;
 use std::rt::Files;
+use wmax_onlooker::beginning::Beginning;
 use wmax_onlooker::bounding::LowerPaths;
-use wmax_onlooker::file_id::{FileId, find_file_id, find_path_id};
+use wmax_onlooker::file_id::{FileId, find_file_id, find_path_id, find_place};
 use wmax_onlooker::files::{UNREADABLE, read_file};
-use wmax_onlooker::keeper::judge_left;
+use wmax_onlooker::keeper::{BestPaths, judge_left};
 use wmax_onlooker::whole_file::WholePaths;
 
 /// What is at hand before a search begins.
 #[derive(Drop)]
-pub(crate) struct Inputs<'a, F> {
+pub(crate) struct Inputs<'a, F: Read> {
     /// FILE.
     pub(crate) source: Source<F>,
     /// RESULT, if there is one: it stays open, so that no other file gets its identity.
@@ -36,14 +37,16 @@ pub(crate) struct Inputs<'a, F> {
     /// Where the best lower bound is kept, if it is to be kept.
     pub(crate) bounds: Option<LowerPaths<'a>>,
     /// Where the best solution is kept, if it is to be kept.
-    pub(crate) kept: Option<Kept<'a>>,
+    pub(crate) kept: Option<BestPaths<'a>>,
 }
 
 /// FILE, which may be a pipe.
 #[derive(Drop)]
-pub(crate) struct Source<F> {
+pub(crate) struct Source<F: Read> {
     /// What is left of it.
-    pub(crate) file: F,
+    pub(crate) file: Beginning<F>,
+    /// Which file it is; none where it cannot be looked at.
+    here: Option<FileId>,
     /// All of it, once something had to be judged by it.
     pub(crate) whole: Option<Vec<u8>>,
 }
@@ -61,6 +64,14 @@ impl<F: Read> Source<F> {
         };
         Ok(self.whole.insert(bytes))
     }
+
+    /// The first bytes that were read of it.
+    pub(crate) fn first(&self) -> &[u8] {
+        match &self.whole {
+            Some(text) => text.as_slice(),
+            None => self.file.first(),
+        }
+    }
 }
 
 /// A solution with which a search begins.
@@ -72,21 +83,16 @@ pub(crate) struct FirstSolution {
     pub(crate) bits: Vec<bool>,
 }
 
-/// Where the best solution is kept.
-#[derive(Drop)]
-pub(crate) struct Kept<'a> {
-    /// The files.
-    pub(crate) paths: WholePaths<'a>,
-    /// What the solution of an earlier run costs that stands there, below 2^62; none where none
-    /// does.
-    pub(crate) earlier: Option<u64>,
-}
-
-impl<'a, F> Inputs<'a, F> {
+impl<'a, F: OpenFile + Read> Inputs<'a, F> {
     /// FILE alone, of which nothing is read yet.
     pub(crate) fn of_file(file: F) -> Self {
+        let here = find_file_id(&file);
         Inputs {
-            source: Source { file, whole: None },
+            source: Source {
+                file: Beginning::new(file),
+                here,
+                whole: None,
+            },
             result: None,
             start: None,
             bounds: None,
@@ -100,8 +106,8 @@ impl<'a, F> Inputs<'a, F> {
 ///
 /// # Errors
 ///
-/// `Unreadable`, `Wrong`, `Lower` and `Best`, the first that is met; `Fault` with a fault of FILE,
-/// or `Memory`.
+/// `Wrong`, `Lower`, `Best`, and `Fault` where a file cannot be read, with a fault of FILE, or with
+/// `Memory`: the first that is met.
 pub(crate) fn prepare<'a, R: Files + AllocGlobal>(
     rt: &R,
     request: SolveRequest<'a>,
@@ -110,7 +116,7 @@ pub(crate) fn prepare<'a, R: Files + AllocGlobal>(
     let read = match request.from {
         Some(path) => take_start(rt, path, inputs)?,
         None => {
-            let here = find_file_id(&inputs.source.file).ok_or(UNREADABLE)?;
+            let here = inputs.source.here.ok_or(UNREADABLE)?;
             [here, here]
         }
     };
@@ -130,19 +136,13 @@ fn take_start<'a, R: Files + AllocGlobal>(
     path: &'a str,
     inputs: &mut Inputs<'a, R::File>,
 ) -> Result<[FileId; 2], Refused<'a>> {
-    let mut result = File::open(rt, path).map_err(|_| Refused::of_file(
-        UNREADABLE,
-        FROM_OPTION,
-        path,
-    ))?;
-    let here = find_file_id(&inputs.source.file).ok_or(UNREADABLE)?;
-    let there = find_file_id(&result).ok_or(UNREADABLE)?;
+    let mut result = File::open(rt, path).map_err(|_| Refused::of_file(UNREADABLE, path))?;
+    let here = inputs.source.here.ok_or(UNREADABLE)?;
+    let Some(there) = find_file_id(&result) else {
+        return Err(Refused::of_file(UNREADABLE, path));
+    };
     let text = inputs.source.read_whole(rt)?;
-    let said = read_file(rt, &mut result).map_err(|fault| Refused::of_file(
-        fault,
-        FROM_OPTION,
-        path,
-    ))?;
+    let said = read_file(rt, &mut result).map_err(|fault| Refused::of_file(fault, path))?;
     match judge_left(rt.alloc(), text, &said)? {
         Judgement::Unknown | Judgement::Unsatisfiable => {}
         Judgement::Right(cost) => inputs.start = read_start(rt.alloc(), &said, cost)?,
@@ -178,11 +178,11 @@ fn take_bounds<'a, R: Files + AllocGlobal>(
     read: [FileId; 2],
     inputs: &mut Inputs<'a, R::File>,
 ) -> Result<(), Refused<'a>> {
-    let paths = WholePaths::new(rt.alloc(), path).map_err(|_| RunFault::Memory)?;
+    let paths = WholePaths::new(rt, path).map_err(|_| RunFault::Memory)?;
     if are_named(rt, &paths, &[request.proof, request.best], read) {
         return Err(Refused::Lower(KeptFileFault::Taken));
     }
-    let left = read_left(rt, &paths, LOWER_OPTION, path)?;
+    let left = read_left(rt, &paths, path)?;
     let is_free = left.is_empty();
     let lower = if is_free {
         0
@@ -197,19 +197,18 @@ fn take_bounds<'a, R: Files + AllocGlobal>(
     Ok(())
 }
 
-/// What an earlier run left in the file of an option.
+/// What an earlier run left in the file at this path.
 fn read_left<'a, R: Files + AllocGlobal>(
     rt: &R,
     paths: &WholePaths<'_>,
-    option: &'static str,
     path: &'a str,
 ) -> Result<Vec<u8>, Refused<'a>> {
     paths
         .read_earlier(rt)
-        .map_err(|fault| Refused::of_file(fault, option, path))
+        .map_err(|fault| Refused::of_file(fault, path))
 }
 
-/// Whether these paths are those of a file that is read, of one that has one of these names, or of
+/// Whether these paths are those of a file that is read, of one that one of these names means, or of
 /// what is no regular file.
 pub(crate) fn are_named<R: Files>(
     rt: &R,
@@ -219,7 +218,7 @@ pub(crate) fn are_named<R: Files>(
 ) -> bool {
     let mut taken = paths.are_taken(rt, &read);
     for name in names.iter().flatten() {
-        taken |= paths.meets(name);
+        taken |= paths.meets(&find_place(rt, name));
         if let Some(there) = find_path_id(rt, name) {
             taken |= paths.are_taken(rt, &[there]);
         }
@@ -236,7 +235,7 @@ pub(crate) fn are_named<R: Files>(
 fn judge_bound<'a>(alloc: Global, text: &[u8], left: &[u8]) -> Result<u64, Refused<'a>>
     ensures bound { IfOk result
         (λ lower. bound_left (lower_verdict text.now left.now) ≡ Some lower) }
-    ensures other { IfErr result (λ why. (why ≡ Refused.Fault RunFault.Memory)
+    ensures other { IfErr result (λ why. (why ≡ Refused.Fault (Fault.Run RunFault.Memory))
         ⊎ ((why ≡ Refused.Lower KeptFileFault.Other)
         × (bound_left (lower_verdict text.now left.now) ≡ None))) }
 {
@@ -245,7 +244,7 @@ fn judge_bound<'a>(alloc: Global, text: &[u8], left: &[u8]) -> Result<u64, Refus
         Ok(LowerVerdict::NoSolution) => Ok(u64::MAX),
         Ok(LowerVerdict::No(Cause::Text, _)) => Ok(0),
         Ok(LowerVerdict::No(..)) => Err(Refused::Lower(KeptFileFault::Other)),
-        Err(_) => Err(Refused::Fault(RunFault::Memory)),
+        Err(_) => Err(Refused::Fault(Fault::Run(RunFault::Memory))),
     }
 }
 
@@ -260,18 +259,23 @@ fn take_best<'a, R: Files + AllocGlobal>(
     inputs: &mut Inputs<'a, R::File>,
 ) -> Result<(), Refused<'a>> {
     let [here, result] = read;
-    let paths = WholePaths::new(rt.alloc(), path).map_err(|_| RunFault::Memory)?;
+    let paths = WholePaths::new(rt, path).map_err(|_| RunFault::Memory)?;
     let is_named = are_named(rt, &paths, &[request.proof, request.lower], [here, here]);
     if is_named || paths.is_part_taken(rt, &[result]) {
         return Err(Refused::Best(KeptFileFault::Taken));
     }
-    let left = read_left(rt, &paths, BEST_OPTION, path)?;
-    let earlier = if left.is_empty() {
+    let left = read_left(rt, &paths, path)?;
+    let is_free = left.is_empty();
+    let cost = if is_free {
         None
     } else {
         take_earlier(rt, inputs, &left)?
     };
-    inputs.kept = Some(Kept { paths, earlier });
+    inputs.kept = Some(BestPaths {
+        paths,
+        cost,
+        is_free,
+    });
     Ok(())
 }
 

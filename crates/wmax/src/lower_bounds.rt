@@ -3,28 +3,48 @@ ghost use Rattle.std.specs.Prelude.{IfOk};
 ghost use Rattle.lrat_check.specs.Lower.{IsTrueLower};
 
 use crate::arguments::LowerRequest;
+use crate::faults::{Fault, end_output, open, read_whole, tell_packed};
 use lrat_check::lower::{LowerVerdict, check_lower_from};
-use lrat_check::verdicts::CheckFault;
+use lrat_check::verdicts::{Cause, CheckFault};
 use report::fault::RunFault;
 use report::printing::{deliver, lower_code, print_lower};
-use std::fs::File;
-use std::io::{self, Read};
+use std::io::{Read, Write};
 use std::rt::Files;
-use wmax_onlooker::files::{UNREADABLE, read_file};
+use wmax_onlooker::files::UNREADABLE;
+use wmax_onlooker::standard_error::Messages;
+use wmax_onlooker::standard_output::standard_output;
 
 /// Both files are opened before one is read. The certificate is judged while it is read, so none of
 /// it is kept but the clauses that are live.
-pub fn lower<R: Files + AllocGlobal + Print>(
+pub fn lower<'a, R: Files + AllocGlobal + Print, E: Write>(
     rt: &R,
-    request: &LowerRequest<'_>,
-) -> Result<u8, RunFault> {
-    let mut text = File::open(rt, request.text).map_err(|_| UNREADABLE)?;
-    let mut proof = File::open(rt, request.proof).map_err(|_| UNREADABLE)?;
-    let text = read_file(rt, &mut text)?;
-    let verdict = verdict_of(rt, &text, &mut proof)?;
-    let mut out = io::writer(rt);
-    deliver(print_lower(&verdict, &mut out), &mut out)?;
-    Ok(lower_code(&verdict))
+    messages: &mut Messages<'_, E>,
+    request: &LowerRequest<'a>,
+) -> Result<u8, Fault<'a>> {
+    let mut text = open(rt, request.text)?;
+    let mut proof = open(rt, request.proof)?;
+    let text = read_whole(rt, &mut text, request.text)?;
+    match verdict_of(rt, &text, &mut proof) {
+        Ok(verdict) => show_lower(rt, messages, &text, &verdict),
+        Err(fault) => Err(Fault::of_file(fault, request.proof)),
+    }
+}
+
+/// Prints what a certificate proves of this text, and what to do with the text if it is packed; the
+/// exit status.
+fn show_lower<'a, R: Print, E: Write>(
+    rt: &R,
+    messages: &mut Messages<'_, E>,
+    text: &[u8],
+    verdict: &LowerVerdict,
+) -> Result<u8, Fault<'a>> {
+    let mut out = standard_output(rt);
+    let written = deliver(print_lower(verdict, &mut out), &mut out);
+    let status = end_output(written.map(|()| lower_code(verdict)), out.is_closed())?;
+    if let LowerVerdict::No(Cause::Text, _) = verdict {
+        tell_packed(messages, text);
+    }
+    Ok(status)
 }
 
 /// Judges the certificate.

@@ -6,6 +6,7 @@ mod arguments;
 mod checking;
 mod encoding;
 mod explaining;
+mod faults;
 mod inputs;
 mod lower_bounds;
 mod profiles;
@@ -17,11 +18,12 @@ use checking::check;
 use clap::Error;
 use clap::error::ErrorKind;
 use encoding::encode;
+use explain::showing::Shown;
 use explaining::explain;
+use faults::{Fault, tell_fault};
 use lower_bounds::lower;
 use report::fault::RunFault;
 use report::options;
-use report::printing::{fault_code, print_fault};
 use solving::solve;
 use std::fs::OpenOptions;
 use std::io::{IsTerminal, Write};
@@ -29,23 +31,18 @@ use std::process::ExitCode;
 use std::rt::{Clock, Env, Files};
 use std::{env, io};
 use wmax_onlooker::standard_error::Messages;
+use wmax_onlooker::standard_output::is_for_closing;
 
-/// The exit status. A fault is told on standard error; one that cannot be told changes no status.
-fn tell<E: Write>(messages: &mut Messages<'_, E>, outcome: Result<u8, RunFault>) -> u8 {
-    match outcome {
-        Ok(status) => status,
-        Err(fault) => {
-            let _ = print_fault(&fault, messages.below());
-            fault_code(&fault)
-        }
-    }
+/// The exit status where memory was refused, which is told on standard error.
+fn tell_memory<E: Write>(messages: &mut Messages<'_, E>) -> u8 {
+    tell_fault(messages, Fault::Run(RunFault::Memory))
 }
 
 /// The exit status where the command line cannot be read: refused memory, or a word that is not
 /// UTF-8.
 fn tell_words<E: Write>(messages: &mut Messages<'_, E>, kind: io::ErrorKind) -> u8 {
     if kind == io::ErrorKind::OutOfMemory {
-        return tell(messages, Err(RunFault::Memory));
+        return tell_memory(messages);
     }
     let _ = writeln!(
         messages.below(),
@@ -67,7 +64,7 @@ fn print_mistake<E: Write>(messages: &mut Messages<'_, E>, text: &str) {
             continue;
         }
         is_blank = line.is_empty();
-        let _ = writeln!(err, "{line}");
+        let _ = writeln!(err, "{}", Shown(line));
     }
 }
 
@@ -80,14 +77,18 @@ fn print_refusal<R: AllocGlobal + Print, E: Write>(
 ) -> u8 {
     if error.use_stderr() {
         let Ok(text) = format!(in rt.alloc(); "{error}") else {
-            return tell(messages, Err(RunFault::Memory));
+            return tell_memory(messages);
         };
         print_mistake(messages, text.as_str());
         return 2;
     }
-    match rt.print(error) {
-        Ok(()) => 0,
-        Err(_) => tell(messages, Err(RunFault::Output)),
+    let printed = rt.print(error);
+    if printed.is_ok() {
+        0
+    } else if is_for_closing(&printed) {
+        tell_fault(messages, Fault::Closed)
+    } else {
+        tell_fault(messages, Fault::Run(RunFault::Output))
     }
 }
 
@@ -101,7 +102,7 @@ fn run_command<R: Files + AllocGlobal + Print + Env + Clock, E: Write>(
         Err(error) => return tell_words(messages, error.kind()),
     };
     let Ok(words) = args.collect(rt.alloc()) else {
-        return tell(messages, Err(RunFault::Memory));
+        return tell_memory(messages);
     };
     let words: Vec<String> = words;
     match options::make_command(rt.alloc()) {
@@ -113,7 +114,7 @@ fn run_command<R: Files + AllocGlobal + Print + Env + Clock, E: Write>(
             },
             Err(error) => refuse(rt, messages, &error),
         },
-        Err(_) => tell(messages, Err(RunFault::Memory)),
+        Err(_) => tell_memory(messages),
     }
 }
 
@@ -126,11 +127,14 @@ fn do_request<R: Files + AllocGlobal + Print + Env + Clock, E: Write>(
     let outcome = match request {
         Request::Solve(request) => solve(rt, messages, request),
         Request::Check(request) => check(rt, messages, request),
-        Request::Lower(request) => lower(rt, request),
+        Request::Lower(request) => lower(rt, messages, request),
         Request::Explain(request) => explain(rt, messages, request),
         Request::Encode(request) => encode(rt, messages, request),
     };
-    tell(messages, outcome)
+    match outcome {
+        Ok(status) => status,
+        Err(fault) => tell_fault(messages, fault),
+    }
 }
 
 /// The exit status where `clap` gives no matches: refused memory, help, or a mistake.
@@ -140,7 +144,7 @@ fn refuse<R: AllocGlobal + Print, E: Write>(
     error: &Error,
 ) -> u8 {
     if error.kind() == ErrorKind::OutOfMemory {
-        return tell(messages, Err(RunFault::Memory));
+        return tell_memory(messages);
     }
     print_refusal(rt, messages, error)
 }

@@ -1,5 +1,6 @@
 //! Which profile a command takes: the one of `--profile`, else that of the environment, else the
 //! first.
+use crate::faults::Fault;
 use adder::profiles::Profile;
 use report::fault::RunFault;
 use report::options::pick_profile;
@@ -47,10 +48,10 @@ fn usual_profile<R: Env + AllocGlobal>(rt: &R) -> Result<Profile, NoProfile> {
 }
 
 /// Tells why there is no profile; the exit status.
-pub fn refuse_profile<E: Write>(
+pub fn refuse_profile<'a, E: Write>(
     messages: &mut Messages<'_, E>,
     why: NoProfile,
-) -> Result<u8, RunFault> {
+) -> Result<u8, Fault<'a>> {
     match why {
         NoProfile::Named => {
             let _ = writeln!(
@@ -59,6 +60,6 @@ pub fn refuse_profile<E: Write>(
             );
             Ok(2)
         }
-        NoProfile::Memory => Err(RunFault::Memory),
+        NoProfile::Memory => Err(Fault::Run(RunFault::Memory)),
     }
 }

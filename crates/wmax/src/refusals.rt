@@ -4,27 +4,20 @@ ghost use Rattle.std.specs.Prelude.{◌≡◌};
 ghost use Rattle.wmax.specs.Refusals.{kept_status};
 
 use crate::checking::show;
+use crate::faults::Fault;
 use lrat_check::verdicts::Verdict;
 use report::fault::RunFault;
 use report::options::{BEST_OPTION, LOWER_OPTION};
 use std::io::Write;
-use wmax_onlooker::files::refuse_file;
 use wmax_onlooker::standard_error::Messages;
 
 /// Why there is no run.
 #[derive(Clone, Copy, Drop)]
 pub(crate) enum Refused<'a> {
     /// A fault that any command may meet.
-    Fault(RunFault),
+    Fault(Fault<'a>),
     /// The result with which the search was to begin is wrong: what `check` says of it.
     Wrong(Verdict),
-    /// The file of an option cannot be opened or read.
-    Unreadable {
-        /// The option.
-        option: &'static str,
-        /// The file.
-        path: &'a str,
-    },
     /// The file of `--best` is of no use.
     Best(KeptFileFault),
     /// The file of `--lower` is of no use.
@@ -32,18 +25,20 @@ pub(crate) enum Refused<'a> {
 }
 
 impl From<RunFault> for Refused<'_> {
+    ghost use Rattle.wmax.specs.declared.faults.Fault.TheVariants.{Run};
+    ghost use Rattle.wmax.specs.declared.refusals.Refused.TheVariants.{Fault as FaultOf};
+
+    ghost from_gives = { λ fault made. made ≡ FaultOf (Run fault) };
+
     fn from(fault: RunFault) -> Self {
-        Refused::Fault(fault)
+        Refused::Fault(Fault::Run(fault))
     }
 }
 
 impl<'a> Refused<'a> {
-    /// Why there is no run where this file of an option cannot be read whole.
-    pub(crate) fn of_file(fault: RunFault, option: &'static str, path: &'a str) -> Self {
-        match fault {
-            RunFault::Read(_) => Refused::Unreadable { option, path },
-            _ => Refused::Fault(fault),
-        }
+    /// Why there is no run where this file cannot be read whole.
+    pub(crate) fn of_file(fault: RunFault, path: &'a str) -> Self {
+        Refused::Fault(Fault::of_file(fault, path))
     }
 }
 
@@ -59,15 +54,14 @@ pub(crate) enum KeptFileFault {
 }
 
 /// Tells why there is no run; the exit status.
-pub(crate) fn tell_refused<R: Print, E: Write>(
+pub(crate) fn tell_refused<'a, R: Print, E: Write>(
     rt: &R,
     messages: &mut Messages<'_, E>,
-    refused: Refused<'_>,
-) -> Result<u8, RunFault> {
+    refused: Refused<'a>,
+) -> Result<u8, Fault<'a>> {
     match refused {
         Refused::Fault(fault) => Err(fault),
         Refused::Wrong(verdict) => show(rt, &verdict),
-        Refused::Unreadable { option, path } => Ok(refuse_file(messages, option, path)),
         Refused::Best(why) => Ok(refuse_kept(messages, BEST_OPTION, "correct result", why)),
         Refused::Lower(why) => Ok(refuse_kept(
             messages,

@@ -1,6 +1,7 @@
 //! `wmax solve`: a result and its certificate.
 use crate::arguments::SolveRequest;
-use crate::inputs::{Inputs, Kept, Source, are_named, prepare};
+use crate::faults::{Fault, end_output, open, tell_text_fault};
+use crate::inputs::{Inputs, Source, are_named, prepare};
 use crate::profiles::{choose_profile, refuse_profile};
 use crate::refusals::{KeptFileFault, Refused, tell_refused};
 use adder::profiles::Profile;
@@ -9,62 +10,68 @@ use report::best::RunWatch;
 use report::fault::RunFault;
 use report::options::MOST_CONFLICTS;
 use report::running::run_from;
-use std::fs::File;
+use std::alloc::Global;
 use std::io::{self, Read, Write};
 use std::rt::{Clock, Env, Files};
 use wmax_onlooker::bounding::{Bounder, LowerPaths};
 use wmax_onlooker::file_id::{FileId, empty, find_file_id, open_proof};
-use wmax_onlooker::files::UNREADABLE;
-use wmax_onlooker::keeper::Keeper;
+use wmax_onlooker::keeper::{BestPaths, Keeper};
 use wmax_onlooker::onlooker::Onlooker;
 use wmax_onlooker::progress::Meter;
 use wmax_onlooker::standard_error::Messages;
+use wmax_onlooker::standard_output::standard_output;
 
 /// FILE is opened, then RESULT, if the search begins with one: that is judged by FILE, all of which
 /// is in memory then. Then the files of the best lower bound and of the best solution are looked
 /// at, and the search begins with what stands in that, if it is cheaper. Then the file of the
 /// certificate is opened or created, then the kept files are written, then that of the certificate
 /// is emptied, and what is left of FILE is read. Without a file the certificate is dropped.
-pub fn solve<R: Files + AllocGlobal + Print + Env + Clock, E: Write>(
+pub fn solve<'a, R: Files + AllocGlobal + Print + Env + Clock, E: Write>(
     rt: &R,
     messages: &mut Messages<'_, E>,
-    request: &SolveRequest<'_>,
-) -> Result<u8, RunFault> {
+    request: &SolveRequest<'a>,
+) -> Result<u8, Fault<'a>> {
     let profile = match choose_profile(rt, request.profile) {
         Ok(profile) => profile,
         Err(why) => return refuse_profile(messages, why),
     };
-    let file = File::open(rt, request.text).map_err(|_| UNREADABLE)?;
-    solve_file(rt, messages, *request, profile, file)
+    let file = open(rt, request.text)?;
+    Ok(solve_file(rt, messages, *request, profile, file))
 }
 
-/// Solves this file.
+/// Solves this file; the exit status.
 fn solve_file<'a, R: Files + AllocGlobal + Print + Clock, E: Write>(
     rt: &'a R,
-    messages: &'a mut Messages<'_, E>,
+    messages: &mut Messages<'_, E>,
     request: SolveRequest<'a>,
     profile: Profile,
     file: R::File,
-) -> Result<u8, RunFault> {
+) -> u8 {
     let mut inputs = Inputs::of_file(file);
-    match prepare(rt, request, &mut inputs) {
-        Ok(read) => solve_into(rt, messages, request, profile, inputs, read),
+    let ended = match prepare(rt, request, &mut inputs) {
+        Ok(read) => solve_into(rt, messages, request, profile, &mut inputs, read),
         Err(refused) => tell_refused(rt, messages, refused),
+    };
+    match ended {
+        Ok(status) => status,
+        Err(fault) => {
+            tell_text_fault(messages, fault.of_text(request.text), inputs.source.first())
+        }
     }
 }
 
 /// Solves, with the certificate in its file, which may be none of those that are read.
 fn solve_into<'a, R: Files + AllocGlobal + Print + Clock, E: Write>(
     rt: &'a R,
-    messages: &'a mut Messages<'_, E>,
+    messages: &mut Messages<'_, E>,
     request: SolveRequest<'a>,
     profile: Profile,
-    mut inputs: Inputs<'a, R::File>,
+    inputs: &mut Inputs<'a, R::File>,
     read: [FileId; 2],
-) -> Result<u8, RunFault> {
+) -> Result<u8, Fault<'a>> {
     let Some(path) = request.proof else {
         let [here, _] = read;
-        return match start_keepers(rt, request, &mut inputs, [here, here]) {
+        return match start_keepers(rt, request, inputs, [here, here]) {
             Ok(keepers) => {
                 solve_over(
                     rt,
@@ -79,7 +86,7 @@ fn solve_into<'a, R: Files + AllocGlobal + Print + Clock, E: Write>(
             Err(refused) => tell_refused(rt, messages, refused),
         };
     };
-    match open_outputs(rt, request, path, &mut inputs, read) {
+    match open_outputs(rt, request, path, inputs, read) {
         Ok(RunOutputs { mut proof, keepers }) => {
             solve_over(rt, messages, request, profile, inputs, &mut proof, keepers)
         }
@@ -118,7 +125,7 @@ fn open_outputs<'a, R: Files>(
     let there = find_file_id(&proof).ok_or(RunFault::ProofOutput)?;
     let keepers = start_keepers(rt, request, inputs, [here, there])?;
     if !empty(&proof) {
-        return Err(Refused::Fault(RunFault::ProofOutput));
+        return Err(Refused::Fault(Fault::Run(RunFault::ProofOutput)));
     }
     Ok(RunOutputs { proof, keepers })
 }
@@ -146,19 +153,15 @@ fn start_keepers<'a, R: Files>(
 /// that the certificate has a file.
 fn start_keeper<'a, R: Files>(
     rt: &'a R,
-    kept: Option<Kept<'a>>,
+    kept: Option<BestPaths<'a>>,
     others: [FileId; 2],
 ) -> Result<Keeper<'a, R>, KeptFileFault> {
-    let started = match kept {
-        Some(Kept { paths, earlier }) => {
-            if paths.are_taken(rt, &others) {
-                return Err(KeptFileFault::Taken);
-            }
-            Keeper::start(rt, Some(paths), others, earlier)
+    if let Some(kept) = &kept {
+        if kept.paths.are_taken(rt, &others) {
+            return Err(KeptFileFault::Taken);
         }
-        None => Keeper::start(rt, None, others, None),
-    };
-    started.ok_or(KeptFileFault::Unwritable)
+    }
+    Keeper::start(rt, kept, others).ok_or(KeptFileFault::Unwritable)
 }
 
 /// What keeps the best lower bound, now that the best solution has a file, of this name.
@@ -178,14 +181,14 @@ fn start_bounder<'a, R: Files>(
 
 /// Solves, with what is to be written at hand.
 fn solve_over<'a, R: Files + AllocGlobal + Print + Clock, E: Write, P: Write>(
-    rt: &'a R,
-    messages: &'a mut Messages<'_, E>,
+    rt: &R,
+    messages: &mut Messages<'_, E>,
     request: SolveRequest<'_>,
     profile: Profile,
-    inputs: Inputs<'_, R::File>,
+    inputs: &mut Inputs<'_, R::File>,
     proof: &mut P,
-    keepers: Keepers<'a, R>,
-) -> Result<u8, RunFault> {
+    keepers: Keepers<'_, R>,
+) -> Result<u8, Fault<'a>> {
     // `clap` lets no greater one pass; said again, since nothing is known of that here.
     let mut budget = Budget::new(request.limit.min(MOST_CONFLICTS));
     let meter = if request.is_told {
@@ -200,8 +203,8 @@ fn solve_over<'a, R: Files + AllocGlobal + Print + Clock, E: Write, P: Write>(
         meter,
         messages,
     };
-    let bits = inputs.start.map(|start| start.bits);
-    let Source { mut file, whole } = inputs.source;
+    let bits = inputs.start.take().map(|start| start.bits);
+    let Source { file, whole, .. } = &mut inputs.source;
     match whole {
         Some(text) => search(
             rt,
@@ -212,20 +215,12 @@ fn solve_over<'a, R: Files + AllocGlobal + Print + Clock, E: Write, P: Write>(
             proof,
             &mut onlooker,
         ),
-        None => search(
-            rt,
-            &mut file,
-            bits,
-            profile,
-            &mut budget,
-            proof,
-            &mut onlooker,
-        ),
+        None => search(rt, file, bits, profile, &mut budget, proof, &mut onlooker),
     }
 }
 
 /// Solves this text, from these bits if there are any; the exit status.
-fn search<R: AllocGlobal + Print, T: Read, P: Write, K: RunWatch>(
+fn search<'a, R: AllocGlobal + Print, T: Read, P: Write, K: RunWatch>(
     rt: &R,
     text: &mut T,
     bits: Option<Vec<bool>>,
@@ -233,9 +228,9 @@ fn search<R: AllocGlobal + Print, T: Read, P: Write, K: RunWatch>(
     budget: &mut Budget,
     proof: &mut P,
     watch: &mut K,
-) -> Result<u8, RunFault> {
-    let mut out = io::writer(rt);
-    let status = run_from(
+) -> Result<u8, Fault<'a>> {
+    let mut out = standard_output(rt);
+    let ended = run(
         rt.alloc(),
         text,
         bits,
@@ -244,6 +239,21 @@ fn search<R: AllocGlobal + Print, T: Read, P: Write, K: RunWatch>(
         proof,
         profile,
         watch,
-    )?;
+    );
+    end_output(ended, out.is_closed())
+}
+
+/// Solves this text, with the result on a writer; the exit status.
+fn run<T: Read, O: Write, P: Write, K: RunWatch>(
+    alloc: Global,
+    text: &mut T,
+    bits: Option<Vec<bool>>,
+    budget: &mut Budget,
+    out: &mut O,
+    proof: &mut P,
+    profile: Profile,
+    watch: &mut K,
+) -> Result<u8, RunFault> {
+    let status = run_from(alloc, text, bits, budget, out, proof, profile, watch)?;
     Ok(status.code())
 }

@@ -1,5 +1,7 @@
--- What stands in the file of `--best`, judged by the text of the instance.
-use Rattle.std.specs.Prelude.{◌≡◌, ℕ, List, ◌⊎◌}
+-- What stands in the file of `--best`, judged by the text of the instance, and what replaces it.
+use Rattle.std.specs.Prelude.{◌≡◌, ℕ, Bool, true, false, List, Option, Some, None, nat_lt, ◌⊎◌}
+use Rattle.improve.specs.declared.found.Found.{Found}
+use Rattle.improve.specs.declared.found.Found.TheVariants.{Optimum, Unsat, Best, Nothing}
 use Rattle.explain.specs.Judging.{IsReadFault, JudgesTexts}
 use Rattle.explain.specs.declared.explaining.ExplainFault.TheVariants.{Result}
 use Rattle.explain.specs.declared.judging.Judgement.{Judgement}
@@ -13,3 +15,19 @@ IsNoResult text left = (line : ℕ) × IsReadFault text left (Result line)
 abbrev pub IsLeft : List ℕ → List ℕ → Judgement → Type 0
 IsLeft text left judgement =
     JudgesTexts text left judgement ⊎ (IsNoResult text left × (judgement ≡ Wrong))
+
+-- whether this cost is less than that of the solution which stands there, if there is one
+abbrev pub undercuts : ℕ → Option ℕ → Bool
+undercuts cost None = true
+undercuts cost (Some least) = nat_lt cost least
+
+-- it stays, or this cheaper one takes its place
+abbrev pub IsImproved : Option ℕ → Option ℕ → ℕ → Type 0
+IsImproved old new cost = (new ≡ old) ⊎ ((undercuts cost old ≡ true) × (new ≡ Some cost))
+
+-- whether the end of a search says more than what stands there: a proof, or a cheaper solution
+abbrev pub is_better : Found → Option ℕ → Bool
+is_better (Optimum c bits log clauses cores) least = true
+is_better (Unsat log clauses) least = true
+is_better (Best c bits work) least = undercuts c least
+is_better (Nothing work) least = false

@@ -1,5 +1,7 @@
 pub mod Bounding
+pub mod FileId
 pub mod Files
 pub mod Keeper
+pub mod StandardOutput
 pub mod Vectors
 pub mod WholeFile

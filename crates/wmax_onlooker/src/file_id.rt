@@ -1,10 +1,12 @@
 //! Which file one is, and where files are written: never into one that the run reads or writes
 //! otherwise. No contract speaks of what files the system has: that is tested.
-ghost use Rattle.std.specs.Prelude.{◌≡◌, IfErr};
+ghost use Rattle.std.specs.Prelude.{◌≡◌, ◌↔◌, IfErr, IsTrue};
+ghost use Rattle.wmax_onlooker.specs.FileId.{IsOneFolder, file_name_of};
 
 use report::fault::RunFault;
 use std::fs::{self, Metadata, OpenFile, OpenOptions};
 use std::os::unix::fs::MetadataExt;
+use std::path::Path;
 use std::rt::Files;
 
 /// Which file one is, by whatever name or link it is found.
@@ -37,6 +39,57 @@ pub fn find_path_id<R: Files>(rt: &R, path: &str) -> Option<FileId> {
     match fs::metadata(rt, path) {
         Ok(data) => Some(file_id_of(&data)),
         Err(_) => None,
+    }
+}
+
+/// Where the file of a path stands, or would stand if it were there: two paths with one place are
+/// those of one file, however they are spelled.
+#[derive(Clone, Copy, Drop)]
+pub struct FilePlace<'a> {
+    /// Its folder; none where there is none, or it cannot be looked at: then nothing stands there.
+    pub(crate) folder: Option<FileId>,
+    /// Its name there; empty where the path has none.
+    pub(crate) name: &'a str,
+}
+
+/// Where the file of this path stands, or would.
+pub fn find_place<'a, R: Files>(rt: &R, path: &'a str) -> FilePlace<'a>
+    ensures name { result.name.now ≡ file_name_of path.now }
+{
+    let folder = match Path::new(path).parent() {
+        Some(folder) => find_path_id(rt, folder_path(folder.to_str().unwrap_or(""))),
+        None => None,
+    };
+    FilePlace {
+        folder,
+        name: name_in(path),
+    }
+}
+
+/// The path of the folder that stands before a name: the current one where nothing does.
+fn folder_path(before: &str) -> &str {
+    if before.is_empty() { "." } else { before }
+}
+
+/// The name that a path has in its folder; empty where it has none.
+fn name_in(path: &str) -> &str
+    ensures { result.now ≡ file_name_of path.now }
+{
+    match Path::new(path).file_name() {
+        Some(name) => name,
+        None => "",
+    }
+}
+
+impl FilePlace<'_> {
+    /// Whether both stand in one folder.
+    pub(crate) fn is_beside(&self, other: &FilePlace<'_>) -> bool
+        ensures { IsTrue result ↔ IsOneFolder self.now.folder other.now.folder }
+    {
+        match (self.folder, other.folder) {
+            (Some(here), Some(there)) => here == there,
+            _ => false,
+        }
     }
 }
 

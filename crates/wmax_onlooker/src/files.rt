@@ -4,6 +4,7 @@ ghost use Rattle.std.specs.Io.KnownBytes.{IsAtEnd};
 ghost use Rattle.wmax_onlooker.specs.Files.{IsFileFault};
 
 use crate::standard_error::Messages;
+use explain::showing::Shown;
 use report::fault::RunFault;
 use std::io::{Read, Write};
 use wcnf::faults::{FaultKind, ReadFault};
@@ -29,13 +30,10 @@ pub fn read_file<R: AllocGlobal, F: Read>(rt: &R, file: &mut F) -> Result<Vec<u8
     Ok(read_all(rt.alloc(), file)?)
 }
 
-/// Tells that the file of an option cannot be opened or read; the exit status.
-pub fn refuse_file<E: Write>(messages: &mut Messages<'_, E>, option: &str, path: &str) -> u8
+/// Tells that this file cannot be opened or read; the exit status.
+pub fn tell_unreadable<E: Write>(messages: &mut Messages<'_, E>, path: &str) -> u8
     ensures status { result ≡ 3 }
 {
-    let _ = writeln!(
-        messages.below(),
-        "error: Read: cannot open or read '{path}' (--{option})"
-    );
+    let _ = writeln!(messages.below(), "error: Read {}", Shown(path));
     3
 }

@@ -1,10 +1,10 @@
-//! The file of `--best`: at each moment a whole result text. A solution that an earlier run left
-//! there stays until this run has one that is as cheap. What it says of an optimum does not stay
-//! then: only this run's own words do, which it has proved.
+//! The file of `--best`: at each moment a whole result text, which only a better one replaces. What
+//! an earlier run left there stays byte for byte until this run has a cheaper solution, or has
+//! proved that none is cheaper or that there is none.
 ghost use Rattle.std.specs.Prelude.{◌≡◌, IfOk, IfSome, IsNone, IsSome};
 ghost use Rattle.improve.specs.Improving.{IsSolution};
 ghost use Rattle.report.specs.Best.{IsFound};
-ghost use Rattle.wmax_onlooker.specs.Keeper.{IsLeft};
+ghost use Rattle.wmax_onlooker.specs.Keeper.{IsImproved, IsLeft, is_better, undercuts};
 
 use crate::file_id::FileId;
 use crate::standard_error::Messages;
@@ -36,61 +36,78 @@ pub fn judge_left(alloc: Global, text: &[u8], left: &[u8]) -> Result<Judgement, 
     }
 }
 
+/// Where the best solution is kept.
+#[derive(Drop)]
+pub struct BestPaths<'a> {
+    /// The files.
+    pub paths: WholePaths<'a>,
+    /// What the solution costs that stands there, below 2^62; none where none does.
+    pub cost: Option<u64>,
+    /// Whether there is nothing that would be lost.
+    pub is_free: bool,
+}
+
 /// Keeps the best solution in a file, or nowhere.
 #[derive(Drop)]
 pub struct Keeper<'a, R: Files> {
     /// The file; without it nothing is kept.
     file: Option<WholeFile<'a, R>>,
-    /// What the solution of an earlier run costs that stands there, below 2^62; none where none
-    /// does. It is replaced by one that is not dearer.
-    earlier: Option<u64>,
+    /// What the solution costs that stands there, as in `BestPaths`. While the search goes on only
+    /// a cheaper one replaces it.
+    cost: Option<u64>,
 }
 
 impl<'a, R: Files> Keeper<'a, R> {
-    /// Writes first that nothing is known, where no solution of an earlier run stands there. None
-    /// where nothing can be written.
-    pub fn start(
-        rt: &'a R,
-        paths: Option<WholePaths<'a>>,
-        others: [FileId; 2],
-        earlier: Option<u64>,
-    ) -> Option<Self>
-        ensures nowhere { IsNone paths.entry → IsSome result }
-        ensures earlier { IfSome result (λ keeper. keeper.earlier ≡ earlier) }
+    /// Writes first that nothing is known, where nothing stands there. None where nothing can be
+    /// written.
+    pub fn start(rt: &'a R, kept: Option<BestPaths<'a>>, others: [FileId; 2]) -> Option<Self>
+        ensures nowhere { IsNone kept.entry → IsSome result }
+        ensures cost { IfSome kept.entry (λ kept. IfSome result (λ keeper.
+            keeper.cost ≡ kept.cost)) }
     {
-        let Some(paths) = paths else {
+        let Some(kept) = kept else {
             return Some(Keeper {
                 file: None,
-                earlier,
+                cost: None,
             });
         };
+        let BestPaths {
+            paths,
+            cost,
+            is_free,
+        } = kept;
         let file = WholeFile::new(rt, paths, others);
-        if !can_write(&file, earlier.is_none()) {
+        if !can_write(&file, is_free) {
             return None;
         }
         Some(Keeper {
             file: Some(file),
-            earlier,
+            cost,
         })
     }
 
-    /// Whether a solution of this cost is not dearer than that of an earlier run.
-    fn is_as_cheap(&self, cost: u64) -> bool {
-        match self.earlier {
-            Some(earlier) => cost <= earlier,
+    /// Whether a solution of this cost is cheaper than the one that stands there.
+    fn is_cheaper(&self, cost: u64) -> bool
+        ensures { result ≡ undercuts cost self.now.cost }
+    {
+        match self.cost {
+            Some(least) => cost < least,
             None => true,
         }
     }
 
-    /// Whether what was found is not worse than the solution of an earlier run.
-    fn is_as_good(&self, found: &Found) -> bool {
+    /// Whether what was found at the end says more than what stands there.
+    fn is_better(&self, found: &Found) -> bool
+        ensures { result ≡ is_better found.now self.now.cost }
+    {
         match found {
-            Found::Optimum { cost, .. } | Found::Best { cost, .. } => self.is_as_cheap(*cost),
-            Found::Unsat { .. } | Found::Nothing { .. } => self.earlier.is_none(),
+            Found::Optimum { .. } | Found::Unsat { .. } => true,
+            Found::Best { cost, .. } => self.is_cheaper(*cost),
+            Found::Nothing { .. } => false,
         }
     }
 
-    /// Keeps a better solution, where that of an earlier run is not cheaper.
+    /// Keeps a solution that is cheaper than the one that stands there.
     pub(crate) fn better<E: Write>(
         &mut self,
         instance: &Instance,
@@ -99,9 +116,9 @@ impl<'a, R: Files> Keeper<'a, R> {
         messages: &mut Messages<'_, E>,
     )
         requires { IsSolution instance.now bits.now cost }
-        ensures earlier { self.new.earlier ≡ self.old.earlier }
+        ensures cost { IsImproved self.old.cost self.new.cost cost }
     {
-        if !self.is_as_cheap(cost) {
+        if !self.is_cheaper(cost) {
             return;
         }
         let Some(file) = &mut self.file else {
@@ -109,11 +126,14 @@ impl<'a, R: Files> Keeper<'a, R> {
         };
         if let Some(mut part) = file.begin(messages) {
             let written = write_best(instance, cost, bits, &mut part);
-            file.end(written, messages);
+            if file.end(written, messages) {
+                self.cost = Some(cost);
+            }
         }
     }
 
-    /// Keeps what was found, where it is not worse than what an earlier run left.
+    /// Keeps what was found at the end, where that says more than what stands there: a proof, or a
+    /// cheaper solution that could not be written before.
     pub(crate) fn ended<E: Write>(
         &mut self,
         instance: &Instance,
@@ -121,9 +141,9 @@ impl<'a, R: Files> Keeper<'a, R> {
         messages: &mut Messages<'_, E>,
     )
         requires { IsFound instance.now found.now }
-        ensures earlier { self.new.earlier ≡ self.old.earlier }
+        ensures cost { self.new.cost ≡ self.old.cost }
     {
-        if !self.is_as_good(found) {
+        if !self.is_better(found) {
             return;
         }
         let Some(file) = &mut self.file else {

@@ -2,6 +2,7 @@
 //! best lower bound, and how far the run is.
 #![tactic(auto)]
 
+pub mod beginning;
 pub mod bounding;
 pub mod file_id;
 pub mod files;
@@ -9,4 +10,5 @@ pub mod keeper;
 pub mod onlooker;
 pub mod progress;
 pub mod standard_error;
+pub mod standard_output;
 pub mod whole_file;

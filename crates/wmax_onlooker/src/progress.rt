@@ -167,26 +167,31 @@ impl<'a, R: Clock + Files + AllocGlobal> Meter<'a, R> {
         let memory = self.spell_memory()?;
         let spent = self.spell_spent()?;
         format!(in self.rt.alloc();
-            "{start}{}.{} s, {cost}, {pace}, {} learned, {} restarts, {memory}{spent}{end}",
+            "{start}{}.{} s, {cost}, {pace}, {memory}{spent}, {} propagations, {} learned clauses, \
+             {} restarts{end}",
             age.as_secs(),
             age.subsec_millis() / 100,
+            self.propagations.saturating_add(report.propagations),
             report.learned,
             self.restarts.saturating_add(report.restarts)
         )
     }
 
-    /// What the best solution costs, and what is known to be needed.
+    /// What the best solution costs, how many solutions there were up to it, and what is known to
+    /// be needed.
     fn spell_cost(&self) -> Result<String, AllocError> {
         let alloc = self.rt.alloc();
+        let count = self.solutions;
+        let noun = if count == 1 { "solution" } else { "solutions" };
         match (self.cost, self.lower) {
             _ if self.is_refuted => format!(in alloc; "no solution"),
             (None, None) => format!(in alloc; "no solution yet"),
             (None, Some(lower)) => format!(in alloc; "no solution yet, at least {lower}"),
-            (Some(cost), None) => format!(in alloc; "cost {cost}"),
+            (Some(cost), None) => format!(in alloc; "cost {cost} ({count} {noun})"),
             (Some(cost), Some(lower)) => {
                 let gap = gap_of(cost, lower);
                 format!(in alloc;
-                    "cost {cost}, at least {lower}, gap {}.{:02} %",
+                    "cost {cost} ({count} {noun}), at least {lower}, gap {}.{:02} %",
                     gap / 100,
                     gap % 100
                 )
@@ -194,12 +199,11 @@ impl<'a, R: Clock + Files + AllocGlobal> Meter<'a, R> {
         }
     }
 
-    /// How many conflicts and propagations there were.
+    /// How many conflicts there were.
     fn spell_pace(&self, age: Duration) -> Result<String, AllocError> {
         let conflicts = self.report.conflicts;
         let pace = per_second(conflicts, age);
-        let propagations = self.propagations.saturating_add(self.report.propagations);
-        format!(in self.rt.alloc(); "{conflicts} conflicts, {pace}/s, {propagations} propagations")
+        format!(in self.rt.alloc(); "{conflicts} conflicts ({pace} a second)")
     }
 
     /// How much memory the process holds, where the system says it.
@@ -209,7 +213,9 @@ impl<'a, R: Clock + Files + AllocGlobal> Meter<'a, R> {
             return format!(in alloc; "");
         };
         match resident_of(&status) {
-            Some(size) => format!(in alloc; "{} MB, ", size.saturating_mul(1024) / 1_000_000),
+            Some(size) => {
+                format!(in alloc; "{} MB of memory, ", size.saturating_mul(1024) / 1_000_000)
+            }
             None => format!(in alloc; ""),
         }
     }
@@ -218,7 +224,7 @@ impl<'a, R: Clock + Files + AllocGlobal> Meter<'a, R> {
     fn spell_spent(&self) -> Result<String, AllocError> {
         let spent = self.report.conflicts.saturating_add(self.solutions);
         let part = share_of(spent, self.limit);
-        format!(in self.rt.alloc(); "{}.{:02} % spent", part / 100, part % 100)
+        format!(in self.rt.alloc(); "{}.{:02} % of the effort spent", part / 100, part % 100)
     }
 }
 

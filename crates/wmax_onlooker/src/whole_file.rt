@@ -1,12 +1,14 @@
 //! A file that is whole at each moment: a text is written beside it and then renamed over it, so
 //! that whoever kills the program finds the text before or the one after.
 ghost use Rattle.std.specs.Prelude.{◌≡◌, ◌↔◌, IfOk, IfErr, IsTrue, string_bytes};
+ghost use Rattle.wmax_onlooker.specs.FileId.{file_name_of};
 ghost use Rattle.wmax_onlooker.specs.Files.{IsFileFault};
-ghost use Rattle.wmax_onlooker.specs.WholeFile.{Shares, part_path};
+ghost use Rattle.wmax_onlooker.specs.WholeFile.{SharesName, SharesPlace, part_path};
 
-use crate::file_id::{FileId, is_taken, open_empty};
+use crate::file_id::{FileId, FilePlace, find_place, is_taken, open_empty};
 use crate::files::{UNREADABLE, read_file};
 use crate::standard_error::Messages;
+use explain::showing::Shown;
 use report::fault::RunFault;
 use std::alloc::{AllocError, Global};
 use std::fs::{self, File};
@@ -22,8 +24,10 @@ const ENDING: &str = ".part";
 pub struct WholePaths<'a> {
     /// The path that was named.
     path: &'a str,
-    /// Where a text is written before it is whole.
+    /// Where a text is written before it is whole: beside it.
     part: String,
+    /// Where the file of the path stands, or would.
+    place: FilePlace<'a>,
 }
 
 impl<'a> WholePaths<'a> {
@@ -32,28 +36,26 @@ impl<'a> WholePaths<'a> {
     /// # Errors
     ///
     /// `AllocError` where memory was refused.
-    pub fn new(alloc: Global, path: &'a str) -> Result<Self, AllocError>
+    pub fn new<R: Files + AllocGlobal>(rt: &R, path: &'a str) -> Result<Self, AllocError>
         ensures path { IfOk result (λ paths. paths.path.now ≡ path.now) }
         ensures part { IfOk result (λ paths. string_bytes paths.part ≡ part_path path.now) }
+        ensures name { IfOk result (λ paths. paths.place.name.now ≡ file_name_of path.now) }
     {
-        let mut part = String::with_capacity(alloc, path.len() + ENDING.len())?;
+        let mut part = String::with_capacity(rt.alloc(), path.len() + ENDING.len())?;
         part.push_str(path)?;
         part.push_str(ENDING)?;
-        Ok(WholePaths { path, part })
+        Ok(WholePaths {
+            path,
+            part,
+            place: find_place(rt, path),
+        })
     }
 
-    /// Whether a file of this name, which may be kept whole too, would share one of the two.
-    pub fn meets(&self, name: &str) -> bool
-        ensures shares { IsTrue result
-            ↔ Shares self.now.path.now (string_bytes self.now.part) name.now }
+    /// Whether a file at this place, which may be kept whole too, would share one of the two.
+    pub fn meets(&self, other: &FilePlace<'_>) -> bool
+        ensures shares { IsTrue result ↔ SharesPlace self.now.place other.now }
     {
-        if name == self.path || name == self.part.as_str() {
-            return true;
-        }
-        match self.path.strip_suffix(ENDING) {
-            Some(stem) => stem == name,
-            None => false,
-        }
+        self.place.is_beside(other) && shares_name(self.place.name, other.name)
     }
 
     /// Whether the text before it is whole would go into one of the others.
@@ -80,6 +82,24 @@ impl<'a> WholePaths<'a> {
         }
         let mut file = File::open(rt, self.path).map_err(|_| UNREADABLE)?;
         read_file(rt, &mut file)
+    }
+}
+
+/// Whether of two files of one folder, which have these names and may both be kept whole, one has a
+/// name that the other takes.
+fn shares_name(name: &str, other: &str) -> bool
+    ensures { IsTrue result ↔ SharesName name.now other.now }
+{
+    name == other || is_part(name, other) || is_part(other, name)
+}
+
+/// Whether the first name is the second with the ending.
+fn is_part(part: &str, name: &str) -> bool
+    ensures { IsTrue result ↔ (part.now ≡ part_path name.now) }
+{
+    match part.strip_suffix(ENDING) {
+        Some(stem) => stem == name,
+        None => false,
     }
 }
 
@@ -158,7 +178,7 @@ impl<'a, R: Files> WholeFile<'a, R> {
             return;
         }
         self.is_told = true;
-        let path = self.paths.path;
+        let path = Shown(self.paths.path);
         let _ = writeln!(messages.below(), "warning: {path} cannot be written");
     }
 }

@@ -1,6 +1,6 @@
 -- The bytes are too many.
 use Rattle.std.proofs.Common.{subst}
-use Rattle.explain.specs.Explanation.{shown_text}
+use Rattle.explain.specs.Showing.{shown_text}
 use Rattle.explain.specs.Sheets.{Displays}
 use Rattle.explain.proofs.Sheets.{more}
 use Rattle.explain.proofs.Words.{cut_long}

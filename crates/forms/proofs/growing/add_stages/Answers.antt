@@ -1,6 +1,6 @@
 -- One stage more.
-use Rattle.std.proofs.Common.{◌≡◌, ◌+◌, ◌-◌, ◌<◌, ◌≤◌, suc, length, sym, ◌∙◌, ap, subst, arith, ◌++◌}
-use Rattle.std.proofs.Common.{[], length-append}
+use Rattle.std.proofs.Common.{◌≡◌, ◌+◌, ◌-◌, ◌<◌, ◌≤◌, suc, length, sym, ◌∙◌, ap, subst}
+use Rattle.std.proofs.Common.{arith, ◌++◌, [], length-append}
 use Rattle.totalizer.specs.Stages.{size_of, outputs_of, stage, stages}
 use Rattle.totalizer.proofs.Laws.{stages_from, stages_worth, stages_size}
 use Rattle.forms.proofs.Staging.{leaf_stages, next_length, next_stage, outputs_stages, stages_rise}
@@ -36,8 +36,15 @@ returns-then-count_stage_clauses-room c =
     let left = c.args.count - suc d in
     let whole : suc d + left ≡ c.args.count = omega (arith, c.loop-done-test.true) in
     subst (λ n. c.args.room < length (stages n 1 v t).clauses) whole
-    (omega (arith, stages_rise (suc d) left 1 v t, next, ap length inv.clauses,
-    c.len.ensures, c.if-count_stage_clauses-room.true, inv.few))
+    (omega (
+      arith,
+      stages_rise (suc d) left 1 v t,
+      next,
+      ap length inv.clauses,
+      c.len.ensures,
+      c.if-count_stage_clauses-room.true,
+      inv.few,
+    ))
 
 pub add_stage-requires-clause-more : goal.add_stage-requires-clause-more
 add_stage-requires-clause-more c =
@@ -49,8 +56,8 @@ add_stage-requires-clause-more c =
       arith,
       ap (λ x. length (outputs_of x)) inv.tree,
       outputs_stages d v t
-      (omega (arith, c.size.ensures, c.if-size-eq1.false, c.requires.some, c.requires.few))
-      c.requires.bare (omega (arith, c.loop-done-test.true, c.requires.few)),
+          (omega (arith, c.size.ensures, c.if-size-eq1.false, c.requires.some, c.requires.few))
+          c.requires.bare (omega (arith, c.loop-done-test.true, c.requires.few)),
       ap size_of inv.tree,
       stages_size d 1 v t,
       c.loop-done-test.true,
@@ -59,7 +66,12 @@ add_stage-requires-clause-more c =
 
 pub add_stage-requires-clause-from_one : goal.add_stage-requires-clause-from_one
 add_stage-requires-clause-from_one c =
-    omega (arith, c.loop-done.invariant.fresh, c.requires.from_one, stages_from c.loop-done.done 1 c.args.fresh c.args.totalizer.now)
+    omega (
+      arith,
+      c.loop-done.invariant.fresh,
+      c.requires.from_one,
+      stages_from c.loop-done.done 1 c.args.fresh c.args.totalizer.now,
+    )
 
 pub add_stage-requires-clause-room : goal.add_stage-requires-clause-room
 add_stage-requires-clause-room c =
@@ -100,7 +112,13 @@ loop-done-preserved c =
           ∙ ap (λ x. x ++ cs) inv.clauses ∙ sym (ap (λ g. g.clauses) all);
       fresh = made.fresh ∙ sym (ap (λ g. g.fresh) all);
       few =
-          omega (arith, ap length made.clauses, length-append c.loop-done.clauses cs,
-          c.count_stage_clauses.ensures c.loop-done.next, c.if-count_stage_clauses-room.false,
-          c.len.ensures, inv.few);
+          omega (
+            arith,
+            ap length made.clauses,
+            length-append c.loop-done.clauses cs,
+            c.count_stage_clauses.ensures c.loop-done.next,
+            c.if-count_stage_clauses-room.false,
+            c.len.ensures,
+            inv.few,
+          );
     }

@@ -1,5 +1,6 @@
 -- A stamp that is taken away changes neither costs nor values.
-use Rattle.std.proofs.Common.{◌∙◌, ◌<◌, ◌≢◌, None, pos, length, get_or, set, refl, arith, below_more, get_or-set_other, get_or-set_same}
+use Rattle.std.proofs.Common.{◌∙◌, ◌<◌, ◌≢◌, None, pos, length, get_or, set, refl, arith}
+use Rattle.std.proofs.Common.{below_more, get_or-set_other, get_or-set_same}
 use Rattle.linear.specs.declared.terms.Term.{Term}
 use Rattle.linear.proofs.Places.{map_same}
 use Rattle.linear.proofs.terms.take_stamps.Goals as goal

@@ -1,5 +1,5 @@
 -- One coefficient beside the cost grows, and the least value by what that gives.
-use Rattle.std.proofs.Common.{rules, arith, to_z, of_z, w64, ◌≡◌, ℤ, ◌+ℤ◌, ◌+◌, ◌≤◌, ◌^◌, ap, sym, ◌∙◌, refl}
+use Rattle.std.proofs.Common.{rules, arith, w64, ◌≡◌, ℤ, ◌+ℤ◌, ◌+◌, ◌≤◌, ◌^◌, ap, ◌∙◌, refl}
 use Rattle.std.specs.Int.RustNames.{unsigned_abs}
 use Rattle.std.proofs.lemmas.Int.{ints, to_z-of_z}
 use Rattle.std.proofs.lemmas.List.Elements.{All-set}
@@ -7,7 +7,7 @@ use mir.Syntax.{w128}
 use mir.Val.{SFits}
 use Rattle.linear.specs.declared.terms.Term.{Term}
 use Rattle.linear.specs.Linear.{plus_at}
-use Rattle.linear.specs.Terms.{AreSmall, rest_of}
+use Rattle.linear.specs.Terms.{rest_of}
 use Rattle.linear.specs.Bounds.{BoundState}
 use Rattle.linear.proofs.Sums.{least_at}
 use Rattle.linear.specs.Kept.{state_in}
@@ -20,7 +20,8 @@ raised-requires-clause-sum c =
     let b = c.self.inside in
     let old = c.index.result.now in
     let f : SFits w128 c.rest_at-rest.result = search rules in
-    let at = stands_at b c.args.self.now c.args.variable old c.self.view_is c.requires.variable c.index.ensures in
+    let at = stands_at b c.args.self.now c.args.variable old c.self.view_is c.requires.variable
+    c.index.ensures in
     let h = kept_small b c.args.variable old c.self.invariant at in
     rw (to_z-of_z w128 c.rest_at-rest.result f, c.rest_at-rest.ensures) (omega (arith, h.rest))
 
@@ -29,8 +30,10 @@ least_at-before-requires c =
     let b = c.self.inside in
     let old = c.index.result.now in
     let f : SFits w128 c.rest_at-rest.result = search rules in
-    let at = stands_at b c.args.self.now c.args.variable old c.self.view_is c.requires.variable c.index.ensures in
-    rw (to_z-of_z w128 c.rest_at-rest.result f, c.rest_at-rest.ensures) (kept_small b c.args.variable old c.self.invariant at)
+    let at = stands_at b c.args.self.now c.args.variable old c.self.view_is c.requires.variable
+    c.index.ensures in
+    rw (to_z-of_z w128 c.rest_at-rest.result f, c.rest_at-rest.ensures)
+    (kept_small b c.args.variable old c.self.invariant at)
 
 pub least_at-after-requires : goal.least_at-after-requires
 least_at-after-requires c =
@@ -41,17 +44,21 @@ least_at-after-requires c =
     let g : SFits w128 c.raised.result = search rules in
     let i : SFits w64 old.cost = search rules in
     let k : SFits w128 w = search rules in
-    let at = stands_at b c.args.self.now c.args.variable old c.self.view_is c.requires.variable c.index.ensures in
-    let m : b.mass + unsigned_abs w ≤ 2 ^ 120 = omega (arith, c.requires.room, ap (λ s. s.mass) c.self.view_is) in
+    let at = stands_at b c.args.self.now c.args.variable old c.self.view_is c.requires.variable
+    c.index.ensures in
+    let m : b.mass + unsigned_abs w ≤ 2 ^ 120 =
+    omega (arith, c.requires.room, ap (λ s. s.mass) c.self.view_is) in
     let e = simp to_z-of_z at c.raised.ensures.value in
-    let r : c.raised.result ≡ rest_of b.present old +ℤ w = e ∙ ap (λ x. x +ℤ w) c.rest_at-rest.ensures in
+    let r : c.raised.result ≡ rest_of b.present old +ℤ w =
+    e ∙ ap (λ x. x +ℤ w) c.rest_at-rest.ensures in
     simp to_z-of_z (rw r (raised_small b c.args.variable old w c.self.invariant at m))
 
 pub moved-self-inside-requires-clause-sum : goal.moved-self-inside-requires-clause-sum
 moved-self-inside-requires-clause-sum c =
     let b = c.self.inside in
     let f : SFits w128 b.least = search rules in
-    rw (to_z-of_z w128 b.least f) (whole_small (state_in b) b.least b.least_cost (c.self.invariant).least)
+    rw (to_z-of_z w128 b.least f) (whole_small (state_in b) b.least b.least_cost
+    (c.self.invariant).least)
 
 pub invariant_of-self : goal.invariant_of-self
 invariant_of-self c =
@@ -65,17 +72,27 @@ invariant_of-self c =
     let k : SFits w128 w = search rules in
     let o : SFits w128 c.moved-self-inside.result = search rules in
     let at = stands_at b c.args.self.now v old c.self.view_is c.requires.variable c.index.ensures in
-    let m : b.mass + unsigned_abs w ≤ 2 ^ 120 = omega (arith, c.requires.room, ap (λ s. s.mass) c.self.view_is) in
+    let m : b.mass + unsigned_abs w ≤ 2 ^ 120 =
+    omega (arith, c.requires.room, ap (λ s. s.mass) c.self.view_is) in
     let e = simp to_z-of_z at c.raised.ensures.value in
-    let r : c.raised.result ≡ rest_of b.present old +ℤ w = e ∙ ap (λ x. x +ℤ w) c.rest_at-rest.ensures in
+    let r : c.raised.result ≡ rest_of b.present old +ℤ w =
+    e ∙ ap (λ x. x +ℤ w) c.rest_at-rest.ensures in
     let x = simp to_z-of_z at c.least_at-before.ensures.value in
     let y = simp to_z-of_z at c.least_at-after.ensures.value in
     let z = ap (λ (q : ℤ). least_at b.scale old.cost q old.value) c.rest_at-rest.ensures in
-    let p : c.moved-self-inside.result +ℤ least_at b.scale old.cost (rest_of b.present old) old.value
+    let p : c.moved-self-inside.result
+    +ℤ least_at b.scale old.cost (rest_of b.present old) old.value
     ≡ b.least +ℤ least_at b.scale old.cost c.raised.result old.value
     = omega (arith, ints, c.moved-self-inside.ensures, x, y, z) in
-    let u : c.unsigned_abs.result ≡ unsigned_abs w = simp to_z-of_z at c.unsigned_abs.ensures.value in
-    let new : Term = record { rest = c.raised.result; cost = old.cost; stamp = b.present; value = old.value } in
+    let u : c.unsigned_abs.result ≡ unsigned_abs w =
+    simp to_z-of_z at c.unsigned_abs.ensures.value in
+    let new : Term = record {
+      rest = c.raised.result;
+      cost = old.cost;
+      stamp = b.present;
+      value =
+          old.value;
+    } in
     simp to_z-of_z (rw u record {
       least = rest_put_kept b.cost_constant b.scale b.rest_constant b.present b.terms.items v
           old new w b.weights b.mass b.least b.least_cost c.moved-self-inside.result
@@ -96,8 +113,15 @@ returns-clause-form c =
     let k : SFits w128 w = search rules in
     let at = stands_at b c.args.self.now v old c.self.view_is c.requires.variable c.index.ensures in
     let e = simp to_z-of_z at c.raised.ensures.value in
-    let r : c.raised.result ≡ rest_of b.present old +ℤ w = e ∙ ap (λ x. x +ℤ w) c.rest_at-rest.ensures in
-    let new : Term = record { rest = c.raised.result; cost = old.cost; stamp = b.present; value = old.value } in
+    let r : c.raised.result ≡ rest_of b.present old +ℤ w =
+    e ∙ ap (λ x. x +ℤ w) c.rest_at-rest.ensures in
+    let new : Term = record {
+      rest = c.raised.result;
+      cost = old.cost;
+      stamp = b.present;
+      value =
+          old.value;
+    } in
     simp to_z-of_z (rest_put b.cost_constant b.scale b.rest_constant b.present b.terms.items v
     old new w at refl refl refl r
     ∙ ap (λ (s : BoundState). record (s.form) { rest = plus_at w v (s.form).rest }) c.self.view_is)

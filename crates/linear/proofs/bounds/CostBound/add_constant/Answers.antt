@@ -1,5 +1,5 @@
 -- The constant beside the cost grows, and the least value as much.
-use Rattle.std.proofs.Common.{rules, arith, ◌≡◌, ◌+◌, ◌≤◌, ◌^◌, ap}
+use Rattle.std.proofs.Common.{rules, arith, ◌+◌, ◌≤◌, ◌^◌, ap}
 use Rattle.std.specs.Int.RustNames.{unsigned_abs}
 use Rattle.std.proofs.lemmas.Int.{to_z-of_z}
 use mir.Syntax.{w128}

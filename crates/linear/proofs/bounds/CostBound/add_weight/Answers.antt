@@ -1,5 +1,6 @@
 -- The cost grows by what a literal weighs, and its least value by what that gives.
-use Rattle.std.proofs.Common.{rules, arith, to_z, of_z, w64, ◌≡◌, ℤ, ◌+ℤ◌, ◌-ℤ◌, ◌+◌, ◌<◌, ◌≤◌, ◌^◌, ap, sym, ◌∙◌, refl, pos}
+use Rattle.std.proofs.Common.{rules, arith, w64, ◌≡◌, ℤ, ◌+ℤ◌, ◌-ℤ◌, ◌<◌, ◌≤◌, ◌^◌, ap, ◌∙◌, refl}
+use Rattle.std.proofs.Common.{pos}
 use Rattle.std.specs.Int.RustNames.{unsigned_abs}
 use Rattle.std.specs.Prelude.{if◌then◌else◌}
 use Rattle.std.proofs.lemmas.Int.{ints, to_z-of_z}
@@ -8,13 +9,13 @@ use mir.Syntax.{w128}
 use mir.Val.{SFits}
 use Rattle.linear.specs.declared.terms.Term.{Term}
 use Rattle.linear.specs.Linear.{Linear, plus_at, plus_constant, plus_literal}
-use Rattle.linear.specs.Costs.{CostForm}
-use Rattle.linear.specs.Terms.{AreSmall, form_of_terms, rest_of}
+use Rattle.linear.specs.Terms.{form_of_terms}
 use Rattle.linear.specs.Bounds.{BoundState}
 use Rattle.linear.specs.Kept.{state_in}
 use Rattle.linear.proofs.Sums.{least_at}
-use Rattle.linear.proofs.Moves.{whole_small, alone_small}
-use Rattle.linear.proofs.Places.{stands_at, kept_small, kept_cost, alone_part, cost_put, cost_put_kept, literal_parts}
+use Rattle.linear.proofs.Moves.{alone_small}
+use Rattle.linear.proofs.Places.{stands_at, kept_small, kept_cost, alone_part, cost_put}
+use Rattle.linear.proofs.Places.{cost_put_kept, literal_parts}
 use Rattle.linear.proofs.bounds.CostBound.add_weight.Goals as goal
 
 pub raised_cost-requires-clause-cost : goal.raised_cost-requires-clause-cost
@@ -22,8 +23,10 @@ raised_cost-requires-clause-cost c =
     let b = c.self.inside in
     let old = c.index.result.now in
     let i : SFits w64 old.cost = search rules in
-    let at = stands_at b c.args.self.now c.variable-variable.result old c.self.view_is (rw c.variable-variable.ensures.variable c.requires.variable) c.index.ensures in
-    rw (to_z-of_z w64 old.cost i) (kept_small b c.variable-variable.result old c.self.invariant at).cost
+    let at = stands_at b c.args.self.now c.variable-variable.result old c.self.view_is
+    (rw c.variable-variable.ensures.variable c.requires.variable) c.index.ensures in
+    rw (to_z-of_z w64 old.cost i) (kept_small b c.variable-variable.result old c.self.invariant
+    at).cost
 
 pub raised-alone-requires-clause-sum : goal.raised-alone-requires-clause-sum
 raised-alone-requires-clause-sum c =
@@ -37,7 +40,8 @@ pub least_at-requires : goal.least_at-requires
 least_at-requires c =
     let b = c.self.inside in
     let old = c.index.result.now in
-    let at = stands_at b c.args.self.now c.variable-variable.result old c.self.view_is (rw c.variable-variable.ensures.variable c.requires.variable) c.index.ensures in
+    let at = stands_at b c.args.self.now c.variable-variable.result old c.self.view_is
+    (rw c.variable-variable.ensures.variable c.requires.variable) c.index.ensures in
     alone_part (kept_small b c.variable-variable.result old c.self.invariant at)
 
 pub least_at-requires-2 : goal.least_at-requires-2
@@ -47,13 +51,15 @@ least_at-requires-2 c =
     let i : SFits w64 old.cost = search rules in
     let j : SFits w64 c.coefficient_part-by.result = search rules in
     let k : SFits w64 c.raised_cost.result = search rules in
-    let at = stands_at b c.args.self.now c.variable-variable.result old c.self.view_is (rw c.variable-variable.ensures.variable c.requires.variable) c.index.ensures in
+    let at = stands_at b c.args.self.now c.variable-variable.result old c.self.view_is
+    (rw c.variable-variable.ensures.variable c.requires.variable) c.index.ensures in
     let d = kept_cost b c.variable-variable.result old c.self.invariant at in
     let e = simp to_z-of_z at c.raised_cost.ensures.bound in
     let w = ap (λ (s : BoundState). s.weights) c.self.view_is in
     let small : unsigned_abs c.raised_cost.result < 2 ^ 62
     = omega (arith, d, e, w, c.coefficient_part-by.ensures.bound, c.requires.small) in
-    rw (to_z-of_z w64 c.raised_cost.result k) record { times = omega arith; cost = small; rest = omega arith }
+    rw (to_z-of_z w64 c.raised_cost.result k) record
+    { times = omega arith; cost = small; rest = omega arith }
 
 pub moved-self-inside-requires-clause-sum : goal.moved-self-inside-requires-clause-sum
 moved-self-inside-requires-clause-sum c =
@@ -84,7 +90,8 @@ invariant_of-self c =
     let n : SFits w128 c.raised-self-inside.result = search rules in
     let o : SFits w128 c.moved-self-inside.result = search rules in
     let p : SFits w128 c.raised-alone.result = search rules in
-    let at = stands_at b c.args.self.now v old c.self.view_is (rw c.variable-variable.ensures.variable c.requires.variable) c.index.ensures in
+    let at = stands_at b c.args.self.now v old c.self.view_is
+    (rw c.variable-variable.ensures.variable c.requires.variable) c.index.ensures in
     let cost = simp to_z-of_z at c.raised_cost.ensures.value in
     let constant = simp to_z-of_z at c.raised-self-inside.ensures.value in
     let alone = simp to_z-of_z at c.raised-alone.ensures.value in
@@ -97,8 +104,15 @@ invariant_of-self c =
     = omega (arith, ints, c.moved-self-inside.ensures, before, after, alone) in
     let w = ap (λ (s : BoundState). s.weights) c.self.view_is in
     let none = ap (λ (s : BoundState). (s.form).scale) c.self.view_is ∙ c.requires.none in
-    let new : Term = record { rest = old.rest; cost = c.raised_cost.result; stamp = old.stamp; value = old.value } in
-    let q = All-get_or (λ t. t.stamp ≤ b.present) b.terms.items v old at.within (c.self.invariant).stamps in
+    let new : Term = record {
+      rest = old.rest;
+      cost = c.raised_cost.result;
+      stamp =
+          old.stamp;
+      value = old.value;
+    } in
+    let q = All-get_or (λ t. t.stamp ≤ b.present) b.terms.items v old at.within
+    (c.self.invariant).stamps in
     simp to_z-of_z (rw constant record {
       least = cost_put_kept b.cost_constant y b.scale b.rest_constant b.present b.terms.items v
           old new x b.weights b.mass c.args.weight b.least b.least_cost c.moved-self-inside.result
@@ -124,10 +138,17 @@ returns-clause-form c =
     let j : SFits w64 c.raised_cost.result = search rules in
     let m : SFits w128 b.cost_constant = search rules in
     let n : SFits w128 c.raised-self-inside.result = search rules in
-    let at = stands_at b c.args.self.now v old c.self.view_is (rw c.variable-variable.ensures.variable c.requires.variable) c.index.ensures in
+    let at = stands_at b c.args.self.now v old c.self.view_is
+    (rw c.variable-variable.ensures.variable c.requires.variable) c.index.ensures in
     let cost = simp to_z-of_z at c.raised_cost.ensures.value in
     let constant = simp to_z-of_z at c.raised-self-inside.ensures.value in
-    let new : Term = record { rest = old.rest; cost = c.raised_cost.result; stamp = old.stamp; value = old.value } in
+    let new : Term = record {
+      rest = old.rest;
+      cost = c.raised_cost.result;
+      stamp =
+          old.stamp;
+      value = old.value;
+    } in
     let weight = pos c.args.weight in
     let first = cost_put b.cost_constant y b.scale b.rest_constant b.present b.terms.items v old new
     x at cost refl refl refl in
@@ -141,8 +162,10 @@ returns-clause-form c =
     let parts : plus_at x v (plus_constant y form.cost) ≡ plus_literal weight l form.cost
     = ap (λ t. plus_at x t (plus_constant y form.cost)) c.variable-variable.ensures.variable
     ∙ ap (λ (t : ℤ). plus_at t l.variable (plus_constant y form.cost)) by
-    ∙ ap (λ (t : ℤ). plus_at (if l.negated then pos 0 -ℤ weight else weight) l.variable (plus_constant t form.cost)) to
+    ∙ ap (λ (t : ℤ). plus_at (if l.negated then pos 0 -ℤ weight else weight) l.variable
+    (plus_constant t form.cost)) to
     ∙ literal_parts weight l form.cost in
     simp to_z-of_z (rw constant (first
     ∙ ap (λ (t : Linear). record form { cost = t }) parts
-    ∙ ap (λ (s : BoundState). record (s.form) { cost = plus_literal weight l (s.form).cost }) c.self.view_is))
+    ∙ ap (λ (s : BoundState). record (s.form) { cost = plus_literal weight l (s.form).cost })
+    c.self.view_is))

@@ -1,5 +1,6 @@
 -- A variable gets a value, and both least values change by what that gives.
-use Rattle.std.proofs.Common.{rules, arith, to_z, of_z, w64, ◌≡◌, ℤ, ◌+ℤ◌, ◌+◌, ◌<◌, ◌≤◌, ◌^◌, ap, sym, ◌∙◌, refl, pos, Some, None, not, get_or, set, List, Option, Bool}
+use Rattle.std.proofs.Common.{rules, arith, to_z, of_z, w64, ◌≡◌, ℤ, ◌+ℤ◌, ◌<◌, ◌≤◌, ◌^◌, ap, sym}
+use Rattle.std.proofs.Common.{◌∙◌, refl, pos, Some, None, not, get_or, set, List, Option, Bool}
 use Rattle.std.specs.Int.RustNames.{unsigned_abs}
 use Rattle.std.proofs.lemmas.Int.{ints, to_z-of_z}
 use Rattle.std.proofs.lemmas.List.Elements.{All-set, All-get_or}
@@ -7,12 +8,13 @@ use mir.Syntax.{w128}
 use mir.Val.{SFits}
 use Rattle.linear.specs.declared.terms.Term.{Term}
 use Rattle.linear.specs.Costs.{CostForm, fixed_by}
-use Rattle.linear.specs.Terms.{AreSmall, form_of_terms, rest_of, values}
+use Rattle.linear.specs.Terms.{form_of_terms, rest_of, values}
 use Rattle.linear.specs.Bounds.{BoundState}
 use Rattle.linear.specs.Kept.{state_in}
 use Rattle.linear.proofs.Sums.{least_at}
 use Rattle.linear.proofs.Moves.{whole_small, alone_small}
-use Rattle.linear.proofs.Places.{stands_at, kept_small, alone_part, value_here, value_put, value_put_kept, fixed_here, none_is}
+use Rattle.linear.proofs.Places.{stands_at, kept_small, alone_part, value_here, value_put}
+use Rattle.linear.proofs.Places.{value_put_kept, fixed_here, none_is}
 use Rattle.linear.proofs.bounds.CostBound.fix.Goals as goal
 
 pub least_at-before-requires : goal.least_at-before-requires
@@ -20,7 +22,8 @@ least_at-before-requires c =
     let b = c.self.inside in
     let old = c.index.result.now in
     let f : SFits w128 c.rest_at-rest.result = search rules in
-    let at = stands_at b c.args.self.now c.variable-variable.result old c.self.view_is (rw c.variable-variable.ensures.variable c.requires) c.index.ensures in
+    let at = stands_at b c.args.self.now c.variable-variable.result old c.self.view_is
+    (rw c.variable-variable.ensures.variable c.requires) c.index.ensures in
     rw (to_z-of_z w128 c.rest_at-rest.result f, c.rest_at-rest.ensures)
     (kept_small b c.variable-variable.result old c.self.invariant at)
 
@@ -30,7 +33,8 @@ least_at-after-requires c =
     let old = c.index.result.now in
     let f : SFits w128 c.rest_at-rest.result = search rules in
     let g : SFits w64 old.cost = search rules in
-    let at = stands_at b c.args.self.now c.variable-variable.result old c.self.view_is (rw c.variable-variable.ensures.variable c.requires) c.index.ensures in
+    let at = stands_at b c.args.self.now c.variable-variable.result old c.self.view_is
+    (rw c.variable-variable.ensures.variable c.requires) c.index.ensures in
     simp to_z-of_z (rw c.rest_at-rest.ensures
     (kept_small b c.variable-variable.result old c.self.invariant at))
 
@@ -45,7 +49,8 @@ pub least_at-before-requires-then-is_none : goal.least_at-before-requires-then-i
 least_at-before-requires-then-is_none c =
     let b = c.self.inside in
     let old = c.index.result.now in
-    let at = stands_at b c.args.self.now c.variable-variable.result old c.self.view_is (rw c.variable-variable.ensures.variable c.requires) c.index.ensures in
+    let at = stands_at b c.args.self.now c.variable-variable.result old c.self.view_is
+    (rw c.variable-variable.ensures.variable c.requires) c.index.ensures in
     alone_part (kept_small b c.variable-variable.result old c.self.invariant at)
 
 pub least_at-after-requires-then-is_none : goal.least_at-after-requires-then-is_none
@@ -53,10 +58,12 @@ least_at-after-requires-then-is_none c =
     let b = c.self.inside in
     let old = c.index.result.now in
     let g : SFits w64 old.cost = search rules in
-    let at = stands_at b c.args.self.now c.variable-variable.result old c.self.view_is (rw c.variable-variable.ensures.variable c.requires) c.index.ensures in
+    let at = stands_at b c.args.self.now c.variable-variable.result old c.self.view_is
+    (rw c.variable-variable.ensures.variable c.requires) c.index.ensures in
     simp to_z-of_z (alone_part (kept_small b c.variable-variable.result old c.self.invariant at))
 
-pub moved-self-inside-requires-then-is_none-clause-sum : goal.moved-self-inside-requires-then-is_none-clause-sum
+pub moved-self-inside-requires-then-is_none-clause-sum :
+    goal.moved-self-inside-requires-then-is_none-clause-sum
 moved-self-inside-requires-then-is_none-clause-sum c =
     let b = c.self.inside in
     let f : SFits w128 b.least_cost = search rules in
@@ -75,7 +82,8 @@ invariant_of-self c =
     let i : SFits w64 old.cost = search rules in
     let m : SFits w128 c.moved-self-inside.result = search rules in
     let n : SFits w128 c.moved-self-inside-then-is_none.result = search rules in
-    let at = stands_at b c.args.self.now v old c.self.view_is (rw c.variable-variable.ensures.variable c.requires) c.index.ensures in
+    let at = stands_at b c.args.self.now v old c.self.view_is
+    (rw c.variable-variable.ensures.variable c.requires) c.index.ensures in
     let e = to_z-of_z w128 c.rest_at-rest.result f in
     let k = to_z-of_z w64 old.cost i in
     let y : c.least_at-before.result ≡ least_at b.scale old.cost (rest_of b.present old) old.value
@@ -89,18 +97,26 @@ invariant_of-self c =
     let z2 : c.least_at-after-then-is_none.result ≡ least_at 1 old.cost (pos 0) (Some x)
     = c.least_at-after-then-is_none.ensures.value
     ∙ ap (λ (u : ℤ). least_at 1 u (pos 0) (Some x)) k in
-    let p : c.moved-self-inside.result +ℤ least_at b.scale old.cost (rest_of b.present old) old.value
+    let p : c.moved-self-inside.result
+    +ℤ least_at b.scale old.cost (rest_of b.present old) old.value
     ≡ b.least +ℤ least_at b.scale old.cost (rest_of b.present old) (Some x)
     = omega (arith, ints, c.moved-self-inside.ensures, y, z) in
     let q : c.moved-self-inside-then-is_none.result +ℤ least_at 1 old.cost (pos 0) old.value
     ≡ b.least_cost +ℤ least_at 1 old.cost (pos 0) (Some x)
     = omega (arith, ints, c.moved-self-inside-then-is_none.ensures, y2, z2) in
-    let new : Term = record { rest = old.rest; cost = old.cost; stamp = old.stamp; value = Some x } in
-    let o = All-get_or (λ t. t.stamp ≤ b.present) b.terms.items v old at.within (c.self.invariant).stamps in
+    let new : Term = record {
+      rest = old.rest;
+      cost = old.cost;
+      stamp = old.stamp;
+      value = Some x;
+    } in
+    let o = All-get_or (λ t. t.stamp ≤ b.present) b.terms.items v old at.within
+    (c.self.invariant).stamps in
     simp to_z-of_z record {
       least = value_put_kept b.cost_constant b.scale b.rest_constant b.present b.terms.items v
           old new x b.weights b.mass b.least b.least_cost c.moved-self-inside.result
-          c.moved-self-inside-then-is_none.result (c.self.invariant).least at refl refl refl refl p q;
+          c.moved-self-inside-then-is_none.result (c.self.invariant).least at refl refl refl refl p
+          q;
       stamps = All-set (λ t. t.stamp ≤ b.present) b.terms.items v new
           (rw at.here o) (c.self.invariant).stamps;
     }
@@ -113,8 +129,14 @@ returns-then-is_none c =
     let x = not c.is_negated.result in
     let g : SFits w128 old.rest = search rules in
     let i : SFits w64 old.cost = search rules in
-    let at = stands_at b c.args.self.now v old c.self.view_is (rw c.variable-variable.ensures.variable c.requires) c.index.ensures in
-    let new : Term = record { rest = old.rest; cost = old.cost; stamp = old.stamp; value = Some x } in
+    let at = stands_at b c.args.self.now v old c.self.view_is
+    (rw c.variable-variable.ensures.variable c.requires) c.index.ensures in
+    let new : Term = record {
+      rest = old.rest;
+      cost = old.cost;
+      stamp = old.stamp;
+      value = Some x;
+    } in
     let p = value_put b.cost_constant b.scale b.rest_constant b.present b.terms.items v old new
     (Some x) at refl refl refl refl in
     let ts = b.terms.items in

@@ -1,22 +1,23 @@
 -- One more literal is false, whose variable is of none before.
-use Rattle.std.proofs.Common.{rules, arith, to_z, of_z, ◌≡◌, ℕ, ℤ, ◌+ℤ◌, ◌+◌, ◌<◌, ◌^◌, List, length, take, Option, Some, None, Bool, get_or, ap, sym, ◌∙◌, subst, pos}
+use Rattle.std.proofs.Common.{rules, arith, to_z, ◌≡◌, ℕ, ℤ, ◌+ℤ◌, ◌+◌, ◌<◌, ◌^◌, List, length}
+use Rattle.std.proofs.Common.{take, Some, None, get_or, sym, ◌∙◌, subst}
 use Rattle.std.specs.List.{All}
 use Rattle.std.specs.Int.RustNames.{unsigned_abs}
-use Rattle.std.proofs.lemmas.Int.{ints, to_z-of_z}
+use Rattle.std.proofs.lemmas.Int.{to_z-of_z}
 use Rattle.std.proofs.lemmas.List.Elements.{All-get_or}
 use mir.Syntax.{w128}
 use mir.Val.{SFits}
 use Rattle.cnf.specs.Literal.{Literal}
 use Rattle.linear.specs.Linear.{coefficient}
 use Rattle.linear.specs.Costs.{HasOneWidth, falsified, least_where, width_of}
-use Rattle.linear.specs.Terms.{rest_of, values}
 use Rattle.linear.specs.Bounds.{BoundState, IsBounded}
 use Rattle.linear.specs.declared.terms.Term.{Term}
 use Rattle.linear.specs.declared.bounds.CostBound.TheInside.{Inside}
 use Rattle.linear.specs.Kept.{state_in, IsKept}
 use Rattle.linear.proofs.Sums.{least_at}
 use Rattle.linear.proofs.Moves.{where_small}
-use Rattle.linear.proofs.Places.{StandsAt, within_width, stands_at, kept_small, cost_here, rest_here, value_here}
+use Rattle.linear.proofs.Places.{StandsAt, within_width, stands_at, kept_small, cost_here}
+use Rattle.linear.proofs.Places.{rest_here, value_here}
 use Rattle.linear.proofs.Falsified.{least_pushed}
 use Rattle.linear.proofs.bounds.CostBound.least_where_false.Goals as goal
 
@@ -84,7 +85,8 @@ loop-lit-preserved c =
     (within_width ts l.variable at.within) e in
     let g : SFits w128 n = search rules in
     to_z-of_z w128 n g
-    ∙ subst (λ (s : BoundState). n ≡ least_where s.form (falsified (take (i + 1) ls) (s.form).fixed))
+    ∙ subst (λ (s : BoundState). n
+    ≡ least_where s.form (falsified (take (i + 1) ls) (s.form).fixed))
     c.self.view_is p
 
 pub returns-clause-small : goal.returns-clause-small

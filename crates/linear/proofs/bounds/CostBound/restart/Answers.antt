@@ -1,10 +1,10 @@
 -- The cost is taken another number of times, with nothing beside it.
-use Rattle.std.proofs.Common.{rules, arith, refl, sym, ap, ◌∙◌, ◌≡◌, ◌<◌, ◌≤◌, ◌*ℤ◌, ℤ, List, length, get_or, subst, pos}
+use Rattle.std.proofs.Common.{rules, arith, sym, ap, ◌∙◌, ◌<◌, ◌≤◌, ◌*ℤ◌, ℤ, List, subst, pos}
 use Rattle.std.specs.List.{All}
 use Rattle.std.specs.Vec.{with_items}
 use Rattle.std.proofs.lemmas.Int.{to_z-of_z}
 use Rattle.std.proofs.lemmas.List.Elements.{All-weaker}
-use Rattle.std.proofs.lemmas.List.{with_items_is, length-map}
+use Rattle.std.proofs.lemmas.List.{with_items_is}
 use mir.Syntax.{w128}
 use mir.Val.{SFits}
 use Rattle.linear.specs.declared.terms.Term.{Term}
@@ -33,7 +33,8 @@ returns-clause-form c =
     let d = c.next_stamp-self-inside.ensures.costs ∙ ap costs q in
     let f = c.next_stamp-self-inside.ensures.values ∙ ap values q in
     let e = with_items_is b.terms us (same_items ts us f ∙ sym (b.terms.ok.0)) in
-    rw e (fresh_stamp p ts us d f c.next_stamp-self-inside.ensures.above b.cost_constant c.args.scale b.scale b.rest_constant b.present
+    rw e (fresh_stamp p ts us d f c.next_stamp-self-inside.ensures.above b.cost_constant
+    c.args.scale b.scale b.rest_constant b.present
     ∙ ap (λ (s : BoundState). restarted c.args.scale s.form) c.self.view_is)
 
 pub invariant_of-self : goal.invariant_of-self
@@ -50,8 +51,10 @@ invariant_of-self c =
     let i : SFits w128 c.scaled-self-inside.result = search rules in
     let x = simp to_z-of_z at c.scaled-self-inside.ensures in
     let above = c.next_stamp-self-inside.ensures.above in
-    let form = fresh_stamp p ts us d f above b.cost_constant c.args.scale b.scale b.rest_constant b.present in
-    let kept = restarted_kept (state_in b) b.least b.least_cost c.args.scale (c.self.invariant).least c.requires in
+    let form = fresh_stamp p ts us d f above b.cost_constant c.args.scale b.scale b.rest_constant
+    b.present in
+    let kept = restarted_kept (state_in b) b.least b.least_cost c.args.scale
+    (c.self.invariant).least c.requires in
     let l = to_z-of_z w128 c.scaled-self-inside.result i ∙ x in
     let k = b.least_cost in
     record {

@@ -1,5 +1,6 @@
 -- Nothing stands at new variables.
-use Rattle.std.proofs.Common.{arith, refl, sym, ap, ◌∙◌, ◌≡◌, ◌≤◌, ◌++◌, ◌-◌, List, replicate, length, subst, pos, None}
+use Rattle.std.proofs.Common.{arith, refl, sym, ap, ◌∙◌, ◌≡◌, ◌≤◌, ◌++◌, ◌-◌, List, replicate}
+use Rattle.std.proofs.Common.{length, subst, pos, None}
 use Rattle.std.specs.List.{All}
 use Rattle.std.proofs.lemmas.List.{take_all}
 use Rattle.std.proofs.lemmas.List.Elements.{All-append, All-replicate}
@@ -9,7 +10,7 @@ use Rattle.linear.specs.Bounds.{BoundState, HasLeast}
 use Rattle.linear.specs.Terms.{form_of_terms}
 use Rattle.linear.specs.Kept.{state_in}
 use Rattle.linear.proofs.Moves.{widened_kept}
-use Rattle.linear.proofs.Places.{widened_form, as_wide}
+use Rattle.linear.proofs.Places.{widened_form}
 use Rattle.linear.proofs.bounds.CostBound.widen.Goals as goal
 
 abbrev nothing : Term
@@ -27,9 +28,11 @@ invariant_of-self c =
     = c.in_ok-resize.ensures.items
     ∙ ap (λ xs. xs ++ replicate (w - b.terms.len) nothing) (take_all w ts m)
     ∙ ap (λ k. ts ++ replicate (w - k) nothing) n in
-    let form = widened_form b.cost_constant b.scale b.rest_constant b.present ts w nothing refl refl refl in
+    let form = widened_form b.cost_constant b.scale b.rest_constant b.present ts w nothing refl refl
+    refl in
     record {
-      least = subst (λ (f : CostForm). HasLeast (record { form = f; weights = b.weights; mass = b.mass }) b.least b.least_cost)
+      least = subst (λ (f : CostForm). HasLeast
+          (record { form = f; weights = b.weights; mass = b.mass }) b.least b.least_cost)
           (sym (ap (form_of_terms b.cost_constant b.scale b.rest_constant b.present) e ∙ form))
           (widened_kept (state_in b) b.least b.least_cost w (c.self.invariant).least);
       stamps = subst (λ (xs : List Term). All (λ t. t.stamp ≤ b.present) xs) (sym e)
@@ -50,7 +53,8 @@ returns-in_ok-resize c =
     = c.in_ok-resize.ensures.items
     ∙ ap (λ xs. xs ++ replicate (w - b.terms.len) nothing) (take_all w ts m)
     ∙ ap (λ k. ts ++ replicate (w - k) nothing) n in
-    let form = widened_form b.cost_constant b.scale b.rest_constant b.present ts w nothing refl refl refl in
+    let form = widened_form b.cost_constant b.scale b.rest_constant b.present ts w nothing refl refl
+    refl in
     ap (λ (f : CostForm). record { form = f; weights = b.weights; mass = b.mass })
     (ap (form_of_terms b.cost_constant b.scale b.rest_constant b.present) e ∙ form)
     ∙ ap (λ (s : BoundState). record s { form = widened w s.form }) c.self.view_is

@@ -1,0 +1,90 @@
+// Which clauses of a formula a certificate uses: those that the hints name from the empty clause
+// back. Nothing rests on it.
+use std::alloc::{AllocError, Global};
+use text::cutting::{lines, number, tokens};
+
+/// For each of so many clauses of the formula, which are numbered from 1, whether the certificate
+/// uses it; true of all where its lines are numbered with large gaps.
+pub(crate) fn used_by(alloc: Global, proof: &[u8], count: usize) -> Result<Vec<bool>, AllocError> {
+    let additions = additions_of(alloc, proof)?;
+    let most = proof.len().saturating_add(count);
+    match additions.last() {
+        Some(last) if last.id <= most as u64 => marks_of(alloc, &additions, most, count),
+        _ => Ok(Vec::from_elem(alloc, true, count)?),
+    }
+}
+
+/// A line that adds a clause.
+#[derive(Clone, Copy)]
+struct Addition<'a> {
+    // The number of the clause.
+    id: u64,
+    // The line.
+    line: &'a [u8],
+}
+
+/// The lines that add a clause.
+fn additions_of(alloc: Global, proof: &[u8]) -> Result<Vec<Addition<'_>>, AllocError> {
+    let mut additions = Vec::new(alloc);
+    for (_, line) in lines(proof) {
+        let mut words = tokens(line);
+        let (Some(id), Some(next)) = (words.next(), words.next()) else {
+            continue;
+        };
+        if let Some(id) = number(id) {
+            if next != DELETION {
+                additions.push(Addition { id, line })?;
+            }
+        }
+    }
+    Ok(additions)
+}
+
+/// The second word of a line that deletes clauses.
+const DELETION: &[u8] = b"d";
+
+/// What ends the literals of a line, and its hints.
+const END: &[u8] = b"0";
+
+/// Which of the first clauses are used, where no number is above this one.
+fn marks_of(
+    alloc: Global,
+    additions: &[Addition<'_>],
+    most: usize,
+    count: usize,
+) -> Result<Vec<bool>, AllocError> {
+    let mut marks = Vec::from_elem(alloc, false, most.saturating_add(1))?;
+    if let Some(last) = additions.last() {
+        mark(&mut marks, last.id);
+    }
+    for addition in additions.iter().rev() {
+        if marks.get(addition.id as usize).copied().unwrap_or(false) {
+            mark_hints(&mut marks, addition.line);
+        }
+    }
+    let mut used = Vec::new(alloc);
+    for id in 1..=count {
+        used.push(marks.get(id).copied().unwrap_or(true))?;
+    }
+    Ok(used)
+}
+
+/// Marks the clause of this number.
+fn mark(marks: &mut [bool], id: u64) {
+    if id < marks.len() as u64 {
+        marks[id as usize] = true;
+    }
+}
+
+/// Marks the clauses that the hints of a line name: what stands behind its first 0.
+fn mark_hints(marks: &mut [bool], line: &[u8]) {
+    let mut is_behind = false;
+    for word in tokens(line) {
+        if is_behind {
+            if let Some(id) = number(word.strip_prefix(b"-").unwrap_or(word)) {
+                mark(marks, id);
+            }
+        }
+        is_behind = is_behind || word == END;
+    }
+}
