@@ -145,6 +145,10 @@ pub some_from_test : (o : Option (Cause × ℕ)) (b : Bool) → is_some o ≡ no
     → o ≡ None → ⊥
 some_from_test o b e h none = let t : false ≡ true = sym (ap is_some none) ∙ e ∙ ap not h in cc
 
+pub none_from_test : (o : Option (Cause × ℕ)) (b : Bool) → is_some o ≡ not b → b ≡ true → o ≡ None
+none_from_test None b e h = refl
+none_from_test (Some v) b e h = let t : true ≡ false = e ∙ ap not h in absurd (cc)
+
 pub some_from_true : (o : Option (Cause × ℕ)) → is_some o ≡ true → o ≡ None → ⊥
 some_from_true o e none = let t : false ≡ true = sym (ap is_some none) ∙ e in cc
 
