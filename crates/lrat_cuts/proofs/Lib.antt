@@ -13,7 +13,9 @@ mod LawLines
 mod LawStart
 mod LawSound
 mod LawWorth
+mod LawVerdicts
 mod Putting
 mod Judging
 mod PieceLaws
 mod EndedParts
+pub mod Laws
