@@ -1,6 +1,6 @@
 -- What verdicts on certificates of forms and cuts mean.
-use Rattle.std.proofs.Common.{◌≡◌, ℕ, ◌<◌, ◌≤◌, Bool, true, false, List, Some, None, Ok, Err, arith}
-use Rattle.std.proofs.Common.{refl, sym, subst}
+use Rattle.std.proofs.Common.{◌≡◌, ℕ, ◌≤◌, true, false, List, Some, None, Ok, Err, arith}
+use Rattle.std.proofs.Common.{refl}
 use Rattle.cnf.specs.Literal.{Assignment}
 use Rattle.cnf.specs.Problem.{Problem, IsFeasible, IsInconsistent, cost_under}
 use Rattle.cnf.specs.Instance.{IsInstance}
@@ -8,7 +8,6 @@ use Rattle.cnf.specs.declared.limits.TheConstants.{NUMBER_LIMIT}
 use Rattle.text.specs.Text.{token_lines}
 use Rattle.bound.proofs.Laws.{solution_small}
 use Rattle.lrat_machine.specs.declared.verdicts.Verdict.TheVariants.{No, Yes}
-use Rattle.lrat_cuts.specs.Cuts.{CutsState, cuts_start}
 use Rattle.lrat_cuts.specs.Verdict.{cuts_lower, cuts_verdict, ended_part, judged_text}
 use Rattle.lrat_cuts.specs.declared.verdicts.LowerVerdict.TheVariants.{AtLeast}
 use Rattle.lrat_cuts.specs.declared.verdicts.LowerVerdict.TheVariants.{No as NotRight}
