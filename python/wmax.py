@@ -1287,7 +1287,7 @@ class _Run:
         """ProgramFailed: the program ended with a fault, or gave no result."""
         words = ["solve", *self._profile, "--proof", str(self.proof), "--best", str(self.best)]
         words += [] if ask.conflicts is None else ["--conflicts", str(ask.conflicts)]
-        words += ["--lower", str(self.bound_proof)] if ask.lower else []
+        words += ["--lower", str(self.bound_proof)] if ask.lower and "--lower" in self._help else []
         words += ["--progress"] if "--progress" in self._help else []
         self._start = time.monotonic()
         self.status, self.stopped, self.is_checked = None, None, False
