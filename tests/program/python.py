@@ -504,6 +504,10 @@ def lies(program):
 
 
 def stops(program):
+    # A shell that runs this in the background, or nohup, may have had them ignored.
+    signal.signal(signal.SIGINT, signal.default_int_handler)
+    for number in (signal.SIGTERM, signal.SIGHUP):
+        signal.signal(number, signal.SIG_DFL)
     folder = stack_folder()
     (folder / "tmp").mkdir()
     os.environ["TMPDIR"] = str(folder / "tmp")
