@@ -520,8 +520,8 @@ def main(words):
         print_plan(plan, plan.instance.solve(time_limit=given.time_limit, folder=given.folder, progress=True))
     except wmax.Unsatisfiable as error:
         print("This cannot be, which was checked:")
-        for reason in error.because:
-            print(f"  {reason.about}")
+        for about in dict.fromkeys(it.about for it in error.because):
+            print(f"  {about}")
         return 1
     return 0
 

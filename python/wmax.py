@@ -1616,9 +1616,9 @@ def main(words: Optional[Sequence[str]] = None) -> int:
             found[0].plot(given.plot)
         return 30 if found[0].is_optimum else 10
     except Unsatisfiable as error:
-        print(f"No assignment satisfies the hard clauses, which was checked. {len(error.because)} of them do not go together:")
-        for reason in error.because:
-            print(f"  {reason.about}")
+        print("No assignment satisfies the hard clauses, which was checked. These contradict each other:")
+        for about in dict.fromkeys(reason.about for reason in error.because):
+            print(f"  {about}")
         return 20
     except NoSolutionFound as error:
         print(error)

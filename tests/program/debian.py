@@ -232,7 +232,7 @@ def main(program):
         expect("what cannot be", told("install", "mailer", "poster", *given), (1, (
             "This cannot be, which was checked:\n  mailer 1 conflicts with poster 1\n  mailer is to be there\n  poster is to be there\n")))
         expect("what is essential", told("remove", "base", *given), (1, (
-            "This cannot be, which was checked:\n  base is essential\n  base is to be removed\n  base is to be removed\n")))
+            "This cannot be, which was checked:\n  base is essential\n  base is to be removed\n")))
         for words, wanted in ((["install", "none"], "no package is none: run apt-get update"), ([], "nothing is asked for"), (["shop"], "what about shop?"),
                               (["install", "shop", "--criteria", "price"], "criteria are of"), (["install", "shop", "--criteria", "new,new"], "criteria are of")):
             found = told(*words, *given)

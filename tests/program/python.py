@@ -813,9 +813,24 @@ def examples(program):
     wanted = min(upgrade_costs(upgrade), default=None)
     found = upgrade.make_instance()[0].solve(program=program)
     expect("the upgrade", (found.cost, found.is_optimum), (wanted, True))
+    upgrade.WANTED = ["queue", "cron", "wiki"]
+    expect("an upgrade that cannot be", stopped(upgrade.main), (
+        "upgrade.py: what is wanted cannot be installed:\n  queue and cron cannot stand together\n  queue is wanted\n  cron is wanted\n"))
     wanted = min(seating_costs(seating), default=None)
     found = seating.make_instance()[0].solve(program=program)
     expect("the seating", (found.cost, found.is_optimum), (wanted, True))
+    seating.RIVALS.append(("Ann", "Ben"))
+    expect("a seating that cannot be", "\n  Ben sits with Ann\n" in stopped(seating.main), True)
+
+
+def stopped(main):
+    """What an example says that stops."""
+    said, words = io.StringIO(), sys.argv
+    sys.argv = words[:1]
+    with contextlib.redirect_stderr(said), contextlib.suppress(SystemExit):
+        main()
+    sys.argv = words
+    return said.getvalue()
 
 
 def upgrade_costs(told):
