@@ -1641,4 +1641,13 @@ def _tell(found: Solution) -> None:
 
 
 if __name__ == "__main__":
-    sys.exit(main())
+    try:
+        ended = main()
+        sys.stdout.flush()
+    except BrokenPipeError:
+        # Nobody reads on. What is left is not worth a message at the end.
+        os.dup2(os.open(os.devnull, os.O_WRONLY), sys.stdout.fileno())
+        ended = 1
+    except KeyboardInterrupt:
+        ended = 130
+    sys.exit(ended)
