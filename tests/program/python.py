@@ -580,6 +580,13 @@ def stops(program):
     if wmax._has_setpriv():
         subprocess.run([sys.executable, script, pretender("kill -KILL $PPID; exec sleep 60")], env={**os.environ, "PYTHONDONTWRITEBYTECODE": "1"})
         expect("SIGKILL: nothing runs", is_over(), True)
+    script.write_text(script.read_text().replace("m.solve(program=sys.argv[1])", f"wmax._has_setpriv = lambda: False\n"
+                                                 f"m.solve(program=sys.argv[1], folder={str(folder / 'left')!r})"))
+    subprocess.run([sys.executable, script, pretender("kill -KILL $PPID; exec sleep 60")], env={**os.environ, "PYTHONDONTWRITEBYTECODE": "1"})
+    expect("a program that is left has its folder", raised(lambda: shop.solve(program=program, folder=folder / "left"))[0], "FolderInUse")
+    os.kill(int((folder / "child").read_text()), signal.SIGKILL)
+    expect("it has ended", is_over(), True)
+    expect("then it has it no more", shop.solve(program=program, folder=folder / "left").is_optimum, True)
     before = signal.getsignal(signal.SIGTERM), signal.getsignal(signal.SIGHUP), signal.getsignal(signal.SIGINT)
     shop.solve(program=program)
     expect("signals are as they were", (signal.getsignal(signal.SIGTERM), signal.getsignal(signal.SIGHUP), signal.getsignal(signal.SIGINT)), before)
