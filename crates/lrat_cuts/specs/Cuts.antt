@@ -5,7 +5,7 @@ use Rattle.std.specs.Prelude.{◌∷◌, ◌++◌, length, map, Option, Some, No
 use Rattle.std.specs.Prelude.{nat_le, ◌==◌, is_some, if◌then◌else◌}
 use Rattle.std.specs.List.{list_any}
 use Rattle.cnf.specs.Literal.{Literal, negation}
-use Rattle.cnf.specs.Clause.{has_repeat, is_tautology}
+use Rattle.cnf.specs.Clause.{has_repeat, is_empty_clause, is_tautology}
 use Rattle.cnf.specs.Lrat.{Live, CandidateHints}
 use Rattle.cnf.specs.Problem.{Problem}
 use Rattle.cnf.specs.declared.limits.TheConstants.{NUMBER_LIMIT, VARIABLE_LIMIT}
@@ -47,10 +47,6 @@ cause_of Name = LineName
 cause_of Limit = LineLimit
 cause_of Worth = CutWorth
 
-abbrev pub is_empty : List Literal → Bool
-is_empty [] = true
-is_empty (l ∷ c) = false
-
 -- a clause is live under an id above the last. The empty clause refutes all that costs less than
 -- the cuts are worth
 abbrev pub put : ℕ → List Literal → CutsState → CutsState
@@ -58,8 +54,8 @@ put id c s = record s {
   live = s.live ++ (id, c) ∷ [];
   last = id;
   forms = heard c s.forms;
-  ended = is_empty c;
-  proved = if is_empty c then max s.proved s.worth else s.proved;
+  ended = is_empty_clause c;
+  proved = if is_empty_clause c then max s.proved s.worth else s.proved;
 }
 
 -- clauses that a line makes, under the ids that follow the last one
