@@ -115,7 +115,7 @@ fn hear_all(forms: &mut Forms, clauses: &ClauseList) -> Result<(), AllocError>
 }
 
 /// The fact, as forms name it.
-fn named(fact: WeightedFact) -> NamedFact
+fn name_fact(fact: WeightedFact) -> NamedFact
     ensures named { result ≡ fact_of fact }
     ensures small { IsFact result }
 {
@@ -133,7 +133,7 @@ fn name_facts(names: &mut Vec<NamedFact>, facts: &[WeightedFact]) -> Result<(), 
 {
     names.clear();
     for fact in facts {
-        names.push(named(*fact))?;
+        names.push(name_fact(*fact))?;
     }
     Ok(())
 }

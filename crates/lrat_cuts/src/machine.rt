@@ -183,13 +183,6 @@ impl CutsMachine {
         }
     }
 
-    /// The cost that each cut has to hold for, if there is one.
-    pub fn cost(&self) -> Option<u64>
-        ensures { result ≡ self.now.cost }
-    {
-        self.cost
-    }
-
     /// How many lines were read, those without tokens among them.
     pub fn lines(&self) -> u64
         ensures { result ≡ self.now.lines }

@@ -210,15 +210,6 @@ impl CutsChecker {
         self.refused
     }
 
-    /// The greatest lower bound that the lines so far have proved. It is told where no line was
-    /// faulty.
-    pub fn proved(&self) -> u64
-        ensures proved { result ≡ (((self.now.reading).machine).state).proved }
-        ensures most { result ≤ NUMBER_LIMIT }
-    {
-        self.machine.proved()
-    }
-
     /// The verdict on all that it was handed: what follows the last line feed is one more line.
     ///
     /// # Errors
