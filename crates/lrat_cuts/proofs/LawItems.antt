@@ -1,20 +1,20 @@
 -- Lines that make counts, outputs of counts and groups.
-use Rattle.std.proofs.Common.{◌≡◌, ℕ, zero, suc, ◌+◌, ◌-◌, ◌<◌, ◌≤◌, Bool, true, false, not, ◌&&◌, ◌||◌, if◌then◌else◌, nat_le, pos, List, [], ◌∷◌, ◌++◌, Option, Some, None, Result, Ok, Err, length, set, slice_get, slice_set, refl, sym, ◌∙◌, ap, subst, arith}
-use Rattle.std.proofs.lemmas.Bool.{and_parts, leb-true, leb-false, or_parts}
-use Rattle.std.specs.List.{AllByRecursion}
+use Rattle.std.proofs.Common.{◌≡◌, ℕ, zero, suc, ◌+◌, ◌-◌, ◌<◌, Bool, true, false, not, ◌&&◌, ◌||◌}
+use Rattle.std.proofs.Common.{nat_le, pos, List, [], ◌∷◌, ◌++◌, Some, None, Ok, length, set}
+use Rattle.std.proofs.Common.{slice_get, refl, sym, subst, arith}
+use Rattle.std.proofs.lemmas.Bool.{and_parts, leb-true, leb-false}
 use Rattle.cnf.specs.Literal.{Assignment, Literal}
-use Rattle.cnf.specs.Clause.{Satisfies, greatest_variable, has_repeat, is_tautology}
+use Rattle.cnf.specs.Clause.{greatest_variable, has_repeat, is_tautology}
 use Rattle.cnf.specs.Problem.{Problem}
 use Rattle.cnf.specs.Instance.{IsInstance}
 use Rattle.cnf.specs.Refute.{Clauses}
-use Rattle.cnf.proofs.Laws.{AllHold, all_left}
+use Rattle.cnf.proofs.Laws.{AllHold}
 use Rattle.totalizer.specs.Stages.{Tree, Staged, outputs_of, size_of, stage, totalizer_of}
-use Rattle.linear.specs.Costs.{CostForm, widened}
-use Rattle.forms.specs.Forms.{Forms, Made, Numbered, Count, Group, are_excluded, are_known, count_line, group_line, more_line, pairs_of, plus}
-use Rattle.forms.specs.declared.faults.LineFault.{LineFault}
-use Rattle.forms.specs.declared.faults.LineFault.TheVariants.{Name, Limit}
+use Rattle.linear.specs.Costs.{widened}
+use Rattle.forms.specs.Forms.{Forms, Made, Count, Group, are_excluded, are_known, count_line}
+use Rattle.forms.specs.Forms.{group_line, more_line, pairs_of, plus}
 use Rattle.forms.specs.declared.faults.TheConstants.{MOST_COUNT_CLAUSES}
-use Rattle.lrat_cuts.proofs.LawMeaning.{IsCheap, Means}
+use Rattle.lrat_cuts.proofs.LawMeaning.{IsCheap}
 use Rattle.lrat_cuts.proofs.LawForms.{Holds}
 use Rattle.lrat_cuts.proofs.LawCounts.{HasVariables, count_back, count_holds, count_true, last_one}
 use Rattle.lrat_cuts.proofs.LawMore.{more_back, more_holds, more_true}

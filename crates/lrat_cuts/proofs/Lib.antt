@@ -14,3 +14,6 @@ mod Putting
 mod Judging
 mod PieceLaws
 mod EndedParts
+mod LawStart
+mod LawSound
+mod LawWorth

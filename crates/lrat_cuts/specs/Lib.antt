@@ -3,3 +3,4 @@ pub mod Machine
 pub mod Pieces
 pub mod Vectors
 pub mod Verdict
+pub mod Law
