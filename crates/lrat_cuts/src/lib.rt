@@ -3,18 +3,9 @@
 #![tactic(auto)]
 
 mod base;
+pub mod law;
 pub mod machine;
 pub mod pieces;
 pub mod streams;
 mod table;
 pub mod verdicts;
-pub mod law;
-
-/// One.
-pub fn one() -> u32
-    ensures { result ≡ 1 }
-{
-    1
-}
-
-ghost use Rattle.std.specs.Prelude.{◌≡◌};
