@@ -1,0 +1,116 @@
+-- Results with certificates of forms and cuts: the verdict, and what a yes shows.
+use Rattle.std.proofs.Common.{◌≡◌, ℕ, ◌<◌, ◌≤◌, Bool, true, false, List, [], ◌++◌, Option, Some}
+use Rattle.std.proofs.Common.{None, refl, sym, ◌∙◌, ap, arith, append-nil, append_assoc, subst}
+use Rattle.std.proofs.Common.{inl, inr}
+use Rattle.std.specs.Prelude.{IfSome, Result, Ok, Err, sum_by, if◌then◌else◌}
+use Rattle.std.specs.Io.KnownBytes.{Consumes, IsAtEnd}
+use Rattle.std.proofs.lemmas.Bool.{cases_Bool}
+use Rattle.std.proofs.lemmas.List.Sums.{sum_by-le-sum_by}
+use Rattle.cnf.specs.Literal.{Assignment}
+use Rattle.cnf.specs.Clause.{clause_value}
+use Rattle.cnf.specs.Instance.{IsInstance}
+use Rattle.cnf.specs.Problem.{Problem, IsFeasible, IsInconsistent, cost_of, cost_under}
+use Rattle.cnf.specs.declared.limits.TheConstants.{NUMBER_LIMIT}
+use Rattle.text.specs.Text.{token_lines}
+use Rattle.wcnf.specs.Wcnf.{Reads}
+use Rattle.wcnf.proofs.Laws.{reading_is_right}
+use Rattle.lrat_result.specs.Result.{Report, report_of}
+use Rattle.lrat_machine.specs.declared.verdicts.Cause.{Cause}
+use Rattle.lrat_machine.specs.declared.verdicts.Cause.TheVariants.{ResultForm}
+use Rattle.lrat_machine.specs.declared.verdicts.Verdict.{Verdict}
+use Rattle.lrat_machine.specs.declared.verdicts.Verdict.TheVariants.{Yes, No}
+use Rattle.lrat_cuts.specs.Cuts.{CutsState}
+use Rattle.lrat_cuts.specs.Law.{CutsAreSound, CutsProveTheCost}
+use Rattle.lrat_cuts.specs.Pieces.{CheckerState, HasJudged, Holds, ReadingState}
+use Rattle.lrat_cuts.specs.Verdict.{cuts_verdict, judged_text, verdict_of}
+use Rattle.lrat_check.specs.Checks.{CostsAtLeast}
+use Rattle.lrat_check.specs.Cuts.{ShowsByCuts, cuts_verdict_left, said_cuts_verdict}
+use Rattle.lrat_check.specs.Cuts.{verdict_by_cuts}
+use Rattle.lrat_check.specs.declared.cuts.CutsLeft.{CutsLeft}
+use Rattle.lrat_check.specs.declared.cuts.CutsLeft.TheVariants.{Nothing, Bound, NoSolution}
+use Rattle.lrat_check.proofs.PieceLaws.{over_all, over_ended}
+use Rattle.lrat_result.specs.declared.report.Cost.{Cost}
+
+-- a text and a result
+module _ (text answer proof : List ℕ) (p : Problem) (reads : Reads text p) where
+  pub form_by_cuts : (line : ℕ) → report_of answer ≡ Err line
+      → No ResultForm line ≡ verdict_by_cuts text answer proof
+  form_by_cuts line e = let u = (reading_is_right text p).0 reads in rw (u, e) refl
+
+  pub said_by_cuts : (r : Report) → report_of answer ≡ Ok r
+      → said_cuts_verdict p r proof ≡ verdict_by_cuts text answer proof
+  said_by_cuts r e = let u = (reading_is_right text p).0 reads in rw (u, e) refl
+
+-- what is left of them
+pub shows_more_by_cuts : (left : CutsLeft) (P Q : Type 0) → (P → Q) → ShowsByCuts left P
+    → ShowsByCuts left Q
+shows_more_by_cuts (Nothing v) P Q f h = λ y. f (h y)
+shows_more_by_cuts (Bound p c) P Q f h = λ u. f (h u)
+shows_more_by_cuts (NoSolution p) P Q f h = λ u. f (h u)
+
+pub bound_shows : (left : CutsLeft) (p : Problem) (c : Cost) (P : Type 0) → left ≡ Bound p c
+    → ShowsByCuts left P → CostsAtLeast p c.cost → P
+bound_shows left p c P e h = subst (λ l. ShowsByCuts l P) e h
+
+pub none_shows : (left : CutsLeft) (p : Problem) (P : Type 0) → left ≡ NoSolution p
+    → ShowsByCuts left P → CostsAtLeast p NUMBER_LIMIT → P
+none_shows left p P e h = subst (λ l. ShowsByCuts l P) e h
+
+-- no solution costs 2^62
+cost_within : (satisfied : Bool) (weight : ℕ) → (if satisfied then 0 else weight) ≤ weight
+cost_within true weight = omega arith
+cost_within false weight = omega arith
+
+pub none_by : (p : Problem) → IsInstance p → CostsAtLeast p NUMBER_LIMIT → IsInconsistent p
+none_by p i least t f =
+    let most : cost_under p t ≤ sum_by (λ s. s.weight) p.soft =
+    sum_by-le-sum_by (cost_of t) (λ s. s.weight) p.soft
+    (λ s. cost_within (clause_value t s.clause) s.weight) in
+    let few : sum_by (λ s. s.weight) p.soft < NUMBER_LIMIT = i.weight_sum in
+    let all : NUMBER_LIMIT ≤ cost_under p t = least t f in
+    omega (arith, most, few, all)
+
+-- the verdict on all bytes of the reader, where it was found over those that were read
+module _ (c : CheckerState) (cost : Option ℕ) (p : Problem) (fed : List ℕ)
+    (o n : Option (List ℕ)) (v : Verdict) (j : HasJudged c cost p fed) (read : Consumes o n fed)
+    (end : (c.reading).refused ≡ None → IsAtEnd n) (is : v ≡ cuts_verdict cost p fed) where
+  stays : (e : Cause × ℕ) → (c.reading).refused ≡ Some e → (more : List ℕ)
+      → cuts_verdict cost p (fed ++ more) ≡ No e.0 e.1
+  stays e r more =
+      let w = (j.holds).refused e r in
+      ap (λ x. cuts_verdict cost p (x ++ more)) w.split
+      ∙ ap (cuts_verdict cost p) (append_assoc w.done w.after more)
+      ∙ ap verdict_of (w.stays (w.after ++ more))
+
+  by_refused : (r : Option (Cause × ℕ)) → (c.reading).refused ≡ r
+      → IfSome o (λ bytes. v ≡ cuts_verdict cost p bytes)
+  by_refused None e = over_ended o n fed v (cuts_verdict cost p) read (end e) is
+  by_refused (Some f) e =
+      let same : v ≡ No f.0 f.1 =
+      is ∙ ap (cuts_verdict cost p) (sym (append-nil fed)) ∙ stays f e [] in
+      over_all o n fed v (cuts_verdict cost p) read (λ more. same ∙ sym (stays f e more))
+
+  pub over_cuts : IfSome o (λ bytes. v ≡ cuts_verdict cost p bytes)
+  over_cuts = by_refused (c.reading).refused refl
+
+-- a yes
+yes_ends : (s : CutsState) → verdict_of (Ok s) ≡ Yes → s.ended ≡ true
+yes_ends s e = elim (cases_Bool s.ended) as (λ _. s.ended ≡ true) [
+  | inl h ↦ h
+  | inr h ↦ let no = rw h at e in absurd (cc)
+]
+
+module _ (sound : CutsAreSound) (proves : CutsProveTheCost) (p : Problem) (i : IsInstance p)
+    (cost : ℕ) (small : cost ≤ NUMBER_LIMIT) (bytes : List ℕ) where
+  least_by : (r : Result CutsState (Cause × ℕ)) → judged_text (Some cost) p bytes ≡ r
+      → verdict_of r ≡ Yes → CostsAtLeast p cost
+  least_by (Err e) judged y = absurd (cc)
+  least_by (Ok s) judged y = λ u f.
+      let enough = proves p cost (token_lines bytes) s small judged (yes_ends s y) in
+      let least = sound p (Some cost) (token_lines bytes) s i judged u f in
+      omega (arith, enough, least)
+
+  pub yes_by_cuts : (v : Verdict) → v ≡ cuts_verdict (Some cost) p bytes → v ≡ Yes
+      → CostsAtLeast p cost
+  yes_by_cuts v is y =
+      least_by (judged_text (Some cost) p bytes) refl (sym is ∙ y)
