@@ -6,10 +6,9 @@ use Rattle.std.specs.Prelude.{IfSome, Result, Ok, Err, sum_by, if◌then◌else�
 use Rattle.std.specs.Io.KnownBytes.{Consumes, IsAtEnd}
 use Rattle.std.proofs.lemmas.Bool.{cases_Bool}
 use Rattle.std.proofs.lemmas.List.Sums.{sum_by-le-sum_by}
-use Rattle.cnf.specs.Literal.{Assignment}
 use Rattle.cnf.specs.Clause.{clause_value}
 use Rattle.cnf.specs.Instance.{IsInstance}
-use Rattle.cnf.specs.Problem.{Problem, IsFeasible, IsInconsistent, cost_of, cost_under}
+use Rattle.cnf.specs.Problem.{Problem, IsInconsistent, cost_of, cost_under}
 use Rattle.cnf.specs.declared.limits.TheConstants.{NUMBER_LIMIT}
 use Rattle.text.specs.Text.{token_lines}
 use Rattle.wcnf.specs.Wcnf.{Reads}
@@ -21,10 +20,10 @@ use Rattle.lrat_machine.specs.declared.verdicts.Verdict.{Verdict}
 use Rattle.lrat_machine.specs.declared.verdicts.Verdict.TheVariants.{Yes, No}
 use Rattle.lrat_cuts.specs.Cuts.{CutsState}
 use Rattle.lrat_cuts.specs.Law.{CutsAreSound, CutsProveTheCost}
-use Rattle.lrat_cuts.specs.Pieces.{CheckerState, HasJudged, Holds, ReadingState}
+use Rattle.lrat_cuts.specs.Pieces.{CheckerState, HasJudged}
 use Rattle.lrat_cuts.specs.Verdict.{cuts_verdict, judged_text, verdict_of}
 use Rattle.lrat_check.specs.Checks.{CostsAtLeast}
-use Rattle.lrat_check.specs.Cuts.{ShowsByCuts, cuts_verdict_left, said_cuts_verdict}
+use Rattle.lrat_check.specs.Cuts.{ShowsByCuts, said_cuts_verdict}
 use Rattle.lrat_check.specs.Cuts.{verdict_by_cuts}
 use Rattle.lrat_check.specs.declared.cuts.CutsLeft.{CutsLeft}
 use Rattle.lrat_check.specs.declared.cuts.CutsLeft.TheVariants.{Nothing, Bound, NoSolution}

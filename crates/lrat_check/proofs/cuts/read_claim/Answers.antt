@@ -1,5 +1,4 @@
 use Rattle.std.proofs.Common.{[], refl}
-use Rattle.cnf.specs.Problem.{IsInconsistent}
 use Rattle.adder.specs.declared.profiles.Profile.TheVariants.{One}
 use Rattle.lrat_check.proofs.CutsLaws.{none_by}
 use Rattle.lrat_check.proofs.Judging.{headed_is_true}
