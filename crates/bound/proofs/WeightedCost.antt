@@ -17,7 +17,9 @@ use Rattle.adder.specs.Network.{Relaxed, relaxed_as, relaxed_variables, SameUpTo
 use Rattle.adder.proofs.Laws.{AreRelaxedBelow, IsRelaxedTightly, relaxed_below, relaxed_choice}
 use Rattle.bound.specs.Bound.{kept, relaxed_clauses}
 use Rattle.bound.specs.Weighted.{weighted_cnf, weights_in, weights_of}
-use Rattle.bound.proofs.Cheaper.{clauses_same, cost_same, given_up, soft_within, tight_clauses}
+use Rattle.cnf.specs.declared.limits.TheConstants.{NUMBER_LIMIT}
+use Rattle.bound.proofs.Cheaper.{cost_below, clauses_same, cost_same, given_up, soft_within}
+use Rattle.bound.proofs.Cheaper.{tight_clauses}
 use Rattle.bound.proofs.Cheaper.{tight_cost, tight_same}
 use Rattle.bound.proofs.Clauses.{all_true-from, all_true-kept, from_all_true}
 
@@ -134,3 +136,8 @@ feasible_same p h t u same feasible =
 pub solution_cost : (p : Problem) → IsInstance p → (t u : Assignment) → SameUpTo p.variables t u
     → cost_under p u ≡ cost_under p t
 solution_cost p h t u same = cost_same p.variables t u p.soft same (soft_of p h)
+
+-- each cost is below the limit of numbers
+pub solution_small : (p : Problem) → IsInstance p → (t : Assignment)
+    → cost_under p t < NUMBER_LIMIT
+solution_small p h t = omega (arith, cost_below p t, h.weight_sum)

@@ -1,5 +1,5 @@
 -- What a line feed ends of a text.
-use Rattle.std.proofs.Common.{◌≡◌, ℕ, Bool, true, false, List, [], ◌∷◌, ◌++◌, refl, sym, ◌∙◌, ap}
+use Rattle.std.proofs.Common.{◌≡◌, ℕ, Bool, false, List, [], ◌∷◌, ◌++◌, refl, sym, ◌∙◌, ap}
 use Rattle.std.proofs.Common.{subst, take, inl, inr, append_assoc, append-nil, if◌then◌else◌}
 use Rattle.std.specs.Prelude.{◌==◌, ◌≤◌, length, Option, None, Some, Ok, Err, IsOk}
 use Rattle.std.proofs.lemmas.List.Elements.{All-head, All-tail}
@@ -10,7 +10,6 @@ use Rattle.text.specs.declared.watched.TheConstants.{READ_SIZE}
 use Rattle.text.specs.Text.{IsNoFeed}
 use Rattle.text.specs.Pieces.{IsCut, IsEnded}
 use Rattle.lrat_machine.specs.declared.verdicts.Cause.{Cause}
-use Rattle.lrat_cuts.specs.Machine.{judged_after}
 use Rattle.lrat_cuts.specs.Pieces.{Holds, IsOpen, ReadingState, ReadsOn}
 use Rattle.lrat_cuts.specs.Verdict.{ended_part, ended_with, judged_text}
 

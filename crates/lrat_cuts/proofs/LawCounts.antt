@@ -20,7 +20,7 @@ use Rattle.linear.specs.Linear.{true_count}
 use Rattle.linear.specs.Costs.{CostForm, widened, width_of}
 use Rattle.linear.proofs.Laws.{agrees_widened, value_widened, widened_wide, widened_width}
 use Rattle.bound.proofs.Laws.{weighted_same}
-use Rattle.forms.specs.Forms.{Numbered, Count, Group}
+use Rattle.forms.specs.Forms.{Numbered, Count, Group, last_of}
 use Rattle.lrat_cuts.proofs.LawMeaning.{FormHolds, IsCheap, IsCountBelow, IsItemBelow, IsLow}
 use Rattle.lrat_cuts.proofs.LawMeaning.{IsMeant, Means, slack}
 
@@ -165,13 +165,7 @@ module _ (p : Problem) (i : IsInstance p) (k v : ℕ) (f : CostForm) (ns : List 
       totalizer_true t outputs (v + 1) inputs
       (all_right (Means t) ns (Count inputs made.tree 0 ∷ []) (c.meant).counts).0
 
--- the last of some literals
-abbrev pub last_one : List Literal → List Literal
-last_one [] = []
-last_one (l ∷ []) = l ∷ []
-last_one (l ∷ m ∷ more) = last_one (m ∷ more)
-
-pub last_push : (c : List Literal) (l : Literal) → last_one (c ++ l ∷ []) ≡ l ∷ []
+pub last_push : (c : List Literal) (l : Literal) → last_of (c ++ l ∷ []) ≡ l ∷ []
 last_push [] l = refl
 last_push (m ∷ []) l = refl
 last_push (m ∷ n ∷ c) l = last_push (n ∷ c) l

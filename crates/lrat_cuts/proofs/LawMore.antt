@@ -22,10 +22,10 @@ use Rattle.linear.specs.Linear.{true_count, value}
 use Rattle.linear.specs.Costs.{CostForm, widened, width_of}
 use Rattle.linear.proofs.Laws.{agrees_widened, literals_width, value_literals, value_widened}
 use Rattle.linear.proofs.Laws.{widened_wide, widened_width}
-use Rattle.forms.specs.Forms.{Numbered, Count, plus}
+use Rattle.forms.specs.Forms.{Numbered, Count, last_of, plus}
 use Rattle.lrat_cuts.proofs.LawMeaning.{FormHolds, IsCheap, IsCountBelow, IsItemBelow, IsLow}
 use Rattle.lrat_cuts.proofs.LawMeaning.{IsMeant, Means, slack}
-use Rattle.lrat_cuts.proofs.LawCounts.{below_more, choice_kept, item_more, last_one, last_push}
+use Rattle.lrat_cuts.proofs.LawCounts.{below_more, choice_kept, item_more, last_push}
 use Rattle.lrat_cuts.proofs.LawCounts.{meant_kept, same_count}
 
 -- what holds of each element of a list in which one is changed
@@ -174,13 +174,13 @@ module _ (p : Problem) (i : IsInstance p) (k v : ℕ) (f : CostForm) (ns : List 
       omega (arith, ints, e, d, s, was, is, q, z)
 
   pub more_holds : FormHolds p k (next.fresh - 1)
-      (plus (pos m) (last_one (outputs_of next.tree)) wide) now
+      (plus (pos m) (last_of (outputs_of next.tree)) wide) now
   more_holds =
       let n = next.fresh in
       let same : next.fresh - 1 + 1 ≡ next.fresh = omega (arith, from) in
       let wider = widened_wide n f h.wide in
-      let last : last_one (outputs_of next.tree) ≡ own ∷ []
-      = ap last_one grown ∙ last_push (outputs_of tree) own in
+      let last : last_of (outputs_of next.tree) ≡ own ∷ []
+      = ap last_of grown ∙ last_push (outputs_of tree) own in
       subst (λ x. FormHolds p k (next.fresh - 1) (plus (pos m) x wide) now) (sym last) (record {
         choice = choice;
         relaxed = omega (arith, h.relaxed, from);

@@ -1,32 +1,28 @@
 -- Certificates of forms and cuts: LRAT whose additions are RUP alone, with lines that bring linear
 -- lower bounds of the cost and the clauses that follow from them. The first fault decides.
-use Rattle.std.specs.Prelude.{ℕ, zero, suc, ◌+◌, min, max, Bool, true, false, not, ◌||◌, List, []}
-use Rattle.std.specs.Prelude.{◌∷◌, ◌++◌, length, map, Option, Some, None, Result, Ok, Err}
-use Rattle.std.specs.Prelude.{nat_le, ◌==◌, is_some, if◌then◌else◌}
-use Rattle.std.specs.List.{list_any}
-use Rattle.cnf.specs.Literal.{Literal, negation}
-use Rattle.cnf.specs.Clause.{has_repeat, is_tautology}
-use Rattle.cnf.specs.Lrat.{Live, CandidateHints}
+use Rattle.std.specs.Prelude.{ℕ, zero, suc, ◌+◌, min, max, Bool, true, false, List, []}
+use Rattle.std.specs.Prelude.{◌∷◌, ◌++◌, map, Option, Some, None, Result, Ok, Err}
+use Rattle.std.specs.Prelude.{nat_le, if◌then◌else◌}
+use Rattle.cnf.specs.Literal.{Literal}
 use Rattle.cnf.specs.Problem.{Problem}
-use Rattle.cnf.specs.declared.limits.TheConstants.{NUMBER_LIMIT, VARIABLE_LIMIT}
+use Rattle.cnf.specs.declared.limits.TheConstants.{NUMBER_LIMIT}
 use Rattle.bound.specs.Weighted.{weighted_cnf, weights_of}
 use Rattle.forms.specs.Forms.{Forms, Made, forms_of, heard, count_line}
 use Rattle.forms.specs.declared.types.NamedFact.{NamedFact as FormFact}
 use Rattle.forms.specs.Forms.{more_line, group_line, form_line, cut_line, bound_line}
 use Rattle.forms.specs.declared.faults.LineFault.{LineFault}
 use Rattle.forms.specs.declared.faults.LineFault.TheVariants.{Name, Limit, Worth}
-use Rattle.lrat_live.specs.Listed.{Listed, listed_at, without_id}
-use Rattle.lrat_read.specs.Form.{Parsed, Addition, Deletion, Malformed, line_of, leading, groups_of}
+use Rattle.lrat_live.specs.Listed.{Listed, listed_at}
+use Rattle.lrat_read.specs.Form.{Parsed, Addition, Deletion, Malformed, line_of}
 use Rattle.lrat_read.specs.Words.{NamedFact, WordLine, CountLine, MoreLine, GroupLine, FormLine}
 use Rattle.lrat_read.specs.Words.{CutLine, BoundLine, word_of, after_word}
 use Rattle.lrat_read.specs.declared.words.Word.{Word}
 use Rattle.lrat_machine.specs.Rup.{deleted_from, rup_fault}
 use Rattle.lrat_machine.specs.Steps.{live_of}
 use Rattle.lrat_machine.specs.declared.verdicts.Cause.{Cause}
-use Rattle.lrat_machine.specs.declared.verdicts.Cause.TheVariants.{LineForm, IdOrder, DeadId}
-use Rattle.lrat_machine.specs.declared.verdicts.Cause.TheVariants.{HintAfterConflict, NoConflict}
-use Rattle.lrat_machine.specs.declared.verdicts.Cause.TheVariants.{NoEmptyClause, TrailingLine}
-use Rattle.lrat_machine.specs.declared.verdicts.Cause.TheVariants.{ClauseForm, LineName, LineLimit}
+use Rattle.lrat_machine.specs.declared.verdicts.Cause.TheVariants.{LineForm, DeadId}
+use Rattle.lrat_machine.specs.declared.verdicts.Cause.TheVariants.{TrailingLine}
+use Rattle.lrat_machine.specs.declared.verdicts.Cause.TheVariants.{LineName, LineLimit}
 use Rattle.lrat_machine.specs.declared.verdicts.Cause.TheVariants.{CutWorth}
 
 -- what the lines so far leave

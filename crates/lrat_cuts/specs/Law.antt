@@ -6,7 +6,7 @@ use Rattle.cnf.specs.Instance.{IsInstance}
 use Rattle.cnf.specs.declared.limits.TheConstants.{NUMBER_LIMIT}
 use Rattle.lrat_cuts.specs.Cuts.{CutsState, cuts_start, judged_lines}
 
--- no solution costs less than the lines have proved, however many there are
+-- no solution costs less than what lines have proved, wherever they end
 abbrev pub CutsAreSound : Type 0
 CutsAreSound = (p : Problem) (cost : Option ℕ) (lines : List (List (List ℕ))) (s : CutsState)
     → IsInstance p → judged_lines cost (cuts_start p) 1 lines ≡ Ok s

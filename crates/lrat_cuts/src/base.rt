@@ -1,5 +1,5 @@
 // What the lines so far leave: the live clauses, and the forms over them.
-ghost use Rattle.std.specs.Prelude.{◌≡◌, ◌+◌, ◌<◌, List, map, None, IfOk, OnOk};
+ghost use Rattle.std.specs.Prelude.{◌≡◌, ◌+◌, ◌<◌, ◌≤◌, List, map, None, IfOk, OnOk};
 ghost use Rattle.std.specs.Prelude.{All, IfSome, false};
 ghost use Rattle.cnf.specs.Literal.{Literal};
 ghost use Rattle.cnf.specs.declared.limits.TheConstants.{NUMBER_LIMIT, VARIABLE_LIMIT};
@@ -63,6 +63,11 @@ impl Model for CutsBase {
       worth = b.worth;
       proved = b.proved;
     } };
+
+    ghost use Rattle.std.specs.Prelude.{◌≤◌};
+    ghost use Rattle.cnf.specs.declared.limits.TheConstants.{NUMBER_LIMIT};
+
+    ghost invariant = { λ b. (b.worth ≤ NUMBER_LIMIT) × (b.proved ≤ NUMBER_LIMIT) };
 }
 
 /// Why a line that speaks of forms is refused.
@@ -110,7 +115,7 @@ fn hear_all(forms: &mut Forms, clauses: &ClauseList) -> Result<(), AllocError>
 }
 
 /// The fact, as forms name it.
-fn named(fact: WeightedFact) -> NamedFact
+fn name_fact(fact: WeightedFact) -> NamedFact
     ensures named { result ≡ fact_of fact }
     ensures small { IsFact result }
 {
@@ -128,7 +133,7 @@ fn name_facts(names: &mut Vec<NamedFact>, facts: &[WeightedFact]) -> Result<(), 
 {
     names.clear();
     for fact in facts {
-        names.push(named(*fact))?;
+        names.push(name_fact(*fact))?;
     }
     Ok(())
 }
@@ -163,14 +168,16 @@ impl CutsBase {
 
     /// The least that a cut so far is worth, at most 2^62.
     pub(crate) fn worth(&self) -> u64
-        ensures { result ≡ self.now.worth }
+        ensures worth { result ≡ self.now.worth }
+        ensures most { result ≤ NUMBER_LIMIT }
     {
         self.worth
     }
 
     /// The greatest lower bound of the cost that was proved, at most 2^62.
     pub(crate) fn proved(&self) -> u64
-        ensures { result ≡ self.now.proved }
+        ensures proved { result ≡ self.now.proved }
+        ensures most { result ≤ NUMBER_LIMIT }
     {
         self.proved
     }

@@ -1,6 +1,6 @@
 -- No more of the reader's bytes were read than the first fault takes, and all where there is none.
-use Rattle.std.proofs.Common.{rules, ◌≡◌, ℕ, [], ◌++◌, append_assoc, ap}
-use Rattle.std.proofs.Common.{append-nil, arith, inl, inr, length-take, refl, subst, sym, take}
+use Rattle.std.proofs.Common.{rules, ◌≡◌, ℕ, [], ◌++◌, append_assoc}
+use Rattle.std.proofs.Common.{append-nil, arith, inl, inr, length-take, refl, subst, sym}
 use Rattle.std.specs.Prelude.{None}
 use Rattle.std.specs.Io.KnownBytes.{IsAtEnd}
 use Rattle.std.proofs.KnownBytes.{Consumes-trans}

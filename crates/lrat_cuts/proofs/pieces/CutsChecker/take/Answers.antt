@@ -1,5 +1,5 @@
 -- What the piece leaves: after a line of it, after its last bytes, and after a fault.
-use Rattle.std.proofs.Common.{◌≡◌, ◌++◌, ◌∷◌, ◌∙◌, [], length, ap, refl, arith, sym}
+use Rattle.std.proofs.Common.{◌++◌, ◌∷◌, ◌∙◌, [], length, ap, arith, sym}
 use Rattle.text.proofs.Laws.{line_lengths}
 use Rattle.lrat_cuts.specs.Pieces.{CheckerState}
 use Rattle.lrat_cuts.proofs.PieceLaws.{taken_on, rest_kept, rest_dropped, none_from_test}
