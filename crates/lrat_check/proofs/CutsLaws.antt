@@ -8,6 +8,7 @@ use Rattle.std.proofs.lemmas.Bool.{cases_Bool}
 use Rattle.std.proofs.lemmas.List.Sums.{sum_by-le-sum_by}
 use Rattle.cnf.specs.Clause.{clause_value}
 use Rattle.cnf.specs.Instance.{IsInstance}
+use Rattle.bound.proofs.Laws.{solution_small}
 use Rattle.cnf.specs.Problem.{Problem, IsInconsistent, cost_of, cost_under}
 use Rattle.cnf.specs.declared.limits.TheConstants.{NUMBER_LIMIT}
 use Rattle.text.specs.Text.{token_lines}
@@ -56,18 +57,8 @@ pub none_shows : (left : CutsLeft) (p : Problem) (P : Type 0) → left ≡ NoSol
 none_shows left p P e h = subst (λ l. ShowsByCuts l P) e h
 
 -- no solution costs 2^62
-cost_within : (satisfied : Bool) (weight : ℕ) → (if satisfied then 0 else weight) ≤ weight
-cost_within true weight = omega arith
-cost_within false weight = omega arith
-
 pub none_by : (p : Problem) → IsInstance p → CostsAtLeast p NUMBER_LIMIT → IsInconsistent p
-none_by p i least t f =
-    let most : cost_under p t ≤ sum_by (λ s. s.weight) p.soft =
-    sum_by-le-sum_by (cost_of t) (λ s. s.weight) p.soft
-    (λ s. cost_within (clause_value t s.clause) s.weight) in
-    let few : sum_by (λ s. s.weight) p.soft < NUMBER_LIMIT = i.weight_sum in
-    let all : NUMBER_LIMIT ≤ cost_under p t = least t f in
-    omega (arith, most, few, all)
+none_by p i least t f = let enough = least t f in omega (arith, enough, solution_small p i t)
 
 -- the verdict on all bytes of the reader, where it was found over those that were read
 module _ (c : CheckerState) (cost : Option ℕ) (p : Problem) (fed : List ℕ)
@@ -91,25 +82,3 @@ module _ (c : CheckerState) (cost : Option ℕ) (p : Problem) (fed : List ℕ)
 
   pub over_cuts : IfSome o (λ bytes. v ≡ cuts_verdict cost p bytes)
   over_cuts = by_refused (c.reading).refused refl
-
--- a yes
-yes_ends : (s : CutsState) → verdict_of (Ok s) ≡ Yes → s.ended ≡ true
-yes_ends s e = elim (cases_Bool s.ended) as (λ _. s.ended ≡ true) [
-  | inl h ↦ h
-  | inr h ↦ let no = rw h at e in absurd (cc)
-]
-
-module _ (sound : CutsAreSound) (proves : CutsProveTheCost) (p : Problem) (i : IsInstance p)
-    (cost : ℕ) (small : cost ≤ NUMBER_LIMIT) (bytes : List ℕ) where
-  least_by : (r : Result CutsState (Cause × ℕ)) → judged_text (Some cost) p bytes ≡ r
-      → verdict_of r ≡ Yes → CostsAtLeast p cost
-  least_by (Err e) judged y = absurd (cc)
-  least_by (Ok s) judged y = λ u f.
-      let enough = proves p cost (token_lines bytes) s small judged (yes_ends s y) in
-      let least = sound p (Some cost) (token_lines bytes) s i judged u f in
-      omega (arith, enough, least)
-
-  pub yes_by_cuts : (v : Verdict) → v ≡ cuts_verdict (Some cost) p bytes → v ≡ Yes
-      → CostsAtLeast p cost
-  yes_by_cuts v is y =
-      least_by (judged_text (Some cost) p bytes) refl (sym is ∙ y)

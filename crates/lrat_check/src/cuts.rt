@@ -13,7 +13,6 @@ use crate::checking::{refuse_status, solution_fault};
 use crate::verdicts::{Cause, CheckFault, Verdict};
 use cnf::limits::NUMBER_LIMIT;
 use cnf::types::Instance;
-use lrat_cuts::law::cuts_are_sound;
 use lrat_cuts::pieces::CutsChecker;
 use lrat_cuts::streams::judge;
 use lrat_result::report::{Cost, Report, ReportFault, Said};
@@ -116,7 +115,6 @@ fn check_stream<R: Read>(
     ensures sound { IfOk result (λ v. v ≡ Verdict.Yes → CostsAtLeast instance.now cost) }
 {
     instance.limits();
-    cuts_are_sound();
     judge_stream(CutsChecker::new(instance, Some(cost))?, proof)
 }
 
