@@ -17,9 +17,10 @@ that contradict each other.
     --judge FILE      says by the criteria what a solution in CUDF costs, and solves nothing
     --folder PATH     where the files stay; --time-limit SECONDS (600)
 
-Versions are compared as deb-version(7) says; Depends, Pre-Depends, Recommends, Conflicts, Breaks and
-versioned Provides count as in Debian's policy. CUDF 2.0 is read as its specification says (R.
-Treinen and S. Zacchiroli: Common Upgradeability Description Format, 2009), without `!=` in Provides.
+Versions are compared as deb-version(7) says. Depends, Pre-Depends, Recommends, Conflicts, Breaks and
+versioned Provides count as in Debian's policy. What is essential stays; what is on hold stays as it is.
+CUDF 2.0 is read as its specification says (R. Treinen and S. Zacchiroli: Common Upgradeability
+Description Format, 2009), but for `keep`, which is refused.
 """
 import argparse
 import collections
@@ -66,7 +67,7 @@ class Package:
         self.needs, self.recommends = [], []  # each a list of atoms, one of which suffices
         self.conflicts = []  # atoms
         self.provides = []  # pairs of a name and the key of a version, or None
-        self.is_installed = self.is_needed = False
+        self.is_installed = self.is_needed = self.is_held = False
         self.size = 0  # kilobytes
 
     def __str__(self):
@@ -80,7 +81,7 @@ class DebianPackage(Package):
         self.fields = fields
         self.name, self.version, self.key = fields["package"], fields["version"], debian_key(fields["version"])
         self.provides = [(it.name, it.key) for it in list_of(fields.get("provides", ""), debian_atom)]
-        self.is_installed = self.is_needed = False
+        self.is_installed = self.is_needed = self.is_held = False
         self.size = int(fields.get("installed-size", 0))
 
     @functools.cached_property
@@ -208,6 +209,7 @@ def read_lists(universe, status, lists, architecture):
             package = add(fields)
             if package is not None:
                 package.is_installed, package.is_needed = True, fields.get("essential") == "yes"
+                package.is_held = fields["status"].startswith("hold ")
     for package in known.values():
         universe.add(package)
 
@@ -277,7 +279,7 @@ def write_cudf(universe, packages, out):
         if foes:
             print(f"conflicts: {', '.join(foes)}", file=out)
         print(f"installedsize: {package.size}\n" + "installed: true\n" * package.is_installed, file=out)
-    wanted = [it.name for it in packages if it.is_needed]
+    wanted = [it.name for it in packages if it.is_needed] + [f"{it.name} = {ranks[it]}" for it in packages if it.is_held]
     for kind, atom in universe.request:
         found = universe.matching(atom)
         if kind == "install" and found != universe.by_name[atom.name] and len(found) != 1:
@@ -332,6 +334,8 @@ class Plan:
                     self.instance.hard(-self.has[package], -self.has[foe], about=f"{package} conflicts with {foe}")
             if package.is_needed:
                 self.instance.hard(*self.of(package.name), about=f"{package.name} is essential")
+            if package.is_held:
+                self.instance.hard(self.has[package], about=f"{package} is on hold")
 
     def add_request(self):
         for kind, atom in self.universe.request:
@@ -520,8 +524,8 @@ def main(words):
         print_plan(plan, plan.instance.solve(time_limit=given.time_limit, folder=given.folder, progress=True))
     except wmax.Unsatisfiable as error:
         print("This cannot be, which was checked:")
-        for reason in error.because:
-            print(f"  {reason.about}")
+        for about in dict.fromkeys(it.about for it in error.because):
+            print(f"  {about}")
         return 1
     return 0
 

@@ -74,8 +74,8 @@ def main():
         stop("usage: roster.py [--wcnf]")
     try:
         week = instance.solve()
-    except wmax.Unsatisfiable:
-        stop("no week satisfies the rules that must hold")
+    except wmax.Unsatisfiable as error:
+        stop("\n  ".join(["no week satisfies these rules together:", *dict.fromkeys(it.about for it in error.because)]))
     except wmax.WmaxError as error:
         stop(error)
     if not week.is_optimum:

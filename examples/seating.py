@@ -82,8 +82,8 @@ def main():
         stop("usage: seating.py [--wcnf | SECONDS]")
     try:
         found = instance.solve(time_limit=int(words[0]) if words else 60)
-    except wmax.Unsatisfiable:
-        stop("the guests cannot be seated so")
+    except wmax.Unsatisfiable as error:
+        stop("\n  ".join(["the guests cannot be seated so:", *dict.fromkeys(it.about for it in error.because)]))
     except wmax.WmaxError as error:
         stop(error)
     for table in TABLES:

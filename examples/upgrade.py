@@ -98,8 +98,8 @@ def main():
         stop("usage: upgrade.py [--wcnf]")
     try:
         plan = instance.solve()
-    except wmax.Unsatisfiable:
-        stop("what is wanted cannot be installed")
+    except wmax.Unsatisfiable as error:
+        stop("\n  ".join(["what is wanted cannot be installed:", *dict.fromkeys(it.about for it in error.because)]))
     except wmax.WmaxError as error:
         stop(error)
     if not plan.is_optimum:

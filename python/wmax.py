@@ -562,8 +562,8 @@ class Instance:
         if resume and folder is None:
             raise WrongValue("resume: there is no folder to go on from")
         try:
-            with _files_fail(), _ended_by_signals(), _folder(folder) as home:
-                run = _Run(program, home, profile)
+            with _files_fail(), _ended_by_signals(), _folder(folder) as (home, lock):
+                run = _Run(program, home, profile, lock)
                 run.clear(resume)
                 run.instance.write_text(self.text(), encoding="utf-8")
                 self._begin(run, resume, warm)
@@ -1151,21 +1151,21 @@ def _signals_wait() -> Iterator[None]:
 
 
 @contextlib.contextmanager
-def _folder(path: Union[str, "os.PathLike[str]", None]) -> Iterator[pathlib.Path]:
-    """The folder, or one that is removed at the end. FolderInUse: another run has it."""
+def _folder(path: Union[str, "os.PathLike[str]", None]) -> Iterator[Tuple[pathlib.Path, Sequence[int]]]:
+    """The folder, or one that is removed at the end, and the lock on it. FolderInUse: another run has it."""
     if path is None:
         with tempfile.TemporaryDirectory(prefix="wmax-") as made:
-            yield pathlib.Path(made)
+            yield pathlib.Path(made), ()
         return
     folder = _path("folder", path)
     folder.mkdir(parents=True, exist_ok=True)
-    # The system takes the lock back where the program ends, however it does.
+    # The system takes the lock back where this program and its child have ended, however they do.
     with open(folder / "instance.lock", "a", encoding="ascii") as lock:
         try:
             fcntl.flock(lock, fcntl.LOCK_EX | fcntl.LOCK_NB)
         except BlockingIOError:
             raise FolderInUse(f"another solve works in {folder}: give each a folder of its own") from None
-        yield folder
+        yield folder, (lock.fileno(),)
 
 
 @dataclasses.dataclass(frozen=True)
@@ -1212,7 +1212,7 @@ class _Run:
     # How a line of --progress begins.
     PROGRESS = re.compile(r"^[0-9]+\.[0-9] s, .*$", re.MULTILINE)
 
-    def __init__(self, program: str, folder: pathlib.Path, profile: Optional[int]) -> None:
+    def __init__(self, program: str, folder: pathlib.Path, profile: Optional[int], lock: Sequence[int]) -> None:
         self.instance, self.result, self.best, self.proof, self.bound_proof = (
             folder / f"instance.{end}" for end in ("wcnf", "result", "best", "lrat", "bound"))
         self.status: Optional[int] = None
@@ -1223,6 +1223,7 @@ class _Run:
         self.history: List[Step] = []
         self._start = time.monotonic()
         self._program = program
+        self._lock = lock  # what a child holds, too
         try:
             self._help = _help(program, os.stat(program).st_mtime_ns if os.path.exists(program) else 0)
         except OSError as error:
@@ -1266,7 +1267,8 @@ class _Run:
             child = None
             try:
                 with _signals_wait():
-                    child = subprocess.Popen([*guard, self._program, *words], stdin=subprocess.DEVNULL, stdout=out, stderr=err)
+                    child = subprocess.Popen([*guard, self._program, *words], stdin=subprocess.DEVNULL, stdout=out, stderr=err,
+                                             pass_fds=self._lock)
                 yield child, out.fileno(), err.fileno()
             except OSError as error:
                 if child is None:
@@ -1287,7 +1289,7 @@ class _Run:
         """ProgramFailed: the program ended with a fault, or gave no result."""
         words = ["solve", *self._profile, "--proof", str(self.proof), "--best", str(self.best)]
         words += [] if ask.conflicts is None else ["--conflicts", str(ask.conflicts)]
-        words += ["--lower", str(self.bound_proof)] if ask.lower else []
+        words += ["--lower", str(self.bound_proof)] if ask.lower and "--lower" in self._help else []
         words += ["--progress"] if "--progress" in self._help else []
         self._start = time.monotonic()
         self.status, self.stopped, self.is_checked = None, None, False
@@ -1433,8 +1435,8 @@ class _Contradiction:
         for clause in self._clauses:
             if clause.weight is None:
                 self._groups.setdefault(clause.group, []).append(clause.numbers)
-        with _files_fail(), _ended_by_signals(), _folder(None) as home:
-            run = _Run(self._program, home, self._profile)
+        with _files_fail(), _ended_by_signals(), _folder(None) as (home, lock):
+            run = _Run(self._program, home, self._profile, lock)
             core = self._trimmed(run, list(self._groups), _Request(None, None)) or list(self._groups)
             core, is_minimal = self._shortened(run, core, end, conflicts)
             self._try(run, core, _Request(None, None))
@@ -1616,9 +1618,9 @@ def main(words: Optional[Sequence[str]] = None) -> int:
             found[0].plot(given.plot)
         return 30 if found[0].is_optimum else 10
     except Unsatisfiable as error:
-        print(f"No assignment satisfies the hard clauses, which was checked. {len(error.because)} of them do not go together:")
-        for reason in error.because:
-            print(f"  {reason.about}")
+        print("No assignment satisfies the hard clauses, which was checked. These contradict each other:")
+        for about in dict.fromkeys(reason.about for reason in error.because):
+            print(f"  {about}")
         return 20
     except NoSolutionFound as error:
         print(error)
@@ -1641,4 +1643,13 @@ def _tell(found: Solution) -> None:
 
 
 if __name__ == "__main__":
-    sys.exit(main())
+    try:
+        ended = main()
+        sys.stdout.flush()
+    except BrokenPipeError:
+        # Nobody reads on. What is left is not worth a message at the end.
+        os.dup2(os.open(os.devnull, os.O_WRONLY), sys.stdout.fileno())
+        ended = 1
+    except KeyboardInterrupt:
+        ended = 130
+    sys.exit(ended)

@@ -50,9 +50,17 @@ expect 'an earlier solution, a unit of effort' 10 $'o 4\ns SATISFIABLE\n'"$bits"
 best_is 'an earlier solution, a unit of effort' 'o 4' 's SATISFIABLE' "$bits"
 call solve --best best text
 expect 'an earlier solution, all of the effort' 30 $'o 4\ns OPTIMUM FOUND\n'"$bits" ''
-lines best 'o 4' 's OPTIMUM FOUND' "$bits"
+lines best 'o 5' 'o 4' 's OPTIMUM FOUND' "$bits"
 call solve --best best --conflicts 1 text
-best_is 'an optimum that this run has not shown' 'o 4' 's SATISFIABLE' "$bits"
+expect 'an optimum that this run has not shown' 10 $'o 4\ns SATISFIABLE\n'"$bits" ''
+best_is 'an optimum that this run has not shown' 'o 5' 'o 4' 's OPTIMUM FOUND' "$bits"
+call solve --best best --conflicts 0 text
+best_is 'an optimum, no effort' 'o 5' 'o 4' 's OPTIMUM FOUND' "$bits"
+call solve --best best text
+best_is 'an optimum that this run has shown too' 'o 4' 's OPTIMUM FOUND' "$bits"
+lines best 's UNSATISFIABLE'
+call solve --best best --conflicts 0 text
+best_is 'no solution, as an earlier run said, no effort' 's UNSATISFIABLE'
 lines text 'h 1 2 0' '3 -1 0' '4 -2 0'
 lines best 'o 4' 's SATISFIABLE' 'v 01'
 call solve --best best --conflicts 0 text
@@ -144,6 +152,33 @@ refused 'the certificate' --best proof --proof proof text
 refused 'the certificate beside it' --best proof --proof proof.part text
 rm -f "$work/linked" && ln -s elsewhere "$work/linked"
 refused 'a link to nothing' --best linked text
+
+# Two paths are of one file where they have one folder and one name, however they are spelled.
+mkdir "$work/folder"
+ln -s folder "$work/other_name"
+lower='error: --lower names another file of the run, or something other than a regular file'
+twice() { # NAME MESSAGE WORD..: the run has one file for two things
+    local name=$1 message=$2
+    shift 2
+    call solve "$@" text
+    expect "$name" 2 '' "$message"
+    ok "$name: nothing is left" [ -z "$(ls "$work/folder")" -a ! -e "$work/best" -a ! -e "$work/best.part" -a ! -e "$work/best.part.part" ]
+}
+rm -f "$work/best"
+for path in best.part ./best.part "$work/best.part" folder/../best.part; do
+    twice "--lower as $path" "$lower" --best best --lower $path
+    twice "--best as $path" "$lower" --best $path --lower best
+    twice "the certificate as $path" "$refusal" --best best --proof $path
+done
+for path in best ./best "$work/best" folder/.././best; do
+    twice "--lower as $path" "$lower" --best best --lower $path
+    twice "the certificate as $path" "$refusal" --best best --proof $path
+    twice "the certificate as $path, --lower" "$lower" --lower best --proof $path
+done
+twice 'a folder of two names' "$lower" --best folder/best --lower other_name/best.part
+call solve --best folder/best --lower best text
+ok 'one name in two folders' [ "$status" = 30 -a -e "$work/folder/best" ]
+rm -f "$work/folder/best" "$work/best"
 lines best.part 'o 4' 's SATISFIABLE' 'v 01'
 refused 'RESULT, which the text is written to first' --best best --from best.part text
 ok 'RESULT stays' [ "$(head -n 1 "$work/best.part")" = 'o 4' ]
@@ -173,7 +208,7 @@ if [ -r "$work/best" ]; then
     echo 'files without permission can be read here: not tried'
 else
     call solve --best best text
-    expect 'an unreadable path' 3 '' "error: Read: cannot open or read 'best' (--best)"
+    expect 'an unreadable path' 3 '' 'error: Read best'
 fi
 rm -f "$work/best"
 full() { # NAME: with no room on the disk

@@ -215,13 +215,13 @@ ROWS
 # What is not a file, and words that the command does not take.
 lines text 'h 1 0'
 call check missing result proof
-expect 'a missing instance' 3 '' 'error: Read'
+expect 'a missing instance' 3 '' 'error: Read missing'
 call check text missing proof
-expect 'a missing result' 3 '' 'error: Read'
+expect 'a missing result' 3 '' 'error: Read missing'
 call check text result missing
-expect 'a missing certificate' 3 '' 'error: Read'
+expect 'a missing certificate' 3 '' 'error: Read missing'
 call check . result proof
-expect 'a folder' 3 '' 'error: Read'
+expect 'a folder' 3 '' 'error: Read .'
 call check text result
 ok 'too few words' test "$status" = 2 -a -z "$out" -a -n "$err"
 call check text result proof more

@@ -68,10 +68,11 @@ class Made:
                     "needs": [self.atoms(2) for _ in range(pick.randint(0, 2))], "recommends": [self.atoms(2) for _ in range(pick.randint(0, 1))],
                     "conflicts": self.atoms(1) if pick.random() < 0.3 else [],
                     "provides": [(pick.choice(["v", "w", "a"]), pick.choice([None, 1, 2]))] if pick.random() < 0.3 else [],
-                    "installed": False})
+                    "installed": False, "held": False})
         for name in self.names:
             if pick.random() < 0.5:
-                pick.choice(self.of(name))["installed"] = True
+                package = pick.choice(self.of(name))
+                package["installed"], package["held"] = True, not is_cudf and pick.random() < 0.2
         self.request = [("install", self.real()) for _ in range(pick.randint(0, 2))]
         self.request += [("remove", self.real())] if pick.random() < 0.3 else []
         self.request += [("upgrade", (pick.choice(self.names), None, None))] if is_cudf and pick.random() < 0.3 else []
@@ -101,6 +102,8 @@ class Made:
 
     def is_plan(self, chosen):
         if not self.is_cudf and len({it["name"] for it in chosen}) < len(chosen):
+            return False
+        if any(it["held"] and it not in chosen for it in self.packages):
             return False
         for package in chosen:
             if not all(self.some(chosen, atoms) for atoms in package["needs"]):
@@ -157,7 +160,7 @@ class Made:
         """dpkg's status and apt's list."""
         texts = ["\n".join(it[0].upper() + it[1:] for it in self.fields(package)) +
                  f"\nArchitecture: all\nInstalled-Size: {package['size']}\nDescription: made up\n that goes on" for package in self.packages]
-        status = [text + "\nStatus: install ok installed" for text, package in zip(texts, self.packages) if package["installed"]]
+        status = [text + f"\nStatus: {'hold' if package['held'] else 'install'} ok installed" for text, package in zip(texts, self.packages) if package["installed"]]
         return "\n\n".join(status) + "\n", "\n\n".join(text.replace("Depends:", "Pre-Depends:" if self.pick.random() < 0.2 else "Depends:")
                                                        for text in texts) + "\n"
 
@@ -232,7 +235,7 @@ def main(program):
         expect("what cannot be", told("install", "mailer", "poster", *given), (1, (
             "This cannot be, which was checked:\n  mailer 1 conflicts with poster 1\n  mailer is to be there\n  poster is to be there\n")))
         expect("what is essential", told("remove", "base", *given), (1, (
-            "This cannot be, which was checked:\n  base is essential\n  base is to be removed\n  base is to be removed\n")))
+            "This cannot be, which was checked:\n  base is essential\n  base is to be removed\n")))
         for words, wanted in ((["install", "none"], "no package is none: run apt-get update"), ([], "nothing is asked for"), (["shop"], "what about shop?"),
                               (["install", "shop", "--criteria", "price"], "criteria are of"), (["install", "shop", "--criteria", "new,new"], "criteria are of")):
             found = told(*words, *given)

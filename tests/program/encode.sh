@@ -133,12 +133,12 @@ done
 call encode --proof proof text 3
 expect 'a certificate in the profile that is meant without a word' 2 '' 'error: encode takes --proof only with --profile 5'
 call encode --profile 5 --proof missing text 3
-expect 'a missing certificate' 3 '' 'error: Read'
+expect 'a missing certificate' 3 '' 'error: Read missing'
 call encode --profile 5 --proof . text 3
-expect 'a certificate that cannot be read' 3 '' 'error: Read'
+expect 'a certificate that cannot be read' 3 '' 'error: Read .'
 lines faulty '0 1 0'
 call encode --profile 5 --proof missing faulty 3
-expect 'a missing certificate of a faulty instance' 3 '' 'error: Read'
+expect 'a missing certificate of a faulty instance' 3 '' 'error: Read missing'
 lines proof 'core'
 call encode --profile 5 --proof proof faulty 3
 expect 'faults of both' 2 '' 'error: line 1: Weight'
@@ -160,7 +160,7 @@ fault 'a carriage return at the end' 'h 1 0\r' 'line 1: Literal'
 
 lines text 'h 1 0'
 call encode missing 1
-expect 'a missing instance' 3 '' 'error: Read'
+expect 'a missing instance' 3 '' 'error: Read missing'
 call encode text 4611686018427387904
 ok 'a cost of 2^62' test "$status" = 2 -a -z "$out" -a -n "$err"
 call encode text 4611686018427387903

@@ -22,8 +22,6 @@ explained 'broken clauses' 1 'cost 0' 'given up: 0 of 3 soft clauses' 'broken, h
     'broken, hard, line 10: h 4 0'
 lines result 'o 0' 's OPTIMUM FOUND' 'v 000'
 explained 'too few bits' 1 'the result has 3 bits, and the instance 4 variables'
-lines result 's UNSATISFIABLE'
-explained 'no solution' 0 'the result has no bits: it says that there is no solution'
 lines result 's UNKNOWN'
 explained 'no solution was met' 0 'the result has no bits: no solution was met'
 
@@ -91,6 +89,70 @@ while read -r number wanted; do
     ok "instance $number" test "$status $err" = '0 ' -a "$(head -n 1 <<< "$out")" = "cost $wanted" -a -z "$(grep broken <<< "$out")"
 done < "$work/wanted"
 
+# Why there is no solution.
+said='the result has no bits: it says that there is no solution'
+lines result 's UNSATISFIABLE'
+lines text 'c one is needed' 'h 1 2 0' 'c tea is out' 'h -1 0' 'c beside the point' 'h 3 4 0' '' 'c coffee is out' 'h -2 0' '5 -3 0'
+explained 'no solution' 0 "$said" '3 of 4 hard clauses contradict each other:' 'line 2: h 1 2 0' '    c one is needed' \
+    'line 4: h -1 0' '    c tea is out' 'line 9: h -2 0' '    c coffee is out'
+lines text 'p wcnf 3 5 9' '9 1 2 0' '2 -1 0' '9 3 -3 0' '9 -1 0' 'c why' '9 -2 0'
+explained 'no solution, the older form' 0 "$said" '3 of 4 hard clauses contradict each other:' 'line 2: 9 1 2 0' 'line 5: 9 -1 0' \
+    'line 7: 9 -2 0' '    c why'
+lines text 'h 1 0' 'c nothing holds' 'h 0' 'h -1 0'
+explained 'an empty clause' 0 "$said" '1 of 3 hard clauses contradict each other:' 'line 3: h 0' '    c nothing holds'
+lines text 'h 1 2 0' 'h -1 1 0' '3 -1 0'
+explained 'there is a solution' 1 "$said" 'that is wrong: the hard clauses have a solution'
+: > "$work/text"
+explained 'there is a solution of no clause' 1 "$said" 'that is wrong: the hard clauses have a solution'
+lines proof '5 2 0 1 2 0' '6 0 5 3 4 0'
+lines text 'h 1 2 0' 'h -1 2 0' 'h 1 -2 0' 'h -1 -2 0'
+call explain text result proof
+expect 'no solution, and its certificate' 0 "$said"$'\n4 of 4 hard clauses contradict each other:\nline 1: h 1 2 0\nline 2: h -1 2 0\nline 3: h 1 -2 0\nline 4: h -1 -2 0\nno solution' ''
+# each NAME: the clauses that are listed of text contradict each other over all assignments, and not without one of them
+each_needed() {
+    call explain text result
+    ok "$1: listed" [ "$status" = 0 -a "$(wc -l <<< "$out")" -gt 2 ]
+    ok "$1: needed" python3 - "$work/text" "$out" << 'PYTHON'
+import itertools, sys
+
+clauses = [[int(word) for word in line.split()[3:-1]] for line in sys.argv[2].split('\n') if line.startswith('line ')]
+text = [line.split()[1:-1] for line in open(sys.argv[1]) if line.startswith('h')]
+assert all([str(lit) for lit in clause] in text for clause in clauses)
+names = sorted({abs(lit) for clause in clauses for lit in clause})
+
+def holds(clauses):
+    for bits in itertools.product([False, True], repeat=len(names)):
+        value = dict(zip(names, bits))
+        if all(any(value[abs(lit)] == (lit > 0) for lit in clause) for clause in clauses):
+            return True
+    return False
+
+assert not holds(clauses)
+assert all(holds(clauses[:at] + clauses[at + 1:]) for at in range(len(clauses)))
+PYTHON
+}
+lines result 's UNSATISFIABLE'
+count=0
+for seed in 1 2 3 4 5 6 7 8 9 10 11 12; do
+    awk -v seed=$seed 'BEGIN {
+        srand(seed)
+        for (i = 0; i < 60; i++) {
+            for (k = 0; k < 3; k++) clause[k] = int(rand() * 8) + 1
+            printf "h"
+            for (k = 0; k < 3; k++) printf " %d", (rand() < 0.5 ? -1 : 1) * clause[k]
+            print " 0"
+        }
+    }' | awk '{ for (k = 2; k <= 4; k++) if ($k == $(k % 3 + 2) || $k == -$(k % 3 + 2)) next; print }' > "$work/text"
+    call solve text
+    [ "$status" = 20 ] || continue
+    count=$((count + 1))
+    each_needed "random $seed"
+done
+ok "random instances without a solution: $count" [ $count -gt 5 ]
+cp examples/pigeons10.wcnf "$work/text"
+call explain text result
+ok 'ten pigeons' [ "$status $(sed -n 1p <<< "$out")" = "0 $said" -a -z "$err" ]
+
 # Without a result: how much there is.
 counted() { # NAME VARIABLES HARD SOFT WEIGHTS: of text
     call explain text
@@ -116,7 +178,10 @@ mended() { # NAME TEXT FAULT LINE WORD SENTENCE [COLUMN]: with no word, none is 
     call explain text
     expect "$1" 2 '' "$wanted  $6"
     call solve text
-    expect "$1: solve tells the fault alone" 2 '' "error: $3"
+    case $6 in
+        'FILE is compressed:'*) expect "$1: solve" 2 '' "error: $3"$'\n'"$6" ;;
+        *) expect "$1: solve tells the fault alone" 2 '' "error: $3" ;;
+    esac
 }
 mended 'a byte order mark' '\357\273\277h 1 0\n' 'line 1: FirstToken' $'\357\273\277h 1 0' $'\357\273\277h' \
     'It begins with a byte order mark, which editors do not show: save FILE as UTF-8 without it.'
@@ -208,15 +273,21 @@ lines result 's UNKNOWN'
 call explain text result
 expect 'a faulty text' 2 '' $'error: line 1: NoZero\n  h 1 2\n  A clause ends with 0, on the line on which it begins.'
 call explain missing
-expect 'a missing text, no result' 3 '' 'error: Read'
+expect 'a missing text, no result' 3 '' 'error: Read missing'
 lines text 'h 1 2 0'
 lines result 's MAYBE'
 call explain text result
 expect 'a faulty result' 1 'NO ResultForm 1' ''
 call explain missing result
-expect 'a missing text' 3 '' 'error: Read'
+expect 'a missing text' 3 '' 'error: Read missing'
 call explain text missing
-expect 'a missing result' 3 '' 'error: Read'
+expect 'a missing result' 3 '' 'error: Read missing'
+call explain $'mis\033[31msing\302\233\u202e'
+expect 'a name that commands a terminal' 3 '' 'error: Read mis?[31msing??'
+call explain $'mis\nsing'
+expect 'a name with a line feed' 3 '' 'error: Read mis?sing'
+call $'expl\033[31main\u202e'
+ok 'a command that commands a terminal' test "$status" = 2 -a -z "$out" -a -z "$(LC_ALL=C grep -P '[\x00-\x08\x0b-\x1f\x7f-\xff]' <<< "$err")"
 call explain
 ok 'no text is named' test "$status" = 2 -a -z "$out" -a -n "$err"
 lines result 's UNKNOWN'

@@ -10,7 +10,8 @@ lines text 'h 1 2 0' '3 -1 0' '4 -2 0'
 lines result 'o 3' 's OPTIMUM FOUND' 'v 10'
 lines proof '6 0 5 4 2 3 1 0'
 lines cores 'core 3 1 3 4 0' '7 0 6 4 5 2 3 1 0'
-for words in 'solve text' 'check text result proof' 'lower text cores' 'encode text 3' '--help' 'solve --help' '--version'; do
+for words in 'solve text' 'check text result proof' 'lower text cores' 'encode text 3' 'encode --profile 5 --proof cores text 3' \
+    'explain text' 'explain text result' 'explain text result cores' '--help' 'solve --help' '--version'; do
     # shellcheck disable=SC2086
     if [ -c /dev/full ]; then
         err=$(cd "$work" && timeout 60 "$wmax" $words 2>&1 > /dev/full)
@@ -24,7 +25,7 @@ for words in 'solve text' 'check text result proof' 'lower text cores' 'encode t
     # shellcheck disable=SC2086
     err=$(cd "$work" && { { sleep 0.3; timeout 60 "$wmax" $words 2>&3; echo $? > .status; } | :; } 3>&1)
     status=$(cat "$work/.status")
-    fails "$words, a closed pipe" Output
+    ok "$words, a closed pipe: $status [$err]" test "$status" = 141 -a -z "$err"
 done
 if [ -c /dev/full ]; then
     call solve --proof /dev/full text
@@ -38,9 +39,9 @@ fails 'a certificate in a closed pipe' ProofOutput
 ok 'a certificate in a closed pipe, no s line' test -z "$(grep -v '^o ' <<< "$out")"
 wait
 call check text result "$work"
-fails 'a certificate that is a folder' Read
+fails 'a certificate that is a folder' "Read $work"
 call solve "$work"
-fails 'a text that is a folder' Read
+fails 'a text that is a folder' "Read $work"
 
 # A device that fails after each number of bytes, by an error or by taking nothing, until it meets no failure: what is left is a
 # beginning of the plain output, with the whole certificate before the first byte of the `s` line. The same is left by one that
@@ -65,7 +66,7 @@ left_well() { # DEVICE AT COMMAND: what stands after the failure, of which there
             [ "$err" = 'error: Output' ] && begins "$2" .out &&
                 { [ "$3" != solve ] || [ "$2" -le "$lines_end" ] || cmp -s "$work/proof" "$work/plain/proof"; } ;;
         proof) [ "$err" = 'error: ProofOutput' ] && begins "$2" proof && begins "$lines_end" .out ;;
-        text) [ "$err" = 'error: Read' ] && begins 0 .out && begins 0 proof ;;
+        text) [ "$err" = 'error: Read text' ] && begins 0 .out && begins 0 proof ;;
     esac && [ "$status" = 3 ] && [ "$(stat -c %s "$work/mark")" = 1 ]
 }
 

@@ -41,12 +41,13 @@ for command in solve check lower explain encode; do
         ok "the page has $command $option" grep -qF "${option//-/\\-}" "$page"
     done
 done
-for status in 30 20 10 0 1 2 3; do
-    ok "the page has status $status" grep -qx "\.B $status" "$page"
+tab=$'\t'
+for status in 30 20 10 0 1 2 3 141; do
+    ok "the page has status $status" grep -qx "$status${tab}T{" "$page"
 done
-known=$(grep '^| `' docs/FAULTS.md | cut -d '|' -f 2 | tr -d '` ')
+known=$(grep '^| `' docs/FAULTS.md | cut -d '|' -f 2 | tr -d '`' | awk '{ print $1 }')
 for fault in $known; do
-    ok "the page has $fault" grep -qE "^\.B $fault\$" <(sed -n '/^\.SH FAULTS$/,$p' "$page")
+    ok "the page has $fault" grep -qE "^$fault( NAME)?${tab}T\{\$" <(sed -n '/^\.SH FAULTS$/,$p' "$page")
 done
 printed=$({
     sed -n '/^pub enum FaultKind/,/^}/p' crates/wcnf/src/faults.rt | grep -oE '^    [A-Z][A-Za-z]+'
@@ -56,6 +57,8 @@ printed=$({
 for fault in $printed; do ok "docs/FAULTS.md has $fault" grep -qx "$fault" <<< "$known"; done
 ok 'faults are printed' [ "$(wc -w <<< "$printed")" -gt 25 ]
 ok 'the page sends nobody elsewhere for faults' [ -z "$(grep -E '(README|FAULTS\.md).* (has|have) (the others|all)\.' "$page")" ]
+ok 'each table is ended' [ "$(grep -cx '\.TS' "$page")" -gt 5 -a "$(grep -cx '\.TS' "$page")" = "$(grep -cx '\.TE' "$page")" ]
+ok 'what follows a table is a paragraph of its own' [ -z "$(grep -A 1 -x '\.TE' "$page" | grep -vxE '\.TE|\.PP|--')" ]
 if command -v man > /dev/null; then
     ok 'man has nothing to say against it' [ -z "$(man --warnings -l "$page" 2>&1 > /dev/null)" ]
     ok 'man shows it' [ "$(MANWIDTH=100 man -l "$page" 2> /dev/null | grep -cE '^ +wmax (solve|check|lower|explain|encode) ')" -ge 8 ]

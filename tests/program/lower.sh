@@ -119,13 +119,13 @@ told 'a faulty text' 'NO Text 2' text proof
 : > "$work/empty"
 told 'an empty text' 'NO NoConflict 1' empty proof
 call lower text missing
-expect 'a certificate that is not there' 3 '' 'error: Read'
+expect 'a certificate that is not there' 3 '' 'error: Read missing'
 call lower missing proof
-expect 'a text that is not there' 3 '' 'error: Read'
+expect 'a text that is not there' 3 '' 'error: Read missing'
 call lower text "$work"
 expect 'a certificate that is a folder, with a faulty text' 1 'NO Text 2' ''
 call lower "$data/tea.wcnf" "$work"
-expect 'a certificate that is a folder' 3 '' 'error: Read'
+expect 'a certificate that is a folder' 3 '' "error: Read $work"
 call lower text
 ok 'a word too few' [ "$status $out" = '2 ' ]
 call lower text proof proof

@@ -103,6 +103,9 @@ each 'no solution' solve --proof proof text
 lines result 's UNSATISFIABLE'
 lines given '5 3 1 0 0' '6 -3 2 0 -5 1 0' '7 2 0 1 2 0' '8 0 7 3 4 0'
 each 'check: a definition' check text result given
+lines text 'h 1 0' 'h 2 0' 'h -1 0'
+each 'explain: no solution' explain text result
+lines text 'h 1 2 0' 'h -1 2 0' 'h 1 -2 0' 'h -1 -2 0'
 lines given '5 2 0 1 2 0' '6 0 5 3 4 0'
 each 'check: RUP lines' check text result given
 each 'lower: no solution' lower text given

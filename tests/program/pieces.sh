@@ -14,7 +14,7 @@ status=$?
 err=$(cat "$work/.err")
 expect 'a pipe' 0 YES ''
 call check "$PWD/examples/mul8.wcnf" "$PWD/examples/mul8.result" .
-expect 'a folder is no certificate' 3 '' 'error: Read'
+expect 'a folder is no certificate' 3 '' 'error: Read .'
 
 # A certificate of a hundred megabytes, and what follows its first faulty line, which is not read.
 lines text 'h 1 2 0' 'h -1 2 0' 'h 1 -2 0' 'h -1 -2 0'

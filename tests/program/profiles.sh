@@ -144,11 +144,11 @@ expect 'a device' 2 '' "$refusal"
 call check --profile any text result .
 expect 'a folder' 2 '' "$refusal"
 call check --profile any text result missing
-expect 'a missing certificate' 3 '' 'error: Read'
+expect 'a missing certificate' 3 '' 'error: Read missing'
 call check --profile any missing result proof
-expect 'a missing text' 3 '' 'error: Read'
+expect 'a missing text' 3 '' 'error: Read missing'
 call check --profile any text missing proof
-expect 'a missing result' 3 '' 'error: Read'
+expect 'a missing result' 3 '' 'error: Read missing'
 out=$(cd "$work" && timeout 60 "$wmax" check --profile any <(cat text) <(cat result) proof 2>&1)
 ok 'FILE and RESULT from pipes' [ "$? $out" = '0 YES' ]
 out=$(cd "$work" && timeout 60 "$wmax" check --profile any text result /dev/stdin 2>&1 < proof)

@@ -2,7 +2,7 @@
 # `--progress`: lines on standard error, and nothing else is different.
 source "$(dirname "$0")/../lib"
 
-form='[0-9]+\.[0-9] s, ((no solution( yet)?|cost [0-9]+)(, at least [0-9]+(, gap [0-9]+\.[0-9]{2} %)?)?, [0-9]+ conflicts, [0-9]+/s, [0-9]+ propagations, [0-9]+ learned, [0-9]+ restarts,( [0-9]+ MB,)? [0-9]+\.[0-9]{2} % spent|writing the certificate)'
+form='[0-9]+\.[0-9] s, ((no solution( yet)?|cost [0-9]+ \((1 solution|[0-9]+ solutions)\))(, at least [0-9]+(, gap [0-9]+\.[0-9]{2} %)?)?, [0-9]+ conflicts \([0-9]+ a second\),( [0-9]+ MB of memory,)? [0-9]+\.[0-9]{2} % of the effort spent, [0-9]+ propagations, [0-9]+ learned clauses, [0-9]+ restarts|writing the certificate)'
 
 plain() { # WORD..: the run without the option: `out`, `status` and the certificate
     rm -f "$work/proof"
@@ -32,21 +32,22 @@ same 'a file'
 ok 'a file: each line has the form' [ -z "$(grep -vxE "$form" <<< "$err")" ]
 ok 'a file: nothing but whole lines' [ "$(tr -cd '\r\033' < "$work/.err" | wc -c)" = 0 -a -z "$(tail -c 1 "$work/.err")" ]
 ok 'a file: a line at each solution, and no other cost' \
-    [ "$(sed -nE 's/.*, cost ([0-9]+),.*/o \1/p' <<< "$err" | uniq)" = "$(grep '^o' <<< "$out")" ]
+    [ "$(sed -nE 's/.*, cost ([0-9]+) .*/o \1/p' <<< "$err" | uniq)" = "$(grep '^o' <<< "$out")" ]
+numbers 'the solutions' '.*\(([0-9]+) solutions?\).*'
 numbers 'the seconds' '^([0-9.]+) s.*'
 numbers 'the conflicts' '.*, ([0-9]+) conflicts.*'
 numbers 'the propagations' '.*, ([0-9]+) propagations.*'
-numbers 'the restarts' '.*, ([0-9]+) restarts.*'
-numbers 'the shares of the effort' '.*, ([0-9.]+) % spent'
+numbers 'the restarts' '.*, ([0-9]+) restarts$'
+numbers 'the shares of the effort' '.*, ([0-9.]+) % of the effort spent.*'
 
 # The share of the effort: each conflict and each solution is a unit.
 call solve --profile 4 --conflicts 100 --progress text
-ok 'the share of the effort' awk -F '[ ,]+' '
-    $4 != cost { cost = $4; solutions++ }
-    { share = $5 + solutions - $(NF - 2); if (share < -0.01 || share > 0.01) wrong = 1 }
-    END { exit wrong || !NR }' <<< "$(grep 'cost' <<< "$err")"
+ok 'the share of the effort' awk '
+    $2 != cost { cost = $2; solutions++ }
+    { share = $4 + $3 - $5; if ($3 != solutions || share < -0.01 || share > 0.01) wrong = 1 }
+    END { exit wrong || !NR }' <<< "$(sed -nE 's/^([0-9.]+) s, cost ([0-9]+) \(([0-9]+) .*, ([0-9]+) conflicts .*, ([0-9.]+) % of the effort .*/\1 \2 \3 \4 \5/p' <<< "$err")"
 
-ok 'the last line is of the end' grep -q ', 100.00 % spent$' <<< "$(sed -n '$p' <<< "$err")"
+ok 'the last line is of the end' grep -q ', 100.00 % of the effort spent, ' <<< "$(sed -n '$p' <<< "$err")"
 
 # What is needed at least: by cores, in profile 5 alone.
 ok 'profile 4 tells nothing of it' [ -z "$(grep 'at least' <<< "$err")" ]
@@ -75,7 +76,7 @@ several=0
 for profile in 1 2 3 4 5; do
     call solve --profile $profile --conflicts 3000 --progress text
     told=$(grep '^o' <<< "$out")
-    ok "profile $profile: a line at each solution" [ "$(sed -nE 's/.*, cost ([0-9]+),.*/o \1/p' <<< "$err" | uniq)" = "$told" ]
+    ok "profile $profile: a line at each solution" [ "$(sed -nE 's/.*, cost ([0-9]+) .*/o \1/p' <<< "$err" | uniq)" = "$told" ]
     [ "$(wc -l <<< "$told")" = 1 ] || several=$((several + 1))
 done
 ok 'there are later ones' [ "$several" -gt 0 ]
@@ -90,13 +91,13 @@ ended() { # NAME STATUS LINE WORD..: one line on standard error, which has the f
     for word; do ok "$name: $word" grep -qF -- "$word" <<< "$err"; done
 }
 lines text 'h 1 0' 'h -1 0'
-ended 'no solution' 20 's UNSATISFIABLE' ' s, no solution, 0 conflicts, '
+ended 'no solution' 20 's UNSATISFIABLE' ' s, no solution, 0 conflicts ('
 cp examples/roster.wcnf "$work/text"
 call solve --progress --conflicts 0 text
 ok 'no effort' [ "$status $out" = '0 s UNKNOWN' -a "$(wc -l <<< "$err")" = 1 ]
 ok 'no effort: the form' grep -qxE "$form" <<< "$err"
-ok 'no effort: all of it is spent' grep -qE ' s, no solution yet, 0 conflicts, .*, 100\.00 % spent$' <<< "$err"
-if [ -r /proc/self/status ]; then ok 'the memory' grep -qE ', [1-9][0-9]* MB, ' <<< "$err"; fi
+ok 'no effort: all of it is spent' grep -qE ' s, no solution yet, 0 conflicts .*, 100\.00 % of the effort spent, ' <<< "$err"
+if [ -r /proc/self/status ]; then ok 'the memory' grep -qE ', [1-9][0-9]* MB of memory, ' <<< "$err"; fi
 # A gap that is small, and none: of 2^40 all but one by a core of two soft clauses.
 lines text 'h -1 -2 0' '1099511627776 1 0' '1099511627776 2 0' '1 3 0' '1 -3 4 0' '1 -4 0'
 call solve --profile 5 --progress text
@@ -191,7 +192,7 @@ same 'a terminal'
 ok 'a terminal: one line, ended at the end' [ "$(wc -l < "$work/screen")" = 1 -a -z "$(tail -c 1 "$work/screen")" ]
 ok 'a terminal: written over at each solution' [ "$(tr -cd '\r' < "$work/screen" | wc -c)" -ge "$(grep -c '^o' <<< "$out")" ]
 ok 'a terminal: it begins with a cleared line' [ "$(head -c "${#clear}" "$work/screen")" = "$clear" ]
-ok 'a terminal: the last cost stands' grep -qxE "${form/(no solution( yet)?|cost \[0-9\]+)/$(grep '^o' <<< "$out" | tail -n 1 | sed 's/^o/cost/')}" <<< "$(shown)"
+ok 'a terminal: the last cost stands' grep -qxE "${form/no solution( yet)?|cost \[0-9\]+/$(grep '^o' <<< "$out" | tail -n 1 | sed 's/^o/cost/')}" <<< "$(shown)"
 lose
 terminal err solve --progress --best folder/best --proof proof pipe
 same 'a terminal, a warning'

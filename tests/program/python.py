@@ -504,6 +504,10 @@ def lies(program):
 
 
 def stops(program):
+    # A shell that runs this in the background, or nohup, may have had them ignored.
+    signal.signal(signal.SIGINT, signal.default_int_handler)
+    for number in (signal.SIGTERM, signal.SIGHUP):
+        signal.signal(number, signal.SIG_DFL)
     folder = stack_folder()
     (folder / "tmp").mkdir()
     os.environ["TMPDIR"] = str(folder / "tmp")
@@ -576,6 +580,13 @@ def stops(program):
     if wmax._has_setpriv():
         subprocess.run([sys.executable, script, pretender("kill -KILL $PPID; exec sleep 60")], env={**os.environ, "PYTHONDONTWRITEBYTECODE": "1"})
         expect("SIGKILL: nothing runs", is_over(), True)
+    script.write_text(script.read_text().replace("m.solve(program=sys.argv[1])", f"wmax._has_setpriv = lambda: False\n"
+                                                 f"m.solve(program=sys.argv[1], folder={str(folder / 'left')!r})"))
+    subprocess.run([sys.executable, script, pretender("kill -KILL $PPID; exec sleep 60")], env={**os.environ, "PYTHONDONTWRITEBYTECODE": "1"})
+    expect("a program that is left has its folder", raised(lambda: shop.solve(program=program, folder=folder / "left"))[0], "FolderInUse")
+    os.kill(int((folder / "child").read_text()), signal.SIGKILL)
+    expect("it has ended", is_over(), True)
+    expect("then it has it no more", shop.solve(program=program, folder=folder / "left").is_optimum, True)
     before = signal.getsignal(signal.SIGTERM), signal.getsignal(signal.SIGHUP), signal.getsignal(signal.SIGINT)
     shop.solve(program=program)
     expect("signals are as they were", (signal.getsignal(signal.SIGTERM), signal.getsignal(signal.SIGHUP), signal.getsignal(signal.SIGINT)), before)
@@ -809,9 +820,24 @@ def examples(program):
     wanted = min(upgrade_costs(upgrade), default=None)
     found = upgrade.make_instance()[0].solve(program=program)
     expect("the upgrade", (found.cost, found.is_optimum), (wanted, True))
+    upgrade.WANTED = ["queue", "cron", "wiki"]
+    expect("an upgrade that cannot be", stopped(upgrade.main), (
+        "upgrade.py: what is wanted cannot be installed:\n  queue and cron cannot stand together\n  queue is wanted\n  cron is wanted\n"))
     wanted = min(seating_costs(seating), default=None)
     found = seating.make_instance()[0].solve(program=program)
     expect("the seating", (found.cost, found.is_optimum), (wanted, True))
+    seating.RIVALS.append(("Ann", "Ben"))
+    expect("a seating that cannot be", "\n  Ben sits with Ann\n" in stopped(seating.main), True)
+
+
+def stopped(main):
+    """What an example says that stops."""
+    said, words = io.StringIO(), sys.argv
+    sys.argv = words[:1]
+    with contextlib.redirect_stderr(said), contextlib.suppress(SystemExit):
+        main()
+    sys.argv = words
+    return said.getvalue()
 
 
 def upgrade_costs(told):

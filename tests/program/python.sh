@@ -50,7 +50,7 @@ line 'an optimum' 30 $'It costs 3, and nothing costs less, which was checked.\nt
 line 'variables without names' 30 $'It costs 3, and nothing costs less, which was checked.\nv 10\n     3  not variable 1' b.wcnf.gz
 line 'all optima' 30 $'It costs 3, and nothing costs less, which was checked.\ntrue: tea\n     3  tea costs\nNo other solution costs as little.' --optima 5 --plot a.svg a.wcnf
 ok 'python3 -m wmax: the picture' grep -q '^</svg>$' "$work/a.svg"
-line 'no solution' 20 $'No assignment satisfies the hard clauses, which was checked. 2 of them do not go together:\n  it is late\n  tea is wanted' c.wcnf
+line 'no solution' 20 $'No assignment satisfies the hard clauses, which was checked. These contradict each other:\n  it is late\n  tea is wanted' c.wcnf
 line 'no effort' 0 'no solution was met by this effort' --conflicts 0 a.wcnf
 line 'files that stay' 30 $'It costs 3, and nothing costs less, which was checked.\ntrue: tea\n     3  tea costs' --folder=-here a.wcnf
 call check --profile any ./-here/instance.{wcnf,result,lrat}

@@ -122,7 +122,7 @@ done
 call solve --proof missing/proof text
 expect 'a certificate in no folder' 3 "" "error: ProofOutput"
 call solve missing
-expect 'no instance' 3 "" "error: Read"
+expect 'no instance' 3 "" "error: Read missing"
 lines proof 'of an earlier run, and longer than what comes' 'x' 'x' 'x' 'x' 'x' 'x' 'x' 'x' 'x' 'x' 'x' 'x' 'x' 'x'
 call solve --proof proof text
 printf '%s\n' "$out" > "$work/result"

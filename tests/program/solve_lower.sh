@@ -38,7 +38,7 @@ lines broken 'core 3 1 3 4 0' '7 0 6 4 5 2 3 0'
 call explain text said broken
 ok 'a broken certificate' [ "$status $(tail -n 1 <<< "$out")" = '1 NO NoConflict 2' ]
 call explain text said missing
-expect 'a missing certificate' 3 '' 'error: Read'
+expect 'a missing certificate' 3 '' 'error: Read missing'
 
 # Nothing to prove: no cost, no solution, no effort, a faulty text. PATH is not made.
 rm "$work/bound"

@@ -270,7 +270,7 @@ module _ (profile : Profile) (p : Problem) (k : ℕ) (small : total_weight p < 2
       )
 
 -- no assignment costs more than all weights
-cost_below : (p : Problem) (t : Assignment) → cost_under p t ≤ total_weight p
+pub cost_below : (p : Problem) (t : Assignment) → cost_under p t ≤ total_weight p
 cost_below p t =
     sum_by-le-sum_by (λ (s : SoftClause). if clause_value t s.clause then 0 else s.weight)
     (λ (s : SoftClause). s.weight) p.soft (λ s. part (clause_value t s.clause) s.weight)

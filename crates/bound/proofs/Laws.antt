@@ -14,4 +14,4 @@ pub use Rattle.bound.proofs.RelaxedHold.{relaxed_hold}
 pub use Rattle.bound.proofs.Subsets.{all_reverse}
 pub use Rattle.bound.proofs.WeightedCost.{AreTight, feasible_same, weighted_below, weighted_choice}
 pub use Rattle.bound.proofs.WeightedCost.{weighted_cost, weighted_hold, weighted_same}
-pub use Rattle.bound.proofs.WeightedCost.{solution_cost}
+pub use Rattle.bound.proofs.WeightedCost.{solution_cost, solution_small}

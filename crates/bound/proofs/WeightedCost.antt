@@ -1,26 +1,27 @@
 -- Where relaxation literals mean what they should, the weighted formula holds in each solution, and
 -- the weights of those that are true are what it costs.
-use Rattle.std.proofs.Common.{◌≡◌, ℕ, ◌+◌, ◌<◌, ◌≤◌, Bool, true, false, not, ◌&&◌, List, [], ◌∷◌}
-use Rattle.std.proofs.Common.{◌++◌}
-use Rattle.std.proofs.Common.{map, filter, sum_by, if◌then◌else◌, All, refl, sym, ◌∙◌, ap, subst}
+use Rattle.std.proofs.Common.{◌≡◌, ℕ, ◌+◌, ◌<◌, ◌≤◌, true, false, not, List, [], ◌∷◌}
+use Rattle.std.proofs.Common.{map, filter, sum_by, if◌then◌else◌, refl, ◌∙◌, ap}
 use Rattle.std.proofs.Common.{arith}
 use Rattle.std.specs.List.{AllByRecursion}
 use Rattle.std.proofs.lemmas.List.Sums.{sum_by-cons}
 use Rattle.std.proofs.lemmas.List.Elements.{recursion_from_All, All-weaker}
 use Rattle.cnf.specs.Literal.{Assignment, Literal, literal_value}
-use Rattle.cnf.specs.Clause.{Satisfies, clause_value, greatest_variable, is_tautology}
-use Rattle.cnf.specs.Problem.{Problem, SoftClause, IsFeasible, AreWithin, cost_under, cost_of}
+use Rattle.cnf.specs.Clause.{Satisfies, greatest_variable, is_tautology}
+use Rattle.cnf.specs.Problem.{Problem, SoftClause, IsFeasible, AreWithin, cost_under}
 use Rattle.cnf.specs.Instance.{IsInstance, IsClauseWithin}
 use Rattle.cnf.proofs.Laws.{all_append, tautologies_true}
 use Rattle.adder.specs.declared.profiles.Profile.TheVariants.{Two}
 use Rattle.adder.specs.declared.profiles.Relaxing.TheVariants.{UnitsByNegation}
-use Rattle.adder.specs.Network.{Relaxed, relaxed_from, relaxed_as, relaxed_variables, SameUpTo}
+use Rattle.adder.specs.Network.{Relaxed, relaxed_as, relaxed_variables, SameUpTo}
 use Rattle.adder.proofs.Laws.{AreRelaxedBelow, IsRelaxedTightly, relaxed_below, relaxed_choice}
 use Rattle.bound.specs.Bound.{kept, relaxed_clauses}
 use Rattle.bound.specs.Weighted.{weighted_cnf, weights_in, weights_of}
-use Rattle.bound.proofs.Cheaper.{clauses_same, cost_same, given_up, soft_within, tight_clauses}
+use Rattle.cnf.specs.declared.limits.TheConstants.{NUMBER_LIMIT}
+use Rattle.bound.proofs.Cheaper.{cost_below, clauses_same, cost_same, given_up, soft_within}
+use Rattle.bound.proofs.Cheaper.{tight_clauses}
 use Rattle.bound.proofs.Cheaper.{tight_cost, tight_same}
-use Rattle.bound.proofs.Clauses.{all_true, all_true-from, all_true-kept, from_all_true}
+use Rattle.bound.proofs.Clauses.{all_true-from, all_true-kept, from_all_true}
 
 -- each relaxation literal is true just where its clause is false
 abbrev pub AreTight : Assignment → Problem → Type 0
@@ -135,3 +136,8 @@ feasible_same p h t u same feasible =
 pub solution_cost : (p : Problem) → IsInstance p → (t u : Assignment) → SameUpTo p.variables t u
     → cost_under p u ≡ cost_under p t
 solution_cost p h t u same = cost_same p.variables t u p.soft same (soft_of p h)
+
+-- each cost is below the limit of numbers
+pub solution_small : (p : Problem) → IsInstance p → (t : Assignment)
+    → cost_under p t < NUMBER_LIMIT
+solution_small p h t = omega (arith, cost_below p t, h.weight_sum)

@@ -1,7 +1,7 @@
 // The state of forms and cuts: a method for each line.
 ghost use Rattle.std.specs.Prelude.{◌≡◌, ℕ, ◌+◌, ◌*◌, ◌<◌, ◌≤◌, ◌^◌, ◌∷◌, [], map, length, sum_by};
 ghost use Rattle.std.specs.Prelude.{All, IfOk, IfSome, OnErr, OnOk, Some, true};
-ghost use Rattle.cnf.specs.declared.limits.TheConstants.{NUMBER_LIMIT};
+ghost use Rattle.cnf.specs.declared.limits.TheConstants.{NUMBER_LIMIT, VARIABLE_LIMIT};
 ghost use Rattle.adder.specs.Parts.{weight_in};
 ghost use Rattle.forms.specs.Forms.{forms_of, heard, count_line, more_line, group_line, form_line};
 ghost use Rattle.forms.specs.Forms.{are_known, at_number, begun, bound_line, clause_size, cut_line};
@@ -112,6 +112,13 @@ impl Forms {
         self.bound.widen(unit.variable() as usize + 1)?;
         self.bound.fix(unit);
         Ok(())
+    }
+
+    /// Says the limits of the state; it does nothing. `Instance::limits` has the reason.
+    pub fn limits(&self)
+        ensures { self.now.variables < VARIABLE_LIMIT }
+    {
+        let _ = &self.variables;
     }
 
     /// How many times the present form has the cost: below 2^62.

@@ -1,14 +1,16 @@
 -- What a line feed ends of a text.
-use Rattle.std.proofs.Common.{◌≡◌, ℕ, Bool, true, false, List, [], ◌∷◌, ◌++◌, refl, sym, ◌∙◌, ap}
-use Rattle.std.proofs.Common.{subst, inl, inr, append_assoc, append-nil, if◌then◌else◌}
-use Rattle.std.specs.Prelude.{◌==◌, Option, None, Some, Ok, Err, Result}
+use Rattle.std.proofs.Common.{◌≡◌, ℕ, Bool, false, List, [], ◌∷◌, ◌++◌, refl, sym, ◌∙◌, ap}
+use Rattle.std.proofs.Common.{subst, take, inl, inr, append_assoc, append-nil, if◌then◌else◌}
+use Rattle.std.specs.Prelude.{◌==◌, ◌≤◌, length, Option, None, Some, Ok, Err, IsOk}
 use Rattle.std.proofs.lemmas.List.Elements.{All-head, All-tail}
+use Rattle.std.specs.Io.KnownBytes.{Consumes}
+use Rattle.std.proofs.KnownBytes.{Consumes-trans}
 use Rattle.cnf.specs.Problem.{Problem}
-use Rattle.text.specs.Text.{IsNoFeed, token_lines}
+use Rattle.text.specs.declared.watched.TheConstants.{READ_SIZE}
+use Rattle.text.specs.Text.{IsNoFeed}
 use Rattle.text.specs.Pieces.{IsCut, IsEnded}
 use Rattle.lrat_machine.specs.declared.verdicts.Cause.{Cause}
-use Rattle.lrat_cuts.specs.Machine.{judged_after}
-use Rattle.lrat_cuts.specs.Pieces.{Holds, IsOpen, ReadingState}
+use Rattle.lrat_cuts.specs.Pieces.{Holds, IsOpen, ReadingState, ReadsOn}
 use Rattle.lrat_cuts.specs.Verdict.{ended_part, ended_with, judged_text}
 
 ended_feed : (bs : List ℕ) → ended_part (10 ∷ bs) ≡ 10 ∷ ended_part bs
@@ -49,15 +51,37 @@ ended_part-cut bytes done rest c =
     ap ended_part c.split ∙ ended_part-more done rest c.ended
     ∙ ap (λ x. done ++ x) (ended_none rest c.unfinished) ∙ append-nil done
 
--- what the checker has proved
+-- what the checker has judged
+pub open_ended : (r : ReadingState) (cost : Option ℕ) (p : Problem) (bytes : List ℕ)
+    → IsOpen r cost p bytes → judged_text cost p (ended_part bytes) ≡ Ok (r.machine).state
+open_ended r cost p bytes o =
+    ap (judged_text cost p) (ended_part-cut bytes o.done r.rest o.cut ∙ sym (append-nil o.done))
+    ∙ sym (o.resumes [])
+
+-- nothing more is read
+pub read_nothing : (a b c : Option (List ℕ)) (bytes buffer : List ℕ) (k : ℕ)
+    → Consumes a b bytes → Consumes b c (take k buffer) → k ≡ 0 → Consumes a c bytes
+read_nothing a b c bytes buffer k p q e =
+    subst (Consumes a c) (append-nil bytes)
+    (Consumes-trans a b c bytes [] p (subst (Consumes b c) (ap (λ j. take j buffer) e) q))
+
+-- a piece more is read
+pub piece_on : (r : ReadingState) (cost : Option ℕ) (p : Problem) (before front piece : List ℕ)
+    → IsOpen r cost p (before ++ front) → length piece ≤ READ_SIZE
+    → ReadsOn cost p before (front ++ piece)
+piece_on r cost p before front piece o few = record {
+  front = front;
+  piece = piece;
+  split = refl;
+  small = few;
+  is_open = subst IsOk (sym (open_ended r cost p (before ++ front) o)) refl;
+}
+
 module _ (r : ReadingState) (p : Problem) (bytes : List ℕ) (cost : Option ℕ)
     (h : Holds r cost p bytes) where
   pub ended_open : r.refused ≡ None
       → judged_text cost p (ended_part bytes) ≡ Ok (r.machine).state
-  ended_open none =
-      let o = h.open_end none in
-      ap (judged_text cost p) (ended_part-cut bytes o.done r.rest o.cut
-      ∙ sym (append-nil o.done)) ∙ sym (o.resumes [])
+  ended_open none = open_ended r cost p bytes (h.open_end none)
 
   pub ended_refused : (e : Cause × ℕ) → r.refused ≡ Some e
       → judged_text cost p (ended_part bytes) ≡ Err e

@@ -1,7 +1,7 @@
 -- What a line comes to, by what was read of it.
 use Rattle.std.proofs.Common.{◌≡◌, ℕ, ◌+◌, ◌<◌, ◌≤◌, Bool, true, false, List, [], ◌∷◌, Option, Some}
-use Rattle.std.proofs.Common.{None, inl, inr, refl, sym, ◌∙◌, ap, subst, arith, ◌||◌, ◌&&◌, Result, Ok, Err}
-use Rattle.std.specs.Prelude.{◌⊎◌, nat_le, not, if◌then◌else◌, length, max}
+use Rattle.std.proofs.Common.{None, inl, inr, refl, sym, ◌∙◌, ap, subst, arith, ◌||◌, ◌&&◌, Result, Err}
+use Rattle.std.specs.Prelude.{◌⊎◌, nat_le, not, if◌then◌else◌, max}
 use Rattle.std.proofs.lemmas.Bool.Decides.{nat_tests}
 use Rattle.cnf.specs.Literal.{Literal}
 use Rattle.cnf.specs.Clause.{greatest_variable, has_repeat, is_tautology}
@@ -171,9 +171,9 @@ module _ (cost : Option ℕ) (s : CutsState) (w : WordState) (large : w.is_large
       absurd (elim is [
         | inl e ↦ cc
         | inr r ↦ elim r [
-            | inl e ↦ cc
-            | inr e ↦ cc
-          ]
+          | inl e ↦ cc
+          | inr e ↦ cc
+        ]
       ])
 
 -- what the line made

@@ -1,12 +1,12 @@
 -- Additions and deletions.
-use Rattle.std.proofs.Common.{◌≡◌, ℕ, ◌<◌, ◌≤◌, Bool, true, false, not, ◌||◌, if◌then◌else◌, nat_le, List, [], ◌∷◌, ◌++◌, map, filter, Option, Some, None, is_some, refl, sym, ◌∙◌, ap, subst, arith}
+use Rattle.std.proofs.Common.{◌≡◌, ℕ, Bool, true, false, not, ◌||◌, if◌then◌else◌, nat_le, List, []}
+use Rattle.std.proofs.Common.{◌∷◌, map, Some, None, is_some, refl, sym, subst}
 use Rattle.std.specs.Prelude.{◌==◌}
 use Rattle.std.proofs.lemmas.Option.{none-some, same_Some}
-use Rattle.std.specs.List.{AllByRecursion, list_any}
+use Rattle.std.specs.List.{list_any}
 use Rattle.cnf.specs.Literal.{Assignment, Literal, negation}
 use Rattle.cnf.specs.Clause.{Satisfies, has_repeat, is_tautology}
 use Rattle.cnf.specs.Lrat.{CandidateHints, Live}
-use Rattle.cnf.specs.Refute.{Clauses, Refutes}
 use Rattle.cnf.specs.declared.limits.TheConstants.{VARIABLE_LIMIT}
 use Rattle.cnf.proofs.Laws.{AllHold, rup_holds}
 use Rattle.lrat_live.specs.Listed.{Listed, listed_at, without_id}

@@ -1,25 +1,28 @@
 -- New counts, and further outputs of counts, in what holds of the forms.
-use Rattle.std.proofs.Common.{◌≡◌, ℕ, zero, suc, ℤ, pos, ◌+ℤ◌, ◌-ℤ◌, ◌*ℤ◌, ◌≤ℤ◌, ◌+◌, ◌-◌, ◌*◌, ◌<◌, ◌≤◌, Bool, false, List, [], ◌∷◌, ◌++◌, Option, Some, None, length, sum_by, set, get_or, slice_get, refl, sym, ◌∙◌, ap, subst, arith}
+use Rattle.std.proofs.Common.{◌≡◌, ℕ, ◌+◌, ◌-◌, ◌<◌, ◌≤◌, false, List, [], ◌∷◌, ◌++◌, length, refl}
+use Rattle.std.proofs.Common.{sym, ◌∙◌, subst, arith}
 use Rattle.std.proofs.lemmas.Int.{ints}
-use Rattle.std.proofs.lemmas.List.Sums.{sum_by_push, sum_by-set}
-use Rattle.std.proofs.lemmas.Option.{none-some, same_Some, get_or_from_slice_get, slice_get_within}
+use Rattle.std.proofs.lemmas.List.Sums.{sum_by_push}
 use Rattle.std.proofs.Math.Nat.{zero-mul}
 use Rattle.std.specs.List.{AllByRecursion}
-use Rattle.cnf.specs.Literal.{Assignment, Literal, SameBelow, positive, literal_value}
+use Rattle.cnf.specs.Literal.{Assignment, Literal, SameBelow, literal_value}
 use Rattle.cnf.specs.Clause.{Satisfies, greatest_variable, has_repeat, is_tautology}
 use Rattle.cnf.specs.Problem.{Problem}
 use Rattle.cnf.specs.Instance.{IsInstance}
 use Rattle.cnf.proofs.Laws.{all_left, all_push, all_right, all_weaker}
 use Rattle.adder.specs.Network.{SameUpTo}
-use Rattle.totalizer.specs.Stages.{Tree, Staged, outputs_of, size_of, stage, totalizer_of, tree_of, true_leaves}
-use Rattle.totalizer.specs.Grown.{AreBelow, HasStages, IsTreeBelow, MeansRight}
-use Rattle.totalizer.proofs.Laws.{Extends, count_steps, means_same, outputs_at_most, outputs_count, stages_below, stages_from, stages_size, totalizer_extends, totalizer_has, totalizer_leaves, totalizer_true, tree_below_more, tree_of_below, tree_of_size}
-use Rattle.linear.specs.Linear.{true_count, value}
-use Rattle.linear.specs.Costs.{CostForm, HasOneWidth, widened, width_of}
+use Rattle.totalizer.specs.Stages.{Staged, outputs_of, totalizer_of, tree_of}
+use Rattle.totalizer.specs.Grown.{AreBelow, HasStages, IsTreeBelow}
+use Rattle.totalizer.proofs.Laws.{count_steps, means_same, outputs_count, stages_below, stages_from}
+use Rattle.totalizer.proofs.Laws.{stages_size, totalizer_extends, totalizer_has, totalizer_leaves}
+use Rattle.totalizer.proofs.Laws.{totalizer_true, tree_below_more, tree_of_below, tree_of_size}
+use Rattle.linear.specs.Linear.{true_count}
+use Rattle.linear.specs.Costs.{CostForm, widened, width_of}
 use Rattle.linear.proofs.Laws.{agrees_widened, value_widened, widened_wide, widened_width}
-use Rattle.bound.proofs.Laws.{AreTight, weighted_same}
-use Rattle.forms.specs.Forms.{Numbered, Count, Group}
-use Rattle.lrat_cuts.proofs.LawMeaning.{FormHolds, IsCheap, IsCountBelow, IsItemBelow, IsLow, IsMeant, Means, slack}
+use Rattle.bound.proofs.Laws.{weighted_same}
+use Rattle.forms.specs.Forms.{Numbered, Count, Group, last_of}
+use Rattle.lrat_cuts.proofs.LawMeaning.{FormHolds, IsCheap, IsCountBelow, IsItemBelow, IsLow}
+use Rattle.lrat_cuts.proofs.LawMeaning.{IsMeant, Means, slack}
 
 pub same_count : (t : Assignment) (xs : List Literal)
     → true_count t xs ≡ Rattle.std.specs.List.count_by (literal_value t) xs
@@ -162,13 +165,7 @@ module _ (p : Problem) (i : IsInstance p) (k v : ℕ) (f : CostForm) (ns : List 
       totalizer_true t outputs (v + 1) inputs
       (all_right (Means t) ns (Count inputs made.tree 0 ∷ []) (c.meant).counts).0
 
--- the last of some literals
-abbrev pub last_one : List Literal → List Literal
-last_one [] = []
-last_one (l ∷ []) = l ∷ []
-last_one (l ∷ m ∷ more) = last_one (m ∷ more)
-
-pub last_push : (c : List Literal) (l : Literal) → last_one (c ++ l ∷ []) ≡ l ∷ []
+pub last_push : (c : List Literal) (l : Literal) → last_of (c ++ l ∷ []) ≡ l ∷ []
 last_push [] l = refl
 last_push (m ∷ []) l = refl
 last_push (m ∷ n ∷ c) l = last_push (n ∷ c) l

@@ -1,21 +1,21 @@
 -- Cuts and bounds.
-use Rattle.std.proofs.Common.{◌≡◌, ℕ, zero, suc, ℤ, pos, ◌+ℤ◌, ◌*ℤ◌, ◌≤ℤ◌, ◌+◌, ◌*◌, ◌<◌, ◌≤◌, min, max, Bool, true, false, not, ◌&&◌, ◌||◌, if◌then◌else◌, nat_le, ◌⊎◌, List, [], ◌∷◌, Option, Some, None, Result, Ok, Err, length, inl, inr, refl, sym, ◌∙◌, ap, subst, arith}
+use Rattle.std.proofs.Common.{◌≡◌, ℕ, zero, suc, ◌+◌, ◌≤◌, min, max, true, false, ◌&&◌, nat_le, ◌⊎◌}
+use Rattle.std.proofs.Common.{List, [], ◌∷◌, Option, Some, None, Ok, Err, inl, inr, refl, sym, ◌∙◌}
+use Rattle.std.proofs.Common.{ap, subst, arith}
 use Rattle.std.proofs.lemmas.Int.{ints}
-use Rattle.std.proofs.lemmas.Bool.{and_parts, false≢true, leb-true, or_parts}
+use Rattle.std.proofs.lemmas.Bool.{leb-true, or_parts}
 use Rattle.std.proofs.lemmas.Option.{none-some, same_Some}
 use Rattle.std.specs.List.{AllByRecursion}
 use Rattle.cnf.specs.Literal.{Assignment, Literal, literal_value}
 use Rattle.cnf.specs.Clause.{Satisfies, clause_value}
-use Rattle.cnf.specs.Problem.{Problem, IsFeasible, cost_under}
+use Rattle.cnf.specs.Problem.{Problem, cost_under}
 use Rattle.cnf.specs.Instance.{IsInstance}
-use Rattle.linear.specs.Costs.{AgreesWith, CostForm, falsified, form_value, least, least_where}
+use Rattle.linear.specs.Costs.{CostForm, falsified, least, least_where}
 use Rattle.linear.proofs.Laws.{agrees_falsified, falsified_length, least_below}
 use Rattle.forms.specs.Forms.{Forms, Numbered, are_known, bound_line, cut_line, worth_of}
-use Rattle.forms.specs.declared.faults.LineFault.{LineFault}
-use Rattle.lrat_machine.specs.declared.verdicts.Cause.{Cause}
 use Rattle.lrat_cuts.specs.Cuts.{CutsState, judged_bound, judged_cut, put, taken_worth}
-use Rattle.lrat_cuts.proofs.LawMeaning.{FormHolds, IsCheap, cheap_more, form_at_most, holds_less, none_cheap, worth_at_most}
-use Rattle.lrat_cuts.proofs.LawForms.{Holds}
+use Rattle.lrat_cuts.proofs.LawMeaning.{FormHolds, IsCheap, cheap_more, form_at_most, holds_less}
+use Rattle.lrat_cuts.proofs.LawMeaning.{none_cheap, worth_at_most}
 use Rattle.lrat_cuts.proofs.LawResults.{err_ok, ok_same}
 use Rattle.lrat_cuts.proofs.LawState.{IsSound, put_sound}
 

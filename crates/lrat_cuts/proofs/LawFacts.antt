@@ -1,28 +1,34 @@
 -- Form lines, in what holds of the forms.
-use Rattle.std.proofs.Common.{◌≡◌, ℕ, zero, suc, ℤ, pos, negsuc, ◌+ℤ◌, ◌-ℤ◌, ◌*ℤ◌, ◌≤ℤ◌, ◌+◌, ◌-◌, ◌*◌, ◌<◌, ◌≤◌, Bool, true, false, not, ◌&&◌, if◌then◌else◌, nat_le, List, [], ◌∷◌, ◌++◌, map, Option, Some, None, Result, Ok, Err, length, sum_by, set, get_or, slice_get, inl, inr, refl, sym, ◌∙◌, ap, subst, arith}
+use Rattle.std.proofs.Common.{◌≡◌, ℕ, zero, suc, pos, negsuc, ◌+ℤ◌, ◌-ℤ◌, ◌*ℤ◌, ◌≤ℤ◌, ◌+◌, ◌-◌, ◌*◌}
+use Rattle.std.proofs.Common.{◌<◌, ◌≤◌, Bool, true, false, if◌then◌else◌, nat_le, List, [], ◌∷◌}
+use Rattle.std.proofs.Common.{Option, Some, None, Ok, length, sum_by, set, get_or, slice_get, inl}
+use Rattle.std.proofs.Common.{inr, refl, sym, ◌∙◌, ap, subst, arith}
 use Rattle.std.proofs.lemmas.Int.{ints}
 use Rattle.std.proofs.lemmas.Bool.{or_cases, false≢true}
 use Rattle.std.proofs.lemmas.List.Sums.{sum_by-cons, sum_by-set}
 use Rattle.std.proofs.lemmas.Option.{get_or_from_slice_get, slice_get_within}
-use Rattle.std.proofs.Math.Nat.{add-mul, mul-add, mul-le-mul, mul-one, mul-suc, mul-zero, zero-mul}
+use Rattle.std.proofs.Math.Nat.{add-mul, mul-add, mul-le-mul, mul-one, zero-mul}
 use Rattle.std.proofs.Math.IntN.{negsuc-*ℤ-pos}
 use Rattle.std.specs.List.{AllByRecursion}
 use Rattle.cnf.specs.Literal.{Assignment, Literal, literal_value}
 use Rattle.cnf.specs.Clause.{Satisfies, clause_value, greatest_variable}
 use Rattle.cnf.specs.Problem.{Problem}
 use Rattle.cnf.specs.Refute.{Clauses}
-use Rattle.cnf.proofs.Laws.{AllHold, all_mapped, all_weaker}
-use Rattle.totalizer.specs.Stages.{Tree, outputs_of}
+use Rattle.cnf.proofs.Laws.{AllHold}
+use Rattle.totalizer.specs.Stages.{outputs_of}
 use Rattle.totalizer.specs.Grown.{AreBelow}
 use Rattle.totalizer.proofs.Laws.{outputs_at_most, outputs_below}
-use Rattle.linear.specs.Linear.{plus_literals, true_count, value}
-use Rattle.linear.specs.Costs.{AgreesWith, CostForm, HasOneWidth, restarted, widened, width_of}
-use Rattle.linear.proofs.Laws.{agrees_widened, literals_width, restarted_wide, value_literals, value_widened, value_zero, widened_more, widened_wide, widened_width}
-use Rattle.forms.specs.Forms.{Forms, Numbered, Count, Group, at_number, begun, cited, cleared, form_line, facts_size, less, less_clause, less_fact, less_facts, less_item, less_numbered, plus, plus_number, without_multiplier}
+use Rattle.linear.specs.Linear.{true_count, value}
+use Rattle.linear.specs.Costs.{AgreesWith, CostForm, HasOneWidth, widened, width_of}
+use Rattle.linear.proofs.Laws.{agrees_widened, literals_width, restarted_wide, value_literals}
+use Rattle.linear.proofs.Laws.{value_widened, value_zero, widened_more, widened_wide, widened_width}
+use Rattle.forms.specs.Forms.{Forms, Numbered, Count, Group, begun, cited, cleared, form_line}
+use Rattle.forms.specs.Forms.{facts_size, less, less_clause, less_fact, less_facts, less_item}
+use Rattle.forms.specs.Forms.{less_numbered, plus_number, without_multiplier}
 use Rattle.forms.specs.declared.faults.TheConstants.{MOST_TERMS}
 use Rattle.forms.specs.declared.types.NamedFact.{NamedFact}
-use Rattle.forms.specs.declared.faults.LineFault.{LineFault}
-use Rattle.lrat_cuts.proofs.LawMeaning.{FormHolds, IsCheap, IsItemBelow, IsLow, IsMeant, Means, holds_form, slack}
+use Rattle.lrat_cuts.proofs.LawMeaning.{FormHolds, IsCheap, IsItemBelow, IsLow, Means, holds_form}
+use Rattle.lrat_cuts.proofs.LawMeaning.{slack}
 use Rattle.lrat_cuts.proofs.LawForms.{Holds}
 use Rattle.lrat_cuts.proofs.LawResults.{err_ok, ok_same}
 use Rattle.lrat_cuts.proofs.LawCounts.{below_more, greatest_below, item_more, same_count}
@@ -230,17 +236,23 @@ less_numbered_keeps p k w (suc i) s h =
           })
     ] refl
 
+clause_fact_keeps : (p : Problem) (k : ℕ) (at : Clauses) (s : Forms) (w n : ℕ) → Holds p k s
+    → ((t : Assignment) → IsCheap p k s.numbered t → AllHold t at)
+    → Keeps p k s (less_fact at s (record { weight = w; is_numbered = false; number = n }))
+clause_fact_keeps p k at s w n h all =
+    elim (at n) as (λ o. at n ≡ o
+    → Keeps p k s (less_fact at s (record { weight = w; is_numbered = false; number = n }))) [
+      | None ↦ λ e. rw e (record { holds = h; back = λ t c. c })
+      | Some c ↦ λ e. rw e (less_clause_keeps p k s w c h (λ t x. all t x n c e))
+    ] refl
+
 less_fact_keeps : (p : Problem) (k : ℕ) (at : Clauses) (s : Forms) (f : NamedFact) → Holds p k s
     → ((t : Assignment) → IsCheap p k s.numbered t → AllHold t at)
     → Keeps p k s (less_fact at s f)
 less_fact_keeps p k at s f h all =
     elim f.is_numbered as (λ b. f.is_numbered ≡ b → Keeps p k s (less_fact at s f)) [
       | true ↦ λ e. rw e (less_numbered_keeps p k f.weight f.number s h)
-      | false ↦ λ e. rw e (elim (at f.number) as (λ o. at f.number ≡ o → Keeps p k s (less_fact at s (record f { is_numbered = false }))) [
-        | None ↦ λ d. rw d (record { holds = h; back = λ t c. c })
-        | Some c ↦ λ d.
-            rw d (less_clause_keeps p k s f.weight c h (λ t x. all t x f.number c d))
-      ] refl)
+      | false ↦ λ e. rw e (clause_fact_keeps p k at s f.weight f.number h all)
     ] refl
 
 pub less_facts_keep : (p : Problem) (k : ℕ) (at : Clauses) (s : Forms) (fs : List NamedFact)
@@ -309,10 +321,14 @@ begun_keeps p k (Some d) s h =
     } in
     record {
       holds = record {
-        choice = λ u. let c = h.choice u in (c.0, c.1, record {
-          relaxed = (c.2).relaxed;
-          counts = cleared_all (Means c.0) ns (without_means c.0) (c.2).counts;
-        });
+        choice = λ u. let c = h.choice u in (
+          c.0,
+          c.1,
+          record {
+            relaxed = (c.2).relaxed;
+            counts = cleared_all (Means c.0) ns (without_means c.0) (c.2).counts;
+          },
+        );
         relaxed = h.relaxed;
         wide = restarted_wide d f h.wide;
         width = h.width;

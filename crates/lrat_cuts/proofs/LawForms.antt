@@ -1,14 +1,14 @@
 -- Clauses that are heard, and new variables, in what holds of the forms.
-use Rattle.std.proofs.Common.{◌≡◌, ℕ, zero, suc, ℤ, pos, ◌+ℤ◌, ◌-ℤ◌, ◌*ℤ◌, ◌≤ℤ◌, ◌+◌, ◌-◌, ◌<◌, ◌≤◌, Bool, true, false, ◌||◌, List, [], ◌∷◌, length, inl, inr, refl, sym, ◌∙◌, ap, subst, arith}
+use Rattle.std.proofs.Common.{◌≡◌, ℕ, ◌+◌, ◌-◌, true, false, List, [], ◌∷◌, inl, inr, refl, sym}
+use Rattle.std.proofs.Common.{◌∙◌, arith}
 use Rattle.std.proofs.lemmas.Int.{ints}
 use Rattle.std.proofs.lemmas.Bool.{or_cases, false≢true}
-use Rattle.std.specs.List.{AllByRecursion}
 use Rattle.cnf.specs.Literal.{Assignment, Literal, literal_value}
 use Rattle.cnf.specs.Clause.{Satisfies}
 use Rattle.cnf.specs.Problem.{Problem}
-use Rattle.linear.specs.Linear.{value}
-use Rattle.linear.specs.Costs.{AgreesWith, CostForm, HasOneWidth, fixed_by, widened, width_of}
-use Rattle.linear.proofs.Laws.{agrees_fixed, agrees_widened, fixed_length, value_widened, widened_more, widened_wide, widened_width}
+use Rattle.linear.specs.Costs.{CostForm, fixed_by, widened, width_of}
+use Rattle.linear.proofs.Laws.{agrees_fixed, agrees_widened, fixed_length, value_widened}
+use Rattle.linear.proofs.Laws.{widened_more, widened_wide}
 use Rattle.forms.specs.Forms.{Forms, Numbered, heard}
 use Rattle.lrat_cuts.proofs.LawMeaning.{FormHolds, IsCheap, holds_form}
 

@@ -1,19 +1,20 @@
 -- Groups, in what holds of the forms.
-use Rattle.std.proofs.Common.{◌≡◌, ℕ, zero, suc, ℤ, pos, ◌+ℤ◌, ◌≤ℤ◌, ◌+◌, ◌<◌, ◌≤◌, Bool, true, false, ◌&&◌, ◌||◌, if◌then◌else◌, ◌⊎◌, inl, inr, List, [], ◌∷◌, ◌++◌, map, Option, Some, None, sum_by, refl, sym, ◌∙◌, ap, subst, arith}
+use Rattle.std.proofs.Common.{◌≡◌, ℕ, ◌+◌, ◌≤◌, Bool, true, false, ◌&&◌, if◌then◌else◌, ◌⊎◌, inl}
+use Rattle.std.proofs.Common.{inr, List, [], ◌∷◌, ◌++◌, Some, None, refl, ap, subst, arith}
 use Rattle.std.proofs.lemmas.Int.{ints}
-use Rattle.std.proofs.lemmas.Bool.{and_parts, or_cases, false≢true, true≢false, both_ways, cases_Bool}
+use Rattle.std.proofs.lemmas.Bool.{and_parts, or_cases, false≢true, both_ways, cases_Bool}
 use Rattle.std.proofs.lemmas.List.Sums.{sum_by_push}
-use Rattle.std.specs.List.{AllByRecursion, list_all}
+use Rattle.std.specs.List.{AllByRecursion}
 use Rattle.cnf.specs.Literal.{Assignment, Literal, literal_eq, literal_value, negation}
 use Rattle.cnf.specs.Clause.{Satisfies, clause_value, contains_literal}
 use Rattle.cnf.specs.Problem.{Problem}
 use Rattle.cnf.specs.Refute.{Clauses}
 use Rattle.cnf.proofs.Laws.{AllHold, all_left, all_parts, all_push, literal_eq-true, value-negation}
-use Rattle.adder.specs.Network.{SameUpTo}
 use Rattle.linear.specs.Linear.{true_count}
 use Rattle.linear.specs.Costs.{CostForm}
-use Rattle.forms.specs.Forms.{Numbered, Group, are_excluded, excludes, pairs_after, pairs_of, pairs_with}
-use Rattle.lrat_cuts.proofs.LawMeaning.{FormHolds, IsCheap, IsItemBelow, IsLow, IsMeant, Means, slack}
+use Rattle.forms.specs.Forms.{Numbered, Group, are_excluded, excludes, pairs_after, pairs_of}
+use Rattle.forms.specs.Forms.{pairs_with}
+use Rattle.lrat_cuts.proofs.LawMeaning.{FormHolds, IsCheap, IsItemBelow, IsLow, Means, slack}
 use Rattle.lrat_cuts.proofs.LawCounts.{HasVariables, known_below}
 use Rattle.lrat_cuts.proofs.LawMore.{count_push}
 
@@ -78,8 +79,8 @@ count_after : (t : Assignment) (before ls : List Literal) → true_count t befor
     → true_count t before + true_count t ls ≤ 1
 count_after t before [] low h = omega (arith, low)
 count_after t before (l ∷ ls) low h =
-    let parts = all_parts (IsEitherFalse t) (pairs_with l before) (pairs_after (before ++ l ∷ []) ls)
-    h in
+    let parts = all_parts (IsEitherFalse t) (pairs_with l before)
+    (pairs_after (before ++ l ∷ []) ls) h in
     let pushed = count_push t before l in
     elim (cases_Bool (literal_value t l)) [
       | inl on ↦
@@ -131,10 +132,14 @@ group_holds p k v f ns inputs h known low =
     let now = ns ++ new ∷ [] in
     let before = group_back p k ns inputs in
     record {
-      choice = λ u. let c = h.choice u in (c.0, c.1, record {
-        relaxed = (c.2).relaxed;
-        counts = all_push (Means c.0) ns new (c.2).counts tt;
-      });
+      choice = λ u. let c = h.choice u in (
+        c.0,
+        c.1,
+        record {
+          relaxed = (c.2).relaxed;
+          counts = all_push (Means c.0) ns new (c.2).counts tt;
+        },
+      );
       relaxed = h.relaxed;
       wide = h.wide;
       width = h.width;

@@ -1,22 +1,22 @@
 -- Lines that make counts, outputs of counts and groups.
-use Rattle.std.proofs.Common.{◌≡◌, ℕ, zero, suc, ◌+◌, ◌-◌, ◌<◌, ◌≤◌, Bool, true, false, not, ◌&&◌, ◌||◌, if◌then◌else◌, nat_le, pos, List, [], ◌∷◌, ◌++◌, Option, Some, None, Result, Ok, Err, length, set, slice_get, slice_set, refl, sym, ◌∙◌, ap, subst, arith}
-use Rattle.std.proofs.lemmas.Bool.{and_parts, leb-true, leb-false, or_parts}
-use Rattle.std.specs.List.{AllByRecursion}
+use Rattle.std.proofs.Common.{◌≡◌, ℕ, zero, suc, ◌+◌, ◌-◌, ◌<◌, Bool, true, false, not, ◌&&◌, ◌||◌}
+use Rattle.std.proofs.Common.{nat_le, pos, List, [], ◌∷◌, ◌++◌, Some, None, Ok, length, set}
+use Rattle.std.proofs.Common.{slice_get, refl, sym, subst, arith}
+use Rattle.std.proofs.lemmas.Bool.{and_parts, leb-true, leb-false}
 use Rattle.cnf.specs.Literal.{Assignment, Literal}
-use Rattle.cnf.specs.Clause.{Satisfies, greatest_variable, has_repeat, is_tautology}
+use Rattle.cnf.specs.Clause.{greatest_variable, has_repeat, is_tautology}
 use Rattle.cnf.specs.Problem.{Problem}
 use Rattle.cnf.specs.Instance.{IsInstance}
 use Rattle.cnf.specs.Refute.{Clauses}
-use Rattle.cnf.proofs.Laws.{AllHold, all_left}
+use Rattle.cnf.proofs.Laws.{AllHold}
 use Rattle.totalizer.specs.Stages.{Tree, Staged, outputs_of, size_of, stage, totalizer_of}
-use Rattle.linear.specs.Costs.{CostForm, widened}
-use Rattle.forms.specs.Forms.{Forms, Made, Numbered, Count, Group, are_excluded, are_known, count_line, group_line, more_line, pairs_of, plus}
-use Rattle.forms.specs.declared.faults.LineFault.{LineFault}
-use Rattle.forms.specs.declared.faults.LineFault.TheVariants.{Name, Limit}
+use Rattle.linear.specs.Costs.{widened}
+use Rattle.forms.specs.Forms.{Forms, Made, Count, Group, are_excluded, are_known, count_line}
+use Rattle.forms.specs.Forms.{group_line, last_of, more_line, pairs_of, plus}
 use Rattle.forms.specs.declared.faults.TheConstants.{MOST_COUNT_CLAUSES}
-use Rattle.lrat_cuts.proofs.LawMeaning.{IsCheap, Means}
+use Rattle.lrat_cuts.proofs.LawMeaning.{IsCheap}
 use Rattle.lrat_cuts.proofs.LawForms.{Holds}
-use Rattle.lrat_cuts.proofs.LawCounts.{HasVariables, count_back, count_holds, count_true, last_one}
+use Rattle.lrat_cuts.proofs.LawCounts.{HasVariables, count_back, count_holds, count_true}
 use Rattle.lrat_cuts.proofs.LawMore.{more_back, more_holds, more_true}
 use Rattle.lrat_cuts.proofs.LawGroups.{excluded_low, group_back, group_holds}
 use Rattle.lrat_cuts.proofs.LawFacts.{Keeps}
@@ -41,8 +41,8 @@ known_variables s c e =
     }
 
 -- what a count leaves
-abbrev counted : Forms → List Literal → Staged → Made
-counted s inputs g = record {
+abbrev made_count : Forms → List Literal → Staged → Made
+made_count s inputs g = record {
   forms = record s {
     variables = g.fresh - 1;
     form = widened g.fresh s.form;
@@ -55,13 +55,13 @@ counted s inputs g = record {
 count_line_is : (h : ℕ) (inputs : List Literal) (s : Forms) (m : Made)
     → count_line h inputs s ≡ Ok m
     → ((are_known s inputs && nat_le 1 h && nat_le h (length inputs)) ≡ true)
-    × (m ≡ counted s inputs (totalizer_of h (s.variables + 1) inputs))
+    × (m ≡ made_count s inputs (totalizer_of h (s.variables + 1) inputs))
 count_line_is h inputs s m e =
     let test = are_known s inputs && nat_le 1 h && nat_le h (length inputs) in
     let g = totalizer_of h (s.variables + 1) inputs in
     let few = nat_le (s.made + length g.clauses) MOST_COUNT_CLAUSES in
-    elim test as (λ b. test ≡ b → (test ≡ true) × (m ≡ counted s inputs g)) [
-      | true ↦ λ q. elim few as (λ b. few ≡ b → (test ≡ true) × (m ≡ counted s inputs g)) [
+    elim test as (λ b. test ≡ b → (test ≡ true) × (m ≡ made_count s inputs g)) [
+      | true ↦ λ q. elim few as (λ b. few ≡ b → (test ≡ true) × (m ≡ made_count s inputs g)) [
         | true ↦ λ r. (q, sym (ok_same _ m (rw (q, r) at e)))
         | false ↦ λ r. absurd (err_ok _ m (rw (q, r) at e))
       ] refl
@@ -90,11 +90,11 @@ count_keeps p i k h inputs s m holds e =
     })
 
 -- what one more output leaves
-abbrev grown : Forms → ℕ → List Literal → ℕ → Staged → Made
-grown s j inputs m g = record {
+abbrev made_more : Forms → ℕ → List Literal → ℕ → Staged → Made
+made_more s j inputs m g = record {
   forms = record s {
     variables = g.fresh - 1;
-    form = plus (pos m) (last_one (outputs_of g.tree)) (widened g.fresh s.form);
+    form = plus (pos m) (last_of (outputs_of g.tree)) (widened g.fresh s.form);
     made = s.made + length g.clauses;
     numbered = set s.numbered j (Count inputs g.tree m);
   };
@@ -109,7 +109,7 @@ record IsGrown (s : Forms) (m : Made) : Type 0 where
   multiplier : ℕ
   here : slice_get s.numbered place ≡ Some (Count inputs tree multiplier)
   few : length (outputs_of tree) < size_of tree
-  is : m ≡ grown s place inputs multiplier
+  is : m ≡ made_more s place inputs multiplier
       (stage (length (outputs_of tree) + 1) (s.variables + 1) tree)
 
 more_line_is : (number : ℕ) (s : Forms) (m : Made) → more_line number s ≡ Ok m → IsGrown s m

@@ -1,19 +1,20 @@
 -- One line after another.
-use Rattle.std.proofs.Common.{◌≡◌, ℕ, ◌+◌, Bool, true, false, if◌then◌else◌, List, [], ◌∷◌, map, Option, Some, None, Result, Ok, Err, refl, sym, ◌∙◌, ap, subst}
-use Rattle.cnf.specs.Literal.{Assignment, Literal}
+use Rattle.std.proofs.Common.{◌≡◌, ℕ, ◌+◌, Bool, true, false, if◌then◌else◌, List, [], ◌∷◌, map}
+use Rattle.std.proofs.Common.{Option, Some, None, Result, Ok, Err, refl, subst}
+use Rattle.cnf.specs.Literal.{Assignment}
 use Rattle.cnf.specs.Problem.{Problem}
 use Rattle.cnf.specs.Instance.{IsInstance}
 use Rattle.cnf.proofs.Laws.{AllHold}
-use Rattle.lrat_live.specs.Listed.{Listed, listed_at}
+use Rattle.lrat_live.specs.Listed.{listed_at}
 use Rattle.lrat_read.specs.Form.{Parsed, Addition, Deletion, Malformed, line_of}
-use Rattle.lrat_read.specs.Words.{WordLine, CountLine, MoreLine, GroupLine, FormLine, CutLine, BoundLine, after_word, word_of}
-use Rattle.lrat_read.specs.declared.words.Word.{Word}
+use Rattle.lrat_read.specs.Words.{WordLine, CountLine, MoreLine, GroupLine, FormLine, CutLine}
+use Rattle.lrat_read.specs.Words.{BoundLine, after_word, word_of}
 use Rattle.lrat_machine.specs.Rup.{deleted_from, rup_fault}
 use Rattle.lrat_machine.specs.Steps.{live_of}
-use Rattle.lrat_machine.specs.declared.verdicts.Cause.{Cause}
 use Rattle.forms.specs.Forms.{Forms, Made, count_line, form_line, group_line, more_line}
 use Rattle.forms.specs.declared.faults.LineFault.{LineFault}
-use Rattle.lrat_cuts.specs.Cuts.{CutsState, fact_of, judged_line, judged_lines, judged_plain, judged_word, on_clauses, on_forms}
+use Rattle.lrat_cuts.specs.Cuts.{CutsState, fact_of, judged_line, judged_lines, judged_plain}
+use Rattle.lrat_cuts.specs.Cuts.{judged_word, on_clauses, on_forms}
 use Rattle.lrat_cuts.proofs.LawMeaning.{IsCheap}
 use Rattle.lrat_cuts.proofs.LawFacts.{Keeps, form_line_keeps}
 use Rattle.lrat_cuts.proofs.LawItems.{count_keeps, group_keeps, more_keeps}
@@ -22,7 +23,7 @@ use Rattle.lrat_cuts.proofs.LawState.{IsSound, MadeKeeps, forms_sound, made_soun
 use Rattle.lrat_cuts.proofs.LawAdditions.{added_true, deleted_true, listed_hold}
 use Rattle.lrat_cuts.proofs.LawCuts.{bound_sound, cut_sound}
 
-otherwise : {X : Type 0} (b : Bool) (x y z : X) → (if b then x else y) ≡ z → (x ≡ z → ⊥)
+pub otherwise : {X : Type 0} (b : Bool) (x y z : X) → (if b then x else y) ≡ z → (x ≡ z → ⊥)
     → y ≡ z
 otherwise true x y z e n = absurd (n e)
 otherwise false x y z e n = e
@@ -80,8 +81,8 @@ module _ (p : Problem) (i : IsInstance p) where
       (λ m q. more_keeps p i s.worth number s.forms m h.forms q) e
   word_sound cost (Some (GroupLine inputs ids)) s new h e =
       on_forms_sound s new (group_line (listed_at s.live) inputs ids s.forms) h
-      (λ f q. group_keeps p s.worth (listed_at s.live) inputs ids s.forms f h.forms (all_hold s h) q)
-      e
+      (λ f q. group_keeps p s.worth (listed_at s.live) inputs ids s.forms f h.forms
+      (all_hold s h) q) e
   word_sound cost (Some (FormLine scale facts)) s new h e =
       on_forms_sound s new (form_line (listed_at s.live) scale (map fact_of facts) s.forms) h
       (λ f q. form_line_keeps p s.worth (listed_at s.live) scale (map fact_of facts) s.forms f

@@ -1,5 +1,7 @@
 -- What relaxation literals and counts mean, and what holds of the forms along the lines.
-use Rattle.std.proofs.Common.{◌≡◌, ℕ, zero, suc, ℤ, pos, negsuc, ◌+ℤ◌, ◌-ℤ◌, ◌*ℤ◌, ◌≤ℤ◌, ◌+◌, ◌-◌, ◌*◌, ◌/◌, ◌<◌, ◌≤◌, min, List, [], ◌∷◌, Some, None, sum_by, length, inl, inr, refl, sym, ◌∙◌, ap, subst, arith, add-one}
+use Rattle.std.proofs.Common.{◌≡◌, ℕ, zero, suc, ℤ, pos, negsuc, ◌+ℤ◌, ◌*ℤ◌, ◌≤ℤ◌, ◌+◌, ◌-◌, ◌*◌}
+use Rattle.std.proofs.Common.{◌/◌, ◌<◌, ◌≤◌, min, List, Some, sum_by, length, inl, inr, refl, ◌∙◌}
+use Rattle.std.proofs.Common.{ap, arith, add-one}
 use Rattle.std.proofs.lemmas.Int.{ints}
 use Rattle.std.proofs.lemmas.Bool.{cases_lt}
 use Rattle.std.proofs.lemmas.Option.{none-some, same_Some}
@@ -14,8 +16,7 @@ use Rattle.adder.specs.Network.{relaxed_variables, SameUpTo}
 use Rattle.totalizer.specs.Stages.{Tree, outputs_of, true_leaves}
 use Rattle.totalizer.specs.Grown.{AreBelow, HasStages, IsTreeBelow, MeansRight}
 use Rattle.linear.specs.Linear.{true_count, value}
-use Rattle.linear.specs.Costs.{AgreesWith, CostForm, HasOneWidth, form_value, least_where, width_of}
-use Rattle.linear.proofs.Laws.{least_below}
+use Rattle.linear.specs.Costs.{AgreesWith, CostForm, HasOneWidth, form_value, width_of}
 use Rattle.bound.proofs.Laws.{AreTight, feasible_same, solution_cost}
 use Rattle.forms.specs.Forms.{Numbered, Count, Group, worth_of}
 

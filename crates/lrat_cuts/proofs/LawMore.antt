@@ -1,26 +1,32 @@
 -- One more output of a count, in what holds of the forms.
-use Rattle.std.proofs.Common.{◌≡◌, ℕ, zero, suc, ℤ, pos, ◌+ℤ◌, ◌-ℤ◌, ◌*ℤ◌, ◌≤ℤ◌, ◌+◌, ◌-◌, ◌*◌, ◌<◌, ◌≤◌, Bool, true, false, if◌then◌else◌, List, [], ◌∷◌, ◌++◌, Option, Some, None, length, sum_by, set, get_or, slice_get, refl, sym, ◌∙◌, ap, subst, arith}
+use Rattle.std.proofs.Common.{◌≡◌, ℕ, zero, suc, pos, ◌+ℤ◌, ◌≤ℤ◌, ◌+◌, ◌-◌, ◌*◌, ◌<◌, ◌≤◌, List, []}
+use Rattle.std.proofs.Common.{◌∷◌, ◌++◌, Some, length, sum_by, set, get_or, slice_get, sym, ◌∙◌, ap}
+use Rattle.std.proofs.Common.{subst, arith}
 use Rattle.std.proofs.lemmas.Int.{ints}
 use Rattle.std.proofs.lemmas.List.Sums.{sum_by-set}
 use Rattle.std.proofs.lemmas.Option.{none-some, same_Some, get_or_from_slice_get, slice_get_within}
 use Rattle.std.proofs.Math.Nat.{mul-add}
 use Rattle.std.specs.List.{AllByRecursion}
-use Rattle.cnf.specs.Literal.{Assignment, Literal, SameBelow, positive, literal_value}
+use Rattle.cnf.specs.Literal.{Assignment, Literal, positive}
 use Rattle.cnf.specs.Clause.{Satisfies}
 use Rattle.cnf.specs.Problem.{Problem}
 use Rattle.cnf.specs.Instance.{IsInstance}
 use Rattle.cnf.proofs.Laws.{all_weaker}
 use Rattle.adder.specs.Network.{SameUpTo}
-use Rattle.totalizer.specs.Stages.{Tree, Leaf, Node, Staged, outputs_of, size_of, stage, true_leaves}
-use Rattle.totalizer.specs.Grown.{AreBelow, HasStages, IsTreeBelow, MeansRight}
-use Rattle.totalizer.proofs.Laws.{outputs_at_most, outputs_more, outputs_next, stage_below, stage_extends, stage_has, stage_leaves, stage_means_back, stage_takes, stage_true}
+use Rattle.totalizer.specs.Stages.{Tree, Leaf, Node, Staged, outputs_of, size_of, stage}
+use Rattle.totalizer.specs.Grown.{HasStages, MeansRight}
+use Rattle.totalizer.proofs.Laws.{outputs_at_most, outputs_more, outputs_next, stage_below}
+use Rattle.totalizer.proofs.Laws.{stage_extends, stage_has, stage_leaves, stage_means_back}
+use Rattle.totalizer.proofs.Laws.{stage_takes, stage_true}
 use Rattle.linear.specs.Linear.{true_count, value}
-use Rattle.linear.specs.Costs.{CostForm, HasOneWidth, widened, width_of}
-use Rattle.linear.proofs.Laws.{agrees_widened, literals_width, value_literals, value_widened, widened_wide, widened_width}
-use Rattle.bound.proofs.Laws.{AreTight}
-use Rattle.forms.specs.Forms.{Numbered, Count, Group, plus}
-use Rattle.lrat_cuts.proofs.LawMeaning.{FormHolds, IsCheap, IsCountBelow, IsItemBelow, IsLow, IsMeant, Means, slack}
-use Rattle.lrat_cuts.proofs.LawCounts.{all_kept, below_more, choice_kept, item_more, last_one, last_push, meant_kept, same_count}
+use Rattle.linear.specs.Costs.{CostForm, widened, width_of}
+use Rattle.linear.proofs.Laws.{agrees_widened, literals_width, value_literals, value_widened}
+use Rattle.linear.proofs.Laws.{widened_wide, widened_width}
+use Rattle.forms.specs.Forms.{Numbered, Count, last_of, plus}
+use Rattle.lrat_cuts.proofs.LawMeaning.{FormHolds, IsCheap, IsCountBelow, IsItemBelow, IsLow}
+use Rattle.lrat_cuts.proofs.LawMeaning.{IsMeant, Means, slack}
+use Rattle.lrat_cuts.proofs.LawCounts.{below_more, choice_kept, item_more, last_push}
+use Rattle.lrat_cuts.proofs.LawCounts.{meant_kept, same_count}
 
 -- what holds of each element of a list in which one is changed
 pub all_place : {X : Type 0} (P : X → Type 0) (xs : List X) (j : ℕ) (x : X)
@@ -168,13 +174,13 @@ module _ (p : Problem) (i : IsInstance p) (k v : ℕ) (f : CostForm) (ns : List 
       omega (arith, ints, e, d, s, was, is, q, z)
 
   pub more_holds : FormHolds p k (next.fresh - 1)
-      (plus (pos m) (last_one (outputs_of next.tree)) wide) now
+      (plus (pos m) (last_of (outputs_of next.tree)) wide) now
   more_holds =
       let n = next.fresh in
       let same : next.fresh - 1 + 1 ≡ next.fresh = omega (arith, from) in
       let wider = widened_wide n f h.wide in
-      let last : last_one (outputs_of next.tree) ≡ own ∷ []
-      = ap last_one grown ∙ last_push (outputs_of tree) own in
+      let last : last_of (outputs_of next.tree) ≡ own ∷ []
+      = ap last_of grown ∙ last_push (outputs_of tree) own in
       subst (λ x. FormHolds p k (next.fresh - 1) (plus (pos m) x wide) now) (sym last) (record {
         choice = choice;
         relaxed = omega (arith, h.relaxed, from);

@@ -1,5 +1,5 @@
 -- What holds of a state of lines, and clauses that become live.
-use Rattle.std.proofs.Common.{◌≡◌, ℕ, zero, suc, ◌+◌, ◌<◌, ◌≤◌, max, Bool, true, false, if◌then◌else◌, List, [], ◌∷◌, ◌++◌, inl, inr, refl, sym, ◌∙◌, ap, subst, arith}
+use Rattle.std.proofs.Common.{ℕ, ◌+◌, ◌≤◌, List, [], ◌∷◌, subst, arith}
 use Rattle.std.proofs.lemmas.Bool.{false≢true}
 use Rattle.std.specs.List.{AllByRecursion}
 use Rattle.cnf.specs.Literal.{Assignment, Literal}
@@ -8,7 +8,7 @@ use Rattle.cnf.specs.Problem.{Problem, IsFeasible, cost_under}
 use Rattle.cnf.specs.Instance.{IsInstance}
 use Rattle.cnf.proofs.Laws.{all_push}
 use Rattle.lrat_live.specs.Listed.{Listed}
-use Rattle.forms.specs.Forms.{Forms, Made, Numbered, heard}
+use Rattle.forms.specs.Forms.{Forms, Made, heard}
 use Rattle.lrat_cuts.specs.Cuts.{CutsState, put, put_all}
 use Rattle.lrat_cuts.proofs.LawMeaning.{IsCheap, none_cheap}
 use Rattle.lrat_cuts.proofs.LawForms.{Holds, heard_holds, heard_numbered}

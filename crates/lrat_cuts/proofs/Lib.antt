@@ -10,7 +10,12 @@ mod LawAdditions
 mod LawCuts
 mod LawItems
 mod LawLines
+mod LawStart
+mod LawSound
+mod LawWorth
+mod LawVerdicts
 mod Putting
 mod Judging
 mod PieceLaws
 mod EndedParts
+pub mod Laws

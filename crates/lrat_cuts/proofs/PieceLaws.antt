@@ -1,7 +1,7 @@
 -- A certificate in pieces: what holds after a line more, after a piece, and at the end.
 use Rattle.std.proofs.Common.{◌≡◌, ℕ, ◌<◌, Bool, true, false, List, [], ◌∷◌, ◌++◌, map, Option}
 use Rattle.std.proofs.Common.{Some, None, refl, sym, ◌∙◌, ap, subst, length, append_assoc}
-use Rattle.std.specs.Prelude.{◌==◌, not, is_some, IfSome, Result, Ok, Err}
+use Rattle.std.specs.Prelude.{◌==◌, not, is_some, IfSome, Ok, Err}
 use Rattle.std.specs.Str.Lines.{strip_carriage_return}
 use Rattle.std.proofs.lemmas.List.Elements.{All-append}
 use Rattle.cnf.specs.Problem.{Problem}
@@ -9,8 +9,6 @@ use Rattle.text.specs.Text.{tokens_of, token_lines, IsNoFeed}
 use Rattle.text.specs.Pieces.{IsCut, HasTaken}
 use Rattle.text.proofs.Laws.{cut-ended, cut-kept, lines-rest, lines-split, taken-on, taken-whole}
 use Rattle.lrat_machine.specs.declared.verdicts.Cause.{Cause}
-use Rattle.lrat_machine.specs.declared.verdicts.Verdict.{Verdict}
-use Rattle.lrat_cuts.specs.Cuts.{CutsState}
 use Rattle.lrat_cuts.specs.Machine.{MachineState, judged_after}
 use Rattle.lrat_cuts.specs.Pieces.{CheckerState, HasJudged, Holds, IsOpen, IsRefused, Judges}
 use Rattle.lrat_cuts.specs.Pieces.{ReadingState}
@@ -144,6 +142,10 @@ rest_dropped old new piece left t some cost p =
 pub some_from_test : (o : Option (Cause × ℕ)) (b : Bool) → is_some o ≡ not b → b ≡ false
     → o ≡ None → ⊥
 some_from_test o b e h none = let t : false ≡ true = sym (ap is_some none) ∙ e ∙ ap not h in cc
+
+pub none_from_test : (o : Option (Cause × ℕ)) (b : Bool) → is_some o ≡ not b → b ≡ true → o ≡ None
+none_from_test None b e h = refl
+none_from_test (Some v) b e h = let t : true ≡ false = e ∙ ap not h in absurd (cc)
 
 pub some_from_true : (o : Option (Cause × ℕ)) → is_some o ≡ true → o ≡ None → ⊥
 some_from_true o e none = let t : false ≡ true = sym (ap is_some none) ∙ e in cc

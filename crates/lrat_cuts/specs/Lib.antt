@@ -2,4 +2,5 @@ pub mod Cuts
 pub mod Machine
 pub mod Pieces
 pub mod Vectors
+pub mod Law
 pub mod Verdict

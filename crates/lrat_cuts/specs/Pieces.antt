@@ -1,6 +1,6 @@
 -- A checker of forms and cuts that is handed the certificate in pieces.
 use Rattle.std.specs.Prelude.{◌≡◌, ℕ, ◌≤◌, Bool, List, [], ◌∷◌, ◌++◌, length, Option, Some, None}
-use Rattle.std.specs.Prelude.{Result, Err, IsOk, ◌⊎◌}
+use Rattle.std.specs.Prelude.{Err, IsOk, ◌⊎◌}
 use Rattle.std.specs.Io.KnownBytes.{Consumes}
 use Rattle.cnf.specs.Problem.{Problem}
 use Rattle.text.specs.declared.watched.TheConstants.{READ_SIZE}

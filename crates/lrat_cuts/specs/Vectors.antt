@@ -1,5 +1,5 @@
 -- Worked certificates.
-use Rattle.std.specs.Prelude.{◌≡◌, ℕ, List, [], ◌∷◌, map, Option, Some, None, Result, Ok, Err, refl}
+use Rattle.std.specs.Prelude.{◌≡◌, ℕ, List, [], ◌∷◌, ◌++◌, map, Option, Some, None, Result, Ok, Err, refl}
 use lib.Chars.{codes}
 use Rattle.cnf.specs.Literal.{positive as p, negative as n}
 use Rattle.cnf.specs.Problem.{Problem}
@@ -7,7 +7,12 @@ use Rattle.text.specs.Text.{tokens_of}
 use Rattle.lrat_machine.specs.declared.verdicts.Cause.{Cause}
 use Rattle.lrat_machine.specs.declared.verdicts.Cause.TheVariants.{CutWorth, LineName, LineForm}
 use Rattle.lrat_machine.specs.declared.verdicts.Cause.TheVariants.{TrailingLine, NoConflict}
+use Rattle.lrat_machine.specs.declared.verdicts.Cause.TheVariants.{NoEmptyClause}
+use Rattle.lrat_machine.specs.declared.verdicts.Verdict.TheVariants.{Yes, No}
 use Rattle.lrat_cuts.specs.Cuts.{CutsState, cuts_start, judged_lines}
+use Rattle.lrat_cuts.specs.Verdict.{cuts_lower, cuts_verdict, ended_part}
+use Rattle.lrat_cuts.specs.declared.verdicts.LowerVerdict.TheVariants.{AtLeast}
+use Rattle.lrat_cuts.specs.declared.verdicts.LowerVerdict.TheVariants.{No as NotRight}
 
 -- one of both is needed; the first costs 3, the second 4
 abbrev shop : Problem
@@ -55,3 +60,29 @@ trailing = refl
 -- no RAT line
 no_rat : proved None (codes "2 3 1 0 0" ∷ []) ≡ Err (NoConflict, 1)
 no_rat = refl
+
+-- whole texts
+abbrev two_lines : List ℕ
+two_lines = codes "form 1 3 1 0" ++ 10 ∷ codes "cut 0"
+
+is_right : cuts_verdict (Some 3) shop two_lines ≡ Yes
+is_right = refl
+
+too_dear : cuts_verdict (Some 4) shop two_lines ≡ No CutWorth 2
+too_dear = refl
+
+without_end : cuts_verdict (Some 3) shop (codes "form 1 3 1 0") ≡ No NoEmptyClause 0
+without_end = refl
+
+-- the second line counts once its line feed is there
+first_line : ended_part two_lines ≡ codes "form 1 3 1 0" ++ 10 ∷ []
+first_line = refl
+
+none_yet : cuts_lower shop two_lines ≡ AtLeast 0
+none_yet = refl
+
+at_least_three : cuts_lower shop (two_lines ++ 10 ∷ []) ≡ AtLeast 3
+at_least_three = refl
+
+wrong_line : cuts_lower shop (codes "form 2" ++ 10 ∷ two_lines) ≡ NotRight LineForm 1
+wrong_line = refl

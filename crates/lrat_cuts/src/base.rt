@@ -1,5 +1,5 @@
 // What the lines so far leave: the live clauses, and the forms over them.
-ghost use Rattle.std.specs.Prelude.{◌≡◌, ◌+◌, ◌<◌, List, map, None, IfOk, OnOk};
+ghost use Rattle.std.specs.Prelude.{◌≡◌, ◌+◌, ◌<◌, ◌≤◌, List, map, None, IfOk, OnOk};
 ghost use Rattle.std.specs.Prelude.{All, IfSome, false};
 ghost use Rattle.cnf.specs.Literal.{Literal};
 ghost use Rattle.cnf.specs.declared.limits.TheConstants.{NUMBER_LIMIT, VARIABLE_LIMIT};
@@ -63,6 +63,11 @@ impl Model for CutsBase {
       worth = b.worth;
       proved = b.proved;
     } };
+
+    ghost use Rattle.std.specs.Prelude.{◌≤◌};
+    ghost use Rattle.cnf.specs.declared.limits.TheConstants.{NUMBER_LIMIT};
+
+    ghost invariant = { λ b. (b.worth ≤ NUMBER_LIMIT) × (b.proved ≤ NUMBER_LIMIT) };
 }
 
 /// Why a line that speaks of forms is refused.
@@ -163,14 +168,16 @@ impl CutsBase {
 
     /// The least that a cut so far is worth, at most 2^62.
     pub(crate) fn worth(&self) -> u64
-        ensures { result ≡ self.now.worth }
+        ensures worth { result ≡ self.now.worth }
+        ensures most { result ≤ NUMBER_LIMIT }
     {
         self.worth
     }
 
     /// The greatest lower bound of the cost that was proved, at most 2^62.
     pub(crate) fn proved(&self) -> u64
-        ensures { result ≡ self.now.proved }
+        ensures proved { result ≡ self.now.proved }
+        ensures most { result ≤ NUMBER_LIMIT }
     {
         self.proved
     }

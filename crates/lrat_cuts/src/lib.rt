@@ -3,6 +3,7 @@
 #![tactic(auto)]
 
 mod base;
+pub mod law;
 pub mod machine;
 pub mod pieces;
 pub mod streams;

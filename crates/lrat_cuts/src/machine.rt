@@ -1,6 +1,7 @@
 // The checker between lines.
-ghost use Rattle.std.specs.Prelude.{◌≡◌, ℕ, ◌+◌, ◌<◌, ◌^◌, List, [], Option, None, Some, IfOk, OnOk};
+ghost use Rattle.std.specs.Prelude.{◌≡◌, ℕ, ◌+◌, ◌<◌, ◌≤◌, ◌^◌, List, [], Option, None, Some, IfOk, OnOk};
 ghost use Rattle.std.specs.Prelude.{OnErr};
+ghost use Rattle.cnf.specs.declared.limits.TheConstants.{NUMBER_LIMIT};
 ghost use Rattle.text.specs.Text.{tokens_of};
 ghost use Rattle.lrat_read.specs.Reader.{IsReadAs};
 ghost use Rattle.lrat_read.specs.Words.{WordLine, word_line_of};
@@ -206,7 +207,8 @@ impl CutsMachine {
     /// The least that a cut so far is worth, at most 2^62: what is live holds in each solution that
     /// costs less.
     pub fn worth(&self) -> u64
-        ensures { result ≡ self.now.state.worth }
+        ensures worth { result ≡ self.now.state.worth }
+        ensures most { result ≤ NUMBER_LIMIT }
     {
         self.base.worth()
     }
@@ -214,7 +216,8 @@ impl CutsMachine {
     /// The greatest lower bound of the cost that was proved, at most 2^62; that much says that
     /// there is no solution.
     pub fn proved(&self) -> u64
-        ensures { result ≡ self.now.state.proved }
+        ensures proved { result ≡ self.now.state.proved }
+        ensures most { result ≤ NUMBER_LIMIT }
     {
         self.base.proved()
     }

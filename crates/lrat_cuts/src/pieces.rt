@@ -7,6 +7,7 @@ ghost use Rattle.std.specs.Prelude.{length, None, Ok, Err, IfOk, OnOk, OnErr, Op
 ghost use Rattle.std.specs.Prelude.{IsOk, IsSome, ◌↔◌};
 ghost use Rattle.std.specs.Str.Lines.{strip_carriage_return};
 ghost use Rattle.cnf.specs.Problem.{Problem};
+ghost use Rattle.cnf.specs.declared.limits.TheConstants.{NUMBER_LIMIT};
 ghost use Rattle.text.specs.Text.{IsNoFeed};
 ghost use Rattle.lrat_cuts.specs.Pieces.{HasJudged, Holds, Judges};
 ghost use Rattle.lrat_cuts.specs.Verdict.{cuts_lower, cuts_verdict, judged_text, verdict_of};
@@ -212,7 +213,8 @@ impl CutsChecker {
     /// The greatest lower bound that the lines so far have proved. It is told where no line was
     /// faulty.
     pub fn proved(&self) -> u64
-        ensures { result ≡ (((self.now.reading).machine).state).proved }
+        ensures proved { result ≡ (((self.now.reading).machine).state).proved }
+        ensures most { result ≤ NUMBER_LIMIT }
     {
         self.machine.proved()
     }
@@ -260,6 +262,8 @@ impl CutsChecker {
             → HasJudged self.now None p bytes → v ≡ cuts_lower p bytes) }
         ensures failed { (result ≡ Err FeedFault.Failed) ↔ (self.now.failed ≡ true) }
         ensures only { OnErr result (result ≡ Err FeedFault.Failed) }
+        ensures most { IfOk result
+            (λ v. (lower : ℕ) → v ≡ LowerVerdict.AtLeast lower → lower ≤ NUMBER_LIMIT) }
     {
         if self.failed {
             return Err(FeedFault::Failed);

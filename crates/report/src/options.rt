@@ -27,6 +27,7 @@ Statuses:
    1  NO and the fault   the RESULT of --from is not correct for FILE
    2  FILE or the command line is faulty
    3  a file cannot be opened, read or written, or memory ran out
+ 141  nobody reads standard output any more, as behind '| head -n 1'
 
 If FILE has no clauses at all, the optimum costs 0, and 'warning: no clause was
 read' is written to standard error.
@@ -48,8 +49,8 @@ check and encode if --profile is not given:
   export WMAX_PROFILE=5
 
 With --best PATH a run can be stopped at any moment. The same command then goes
-on from the solution in PATH. --progress shows how far the run is. In a script
-that stops at errors, write
+on from the solution in PATH, which it never makes worse. --progress shows how
+far the run is. In a script that stops at errors, write
 
   wmax solve a.wcnf > a.result || [ $? = 30 ]
 
@@ -63,7 +64,7 @@ Faults:
   error: line N: NoZero      the clause on line N has no 0 at its end
   error: line N: AfterZero   something follows the 0 of the clause
   error: line N: OldForm     a line 'p' comes after a clause or another 'p'
-  error: Read                FILE, RESULT or PATH cannot be opened or read
+  error: Read NAME           the file NAME cannot be opened or read
   error: Memory              memory ran out
   error: Output              standard output cannot be written
   error: ProofOutput         the certificate cannot be written, or is an input
@@ -135,15 +136,21 @@ docs/FAULTS.md and the manual page list the others.";
 const EXPLAIN_NOTES: &str = "\
 With RESULT: prints its cost, each soft clause that its bits give up, each hard
 clause that they break, and the names of the true variables. The soft clauses
-come heaviest first, each with its line, the comment above it and the sum so
-far. Without RESULT: prints how many variables, hard clauses and soft clauses
-FILE has, and the sum of the weights. If FILE is faulty: prints the faulty line
-and word, and how to correct it. With PROOF, if RESULT is correct: also prints
-what wmax lower prints, and the gap, which is the cost minus that bound.
+come heaviest first, each with its line, its comment and the sum so far. The
+comment of a clause is the last one between the clause before it and this one.
+If RESULT says UNSATISFIABLE: prints hard clauses that contradict each other.
+Each of them was left out in turn, within an effort that is the same on every
+machine, and stays if the others may then hold. So there may be fewer.
+Without RESULT: prints how many variables, hard clauses and soft clauses FILE
+has, and the sum of the weights. If FILE is faulty: prints the faulty line and
+word, and how to correct it. With PROOF, if RESULT is correct: also prints what
+wmax lower prints, and the gap, which is the cost minus that bound. A character
+that would command a terminal is shown as question marks.
 
 Statuses:
    0  the bits are a solution of the cost that RESULT states, or it has no bits
-   1  they are not, RESULT cannot be read (NO ResultForm), or PROOF is faulty
+   1  they are not, there is a solution though RESULT says that there is none,
+      RESULT cannot be read (NO ResultForm), or PROOF is faulty
    2  FILE or the command line is faulty
    3  a file cannot be read, the output cannot be written, or memory ran out
 
@@ -155,7 +162,7 @@ Example:
 Faults:
   error: line N: NoZero  the clause on line N of FILE has no 0 at its end
   NO ResultForm N        line N of RESULT is not allowed there
-  error: Read            a file cannot be opened or read
+  error: Read NAME       the file NAME cannot be opened or read
   error: Memory          memory ran out
   error: Output          standard output cannot be written
 'wmax solve --help' lists more faults of FILE.
@@ -182,7 +189,7 @@ Faults:
   error: line N: CoreForm    line N: bad core line, or too many clauses
   error: line N: CoreWeight  the core on line N is worth 0, or more than is left
   error: line N: CoreSum     the cores before line N are worth less than COST
-  error: Read                a file cannot be opened or read
+  error: Read NAME           the file NAME cannot be opened or read
   error: Memory              memory ran out
   error: Output              standard output cannot be written
 'wmax solve --help' lists more faults of FILE.
@@ -190,7 +197,8 @@ docs/FAULTS.md and the manual page list all.";
 
 const NOTES: &str = "\
 Statuses: solve 30, 20, 10, 0, 1; check, lower and explain 0, 1; encode 0; all
-of them 2 and 3 for faults. 'wmax COMMAND --help' says what they mean. FILE may
+of them 2 and 3 for faults, and 141 if nobody reads the output any more, without
+a message. 'wmax COMMAND --help' says what they mean. FILE may
 be /dev/stdin or a pipe such as <(zcat a.wcnf.gz). The environment variable
 WMAX_PROFILE is the profile of solve, check and encode if --profile is not
 given.
@@ -232,11 +240,12 @@ created or emptied before the search. It cannot be FILE or RESULT";
 
 const BEST_HELP: &str = "\
 Keeps the best solution in PATH, as a complete result at every moment.
-If PATH already has a solution of FILE, the search begins with it, and
-replaces it by one that costs no more. A result without a solution and
-an empty file are replaced. Anything else in PATH is refused, and so
-is a PATH that cannot be written, or is FILE or the certificate. PATH
-says OPTIMUM FOUND once this run has proved it";
+If PATH already has a solution of FILE, the search begins with it. Only
+a cheaper one replaces it, or a proof of this run that none is. So an
+OPTIMUM FOUND that another run wrote stays as it is, byte for byte, and
+this run does not vouch for it. A result without a solution stays until
+there is a solution or a proof. Anything else in PATH is refused, and
+so is a PATH that cannot be written, or is FILE or the certificate";
 
 const LOWER_HELP: &str = "\
 Keeps in PATH the best lower bound that cores prove, as a certificate
@@ -261,11 +270,13 @@ search begins with that";
 
 const PROGRESS_HELP: &str = "\
 Shows on standard error how far the search is: a line at each better
-solution and at the end, and at most one a second in between.
-'at least L' is what the cores found so far are worth (profile 5, or
-with --lower). L may not be proved yet: see --lower. The gap is the
-cost minus L, as a share of the cost. MB is the memory in use. A
-terminal shows only the last line";
+solution and at the end, and at most one a second in between: the
+seconds so far, the least cost, how many solutions led to it, and how
+many conflicts there were. 'at least L' is what the cores found so far
+are worth (profile 5, or with --lower). L may not be proved yet: see
+--lower. The gap is the cost minus L, as a share of the cost. The
+effort is that of --conflicts. A terminal shows only the last line, and
+as much of it as it has columns";
 
 const CERTIFICATE_HELP: &str = "\
 With --profile 5: prints the formula that the lines of CERTIFICATE

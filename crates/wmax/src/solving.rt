@@ -188,13 +188,13 @@ fn start_bounder<'a, R: Files>(
 
 /// Solves, with what is to be written at hand.
 fn solve_over<'a, R: Files + AllocGlobal + Print + Clock, E: Write, P: Write>(
-    rt: &R,
+    rt: &'a R,
     messages: &mut Messages<'_, E>,
     request: SolveRequest<'_>,
     profile: Profile,
     inputs: &mut Inputs<'_, R::File>,
     proof: &mut P,
-    keepers: Keepers<'_, R>,
+    keepers: Keepers<'a, R>,
 ) -> Result<u8, Fault<'a>> {
     // `clap` lets no greater one pass; said again, since nothing is known of that here.
     let mut budget = Budget::new(request.limit.min(MOST_CONFLICTS));

@@ -17,7 +17,7 @@ use std::rt::{Clock, Files};
 /// Keeps the best solution and the best lower bound, and tells how far the run is: all of it, some
 /// or nothing.
 #[derive(Drop)]
-pub struct Onlooker<'a, 'b, R: Files + Clock, E: Write> {
+pub struct Onlooker<'a, 'm, 'b, R: Files + Clock, E: Write> {
     /// What keeps the best solution.
     pub keeper: Keeper<'a, R>,
     /// What keeps the best lower bound.
@@ -25,11 +25,11 @@ pub struct Onlooker<'a, 'b, R: Files + Clock, E: Write> {
     /// What tells how far the run is, if it is to be told.
     pub meter: Option<Meter<'a, R>>,
     /// Where all of them tell something.
-    pub messages: &'a mut Messages<'b, E>,
+    pub messages: &'m mut Messages<'b, E>,
 }
 
-impl<'a, 'b, R: Files + Clock + AllocGlobal, E: Write> cdcl::watch::SearchWatch
-    for Onlooker<'a, 'b, R, E> {
+impl<'a, 'm, 'b, R: Files + Clock + AllocGlobal, E: Write> cdcl::watch::SearchWatch
+    for Onlooker<'a, 'm, 'b, R, E> {
     // What it was shown is in files and on standard error, and is not known here.
     ghost seen = { λ _. None };
 
@@ -40,8 +40,8 @@ impl<'a, 'b, R: Files + Clock + AllocGlobal, E: Write> cdcl::watch::SearchWatch
     }
 }
 
-impl<'a, 'b, R: Files + Clock + AllocGlobal, E: Write> improve_cores::watch::CoreWatch
-    for Onlooker<'a, 'b, R, E> {
+impl<'a, 'm, 'b, R: Files + Clock + AllocGlobal, E: Write> improve_cores::watch::CoreWatch
+    for Onlooker<'a, 'm, 'b, R, E> {
     fn raised(&mut self, lower: u64) {
         if let Some(meter) = &mut self.meter {
             meter.raised(lower);
@@ -49,7 +49,7 @@ impl<'a, 'b, R: Files + Clock + AllocGlobal, E: Write> improve_cores::watch::Cor
     }
 }
 
-impl<'a, 'b, R: Files + Clock + AllocGlobal, E: Write> Watch for Onlooker<'a, 'b, R, E> {
+impl<'a, 'm, 'b, R: Files + Clock + AllocGlobal, E: Write> Watch for Onlooker<'a, 'm, 'b, R, E> {
     fn better(&mut self, instance: &Instance, cost: u64, bits: &[bool]) {
         self.keeper.better(instance, cost, bits, self.messages);
         if let Some(meter) = &mut self.meter {
@@ -67,7 +67,7 @@ impl<'a, 'b, R: Files + Clock + AllocGlobal, E: Write> Watch for Onlooker<'a, 'b
     }
 }
 
-impl<'a, 'b, R: Files + Clock + AllocGlobal, E: Write> RunWatch for Onlooker<'a, 'b, R, E> {
+impl<'a, 'm, 'b, R: Files + Clock + AllocGlobal, E: Write> RunWatch for Onlooker<'a, 'm, 'b, R, E> {
     fn searched(&mut self, found: &Found) {
         if let Some(meter) = &mut self.meter {
             meter.searched(found, self.messages);

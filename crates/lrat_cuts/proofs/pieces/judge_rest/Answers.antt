@@ -15,10 +15,17 @@ pub returns-in-Some-clause-verdict : goal.returns-in-Some-clause-verdict
 returns-in-Some-clause-verdict c = λ cost p bytes h.
     let r : ReadingState =
     record { machine = c.args.machine.now; rest = c.args.rest.now; refused = None } in
-    ?
+    let judges = rw c.bytes.ensures at c.in_ok-cause.ensures.judges in
+    ends_fault r cost p bytes h refl (c.is_empty.ensures.some c.if-is_empty.false)
+    c.judge_line.new.machine (c.in-Some.cause, c.in-Some.line)
+    (subst (λ f. Judges r.machine r.rest c.judge_line.new.machine f) c.in-Some.is judges)
 
 pub returns-in-None-clause-verdict : goal.returns-in-None-clause-verdict
 returns-in-None-clause-verdict c = λ cost p bytes h.
     let r : ReadingState =
     record { machine = c.args.machine.now; rest = c.args.rest.now; refused = None } in
-    ?
+    let judges = rw c.bytes.ensures at c.in_ok-cause.ensures.judges in
+    c.end_verdict-in-None.ensures
+    ∙ ends_open r cost p bytes h refl (c.is_empty.ensures.some c.if-is_empty.false)
+    c.judge_line.new.machine
+    (subst (λ f. Judges r.machine r.rest c.judge_line.new.machine f) c.in-None.is judges)
