@@ -97,11 +97,17 @@ fn write_bound<R: AllocGlobal, T: Read, W: Write>(
 {
     let instance = ManuallyDrop::new(read_from(rt.alloc(), text)?);
     let mut watched = WatchedWriter::new(out);
-    match profile {
-        Certifying::Formula(profile) => write_formula(&instance, cost, profile, &mut watched)?,
-        Certifying::Cuts => write_dimacs(&weighted_formula(&instance)?, &mut watched)?,
-    }
-    deliver(Ok(()), &mut watched)?;
+    let written = match profile {
+        Certifying::Formula(profile) => {
+            write_formula(&instance, cost, profile, &mut watched)?;
+            Ok(())
+        }
+        Certifying::Cuts => match weighted_formula(&instance) {
+            Ok(formula) => write_dimacs(&formula, &mut watched),
+            Err(_) => return Err(RunFault::Memory),
+        },
+    };
+    deliver(written, &mut watched)?;
     Ok(0)
 }
 
