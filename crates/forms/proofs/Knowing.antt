@@ -1,5 +1,6 @@
 -- What is known of literals that are there.
-use Rattle.std.proofs.Common.{◌≡◌, ℕ, zero, suc, ◌+◌, ◌*◌, ◌<◌, ◌≤◌, Bool, true, false, not, ◌&&◌, ◌||◌, List}
+use Rattle.std.proofs.Common.{◌≡◌, ℕ, zero, suc, ◌+◌, ◌*◌, ◌<◌, ◌≤◌, Bool, true, false, not, ◌&&◌}
+use Rattle.std.proofs.Common.{◌||◌, List}
 use Rattle.std.proofs.Common.{[], ◌∷◌, length, map, arith, sym, ◌∙◌, ap, subst, inl, inr}
 use Rattle.std.specs.Prelude.{nat_le, max}
 use Rattle.std.specs.List.{All, AllByRecursion, IsDistinct, list_any}
@@ -7,7 +8,7 @@ use Rattle.std.proofs.lemmas.Bool.{and_parts, eqb-true, false≢true, leb-true, 
 use Rattle.std.proofs.lemmas.Bool.{or_cases, or_parts}
 use Rattle.std.proofs.Math.Dec.{eqb}
 use Rattle.std.proofs.lemmas.List.{length-map}
-use Rattle.std.proofs.lemmas.List.Elements.{All-from_recursion, recursion_from_All}
+use Rattle.std.proofs.lemmas.List.Elements.{All-from_recursion, All-weaker, recursion_from_All}
 use Rattle.std.proofs.lemmas.Map.Steps.{length-le_from_distinct_below}
 use Rattle.cnf.specs.Literal.{Literal, literal_eq, negation}
 use Rattle.cnf.specs.Clause.{contains_literal, greatest_variable, has_repeat, is_tautology}
@@ -30,12 +31,6 @@ known s c h =
       once = q.0;
       open_one = q.1;
     }
-
--- each variable is at most the greatest one
-pub each_below : (n : ℕ) (c : List Literal) → greatest_variable c ≤ n
-    → AllByRecursion (λ l. l.variable ≤ n) c
-each_below n [] h = tt
-each_below n (l ∷ c) h = (omega arith, each_below n c (omega arith))
 
 -- with places for the marks of their literals
 pub known_places : (n rows : ℕ) (c : List Literal) → 2 * n ≤ rows → greatest_variable c ≤ n
@@ -92,6 +87,13 @@ below_width width c h = All-from_recursion (λ l. l.variable < width) c (by c h)
         → AllByRecursion (λ l. l.variable < width) d
     by [] g = tt
     by (l ∷ d) g = (omega arith, by d (omega arith))
+
+-- each variable is at most the greatest one
+pub each_within : (n : ℕ) (c : List Literal) → greatest_variable c ≤ n
+    → All (λ l. l.variable ≤ n) c
+each_within n c h =
+    All-weaker (λ l. l.variable < n + 1) (λ l. l.variable ≤ n) (λ l p. omega (arith, p)) c
+    (below_width (n + 1) c (omega arith))
 
 pub known_within : (s : Forms) (width : ℕ) (c : List Literal) → s.variables < width
     → are_known s c ≡ true → All (λ l. l.variable < width) c

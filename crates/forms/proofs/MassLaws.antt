@@ -20,11 +20,6 @@ more_mass terms size made mass by h g = grind arith
 pub mass_room : (terms made : ℕ) → terms ≤ 2 ^ 32 → made ≤ 2 ^ 22 → most_mass terms made ≤ 2 ^ 120
 mass_room terms made h g = grind arith
 
--- a clause's fact
-pub clause_weighed : (w : ℕ) (c : List Literal) → w ≤ 2 ^ 62
-    → 2 * w * length c + w ≤ 3 * 2 ^ 62 * clause_size c
-clause_weighed w c h = omega (arith, weighed w (length c) h)
-
 -- one more output of a count, which takes a clause or more
 pub output_mass : (terms made n mass multiplier : ℕ) → mass ≤ most_mass terms made → 1 ≤ n
     → multiplier ≤ terms * 2 ^ 62 → mass + 2 * multiplier ≤ most_mass terms (made + n)

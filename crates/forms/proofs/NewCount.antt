@@ -18,7 +18,7 @@ use Rattle.forms.specs.Forms.{Forms, Numbered, Count, are_known, count_line}
 use Rattle.forms.specs.Kept.{IsKept, forms_in}
 use Rattle.forms.specs.Stamped.{numbered_in}
 use Rattle.forms.specs.Within.{IsCount}
-use Rattle.forms.proofs.Knowing.{each_below, known, known_few}
+use Rattle.forms.proofs.Knowing.{each_within, known, known_few}
 
 -- a count of these literals is made
 module _ (outputs : ℕ) (inputs : List Literal) (f : Inside) (kept : IsKept f)
@@ -94,8 +94,7 @@ module _ (outputs : ℕ) (inputs : List Literal) (f : Inside) (kept : IsKept f)
           let below = k.below in
           subst (λ u. IsCount (next - 1) f.terms inputs u 0) (sym tree) (record {
             some = omega arith;
-            known = All-from_recursion (λ l. l.variable ≤ next - 1) inputs
-                (each_below (next - 1) inputs (omega arith));
+            known = each_within (next - 1) inputs (omega arith);
             below = tree_below_more g.fresh (next - 1 + 1) g.tree e
                 (stages_below outputs 1 v (tree_of inputs)
                 (tree_of_below v inputs k.once k.open_one (omega arith)));

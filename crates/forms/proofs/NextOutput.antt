@@ -10,8 +10,8 @@ use Rattle.std.proofs.lemmas.Option.{slice_get_within}
 use Rattle.cnf.specs.Literal.{Literal, positive}
 use Rattle.totalizer.specs.Stages.{Tree, Leaf, Node, Staged, size_of, outputs_of, stage}
 use Rattle.totalizer.specs.Grown.{HasStages}
-use Rattle.totalizer.proofs.Laws.{outputs_more, outputs_next, stage_below, stage_has, stage_takes}
-use Rattle.totalizer.proofs.Laws.{stage_worth, tree_below_more}
+use Rattle.totalizer.proofs.Laws.{outputs_more, outputs_next, size_positive, stage_below, stage_has}
+use Rattle.totalizer.proofs.Laws.{stage_takes, stage_worth, tree_below_more}
 use Rattle.linear.specs.Costs.{CostForm, widened}
 use Rattle.forms.specs.declared.numbered.Numbered.{Numbered as Stamped}
 use Rattle.forms.specs.declared.numbered.Numbered.TheVariants.{Count as StampedCount}
@@ -27,7 +27,6 @@ use Rattle.forms.specs.Kept.{IsKept, forms_in}
 use Rattle.forms.specs.Stamped.{IsStamped, numbered_at, numbered_in}
 use Rattle.forms.specs.Within.{CanGrow, IsCount, IsWithin}
 use Rattle.forms.proofs.Stamps.{found}
-use Rattle.forms.proofs.Staging.{some_leaf}
 
 pub count_grows : (v terms : ℕ) (inputs : List Literal) (tree : Tree) (multiplier : ℕ) → 0 < v
     → length (outputs_of tree) < size_of tree → IsCount (v - 1) terms inputs tree multiplier
@@ -105,7 +104,7 @@ pub latest_output : (v : ℕ) (tree : Tree) → length (outputs_of tree) < size_
 latest_output v (Leaf l) more = absurd (omega arith)
 latest_output v (Node a b own) more =
     ap last_of (outputs_next (length own + 1) v (Node a b own)
-    (omega (arith, some_leaf a, some_leaf b)) (omega arith))
+    (omega (arith, size_positive a, size_positive b)) (omega arith))
     ∙ last_push own (positive ((next_stage v (Node a b own)).fresh - 1))
 
 -- the count with a number has a further output

@@ -1,5 +1,6 @@
 -- Counts and groups under other stamps.
-use Rattle.std.proofs.Common.{◌≡◌, ℕ, zero, suc, ◌+◌, ◌-◌, ◌<◌, ◌≤◌, Bool, true, false, List, [], ◌∷◌, ◌++◌, refl}
+use Rattle.std.proofs.Common.{◌≡◌, ℕ, zero, suc, ◌+◌, ◌-◌, ◌<◌, ◌≤◌, Bool, true, false, List, []}
+use Rattle.std.proofs.Common.{◌∷◌, ◌++◌, refl}
 use Rattle.std.proofs.Common.{length, map, take, drop, get_or, set, sym, ◌∙◌, ap, subst, arith}
 use Rattle.std.proofs.Common.{slice_get, Some, None, inl, inr}
 use Rattle.std.specs.Prelude.{◌==◌, if◌then◌else◌, Option, slice_set}
@@ -54,7 +55,7 @@ forgotten q ns os i d new lt lo same before stamped one stamp =
     ap (numbered_in 1) (take_more_set ns i new lt)
     ∙ map-append (numbered_at 1) (take i ns) (new ∷ []) in
     let after : cleared (numbered_in q (take (i + 1) os))
-        ≡ cleared (numbered_in q (take i os)) ++ without_multiplier (numbered_at q (get_or os i d)) ∷ [] =
+    ≡ cleared (numbered_in q (take i os)) ++ without_multiplier (numbered_at q (get_or os i d)) ∷ [] =
     ap (λ l. cleared (numbered_in q l)) (take_more os i d lo)
     ∙ ap cleared (map-append (numbered_at q) (take i os) (get_or os i d ∷ []))
     ∙ map-append without_multiplier (numbered_in q (take i os)) (numbered_at q (get_or os i d) ∷ []) in (

@@ -1,5 +1,6 @@
 -- One weight more.
-use Rattle.std.proofs.Common.{◌≡◌, ℕ, ◌+◌, ◌<◌, pos, List, [], ◌∷◌, ◌++◌, length, map, take, get_or, refl, sym}
+use Rattle.std.proofs.Common.{◌≡◌, ℕ, ◌+◌, ◌<◌, pos, List, [], ◌∷◌, ◌++◌, length, map, take, get_or}
+use Rattle.std.proofs.Common.{refl, sym}
 use Rattle.std.proofs.Common.{◌∙◌, ap}
 use Rattle.std.proofs.lemmas.List.{map-append, take_more}
 use Rattle.cnf.specs.Literal.{Literal}
@@ -24,5 +25,5 @@ form_push n rs i r lt is =
     ∙ ap (λ x. form_of n (map weight_in (take i rs ++ x ∷ []))) (sym is)
     ∙ ap (form_of n) (map-append weight_in (take i rs) (r ∷ []))
     ∙ (λ j. record (form_of n before) {
-      cost = cost_push (form_of n []).cost before (weight_in r) j
+      cost = cost_push (form_of n []).cost before (weight_in r) j;
     })

@@ -1,5 +1,6 @@
 -- Worked lines.
-use Rattle.std.specs.Prelude.{◌≡◌, ℕ, true, false, List, [], ◌∷◌, Option, Some, None, Result, Ok, Err, refl}
+use Rattle.std.specs.Prelude.{◌≡◌, ℕ, true, false, List, [], ◌∷◌, Option, Some, None, Result, Ok}
+use Rattle.std.specs.Prelude.{Err, refl}
 use Rattle.cnf.specs.Literal.{Literal, positive as p, negative as n}
 use Rattle.forms.specs.declared.faults.LineFault.{LineFault}
 use Rattle.forms.specs.declared.faults.LineFault.TheVariants.{Name, Limit, Worth}

@@ -54,9 +54,7 @@ pub(crate) fn numbered_size(numbered: &Numbered) -> u64
 /// The stamp of a form that is begun, which no count has.
 pub(crate) fn next_stamp(numbered: &mut Vec<Numbered>, present: u64) -> u64
     requires { AreStamped present numbered.old.items }
-    ensures cleared {
-        numbered_in result numbered.new.items ≡ cleared (numbered_in present numbered.old.items)
-    }
+    ensures cleared { numbered_in result numbered.new.items ≡ cleared (numbered_in present numbered.old.items) }
     ensures stamped { AreStamped result numbered.new.items }
     ensures within { (variables terms : ℕ) → All (IsWithin variables terms) numbered.old.items
         → All (IsWithin variables terms) numbered.new.items }

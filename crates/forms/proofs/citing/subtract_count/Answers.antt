@@ -22,9 +22,13 @@ add_literals-requires-2-clause-room c =
     let same : to_z w128 (of_z w128 m) ≡ m = omega (arith, ints) in
     let other : to_z w128 (of_z w128 p) ≡ p = omega (arith, ints) in
     let before = rw same at c.add_literals.ensures.mass in
-    rw other (omega (arith, c.requires.room, before,
-    weighed _ (length c.args.inputs.now) c.minus.ensures.small,
-    weighed _ (length c.args.outputs.now) c.plus.ensures.small))
+    rw other (omega (
+      arith,
+      c.requires.room,
+      before,
+      weighed _ (length c.args.inputs.now) c.minus.ensures.small,
+      weighed _ (length c.args.outputs.now) c.plus.ensures.small,
+    ))
 
 pub returns-clause-mass : goal.returns-clause-mass
 returns-clause-mass c =
@@ -36,6 +40,10 @@ returns-clause-mass c =
     let other : to_z w128 (of_z w128 p) ≡ p = omega (arith, ints) in
     let before = rw same at c.add_literals.ensures.mass in
     let after = rw other at c.add_literals-2.ensures.mass in
-    omega (arith, before, after,
-    weighed _ (length c.args.inputs.now) c.minus.ensures.small,
-    weighed _ (length c.args.outputs.now) c.plus.ensures.small)
+    omega (
+      arith,
+      before,
+      after,
+      weighed _ (length c.args.inputs.now) c.minus.ensures.small,
+      weighed _ (length c.args.outputs.now) c.plus.ensures.small,
+    )

@@ -12,7 +12,7 @@ use Rattle.forms.specs.Within.{IsWithin}
 use Rattle.forms.proofs.NextOutput.{chosen_after, chosen_grows, chosen_line, chosen_multiplier}
 use Rattle.forms.proofs.NextOutput.{chosen_place, chosen_stamped, chosen_within, refused}
 use Rattle.forms.proofs.MassLaws.{mass_room, output_mass}
-use Rattle.forms.proofs.Widths.{widened_past}
+use Rattle.linear.proofs.Laws.{widened_width}
 use Rattle.forms.proofs.Withins.{wider_one, within_wider}
 use Rattle.forms.proofs.state.Forms.more.Goals as goal
 
@@ -179,7 +179,7 @@ invariant_of-self c =
     c.multiplier_of-multiplier.result c.self.invariant.mass
     (omega (arith, after.rises, after.worth)) often in
     record {
-      width = omega (arith, form, wide, widened_past v (f.bound).form, after.rises);
+      width = omega (arith, form, wide, widened_width v (f.bound).form, after.rises);
       marks = c.in-Ok.ensures.marks;
       variables =
           omega (arith, after.worth, after.rises, c.len.ensures, c.self.invariant.variables);

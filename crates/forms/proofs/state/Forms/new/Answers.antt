@@ -24,8 +24,12 @@ loop-weight-preserved c =
           ∙ ap add inv.form
           ∙ sym (form_push (c.args.variables + 1) rs i r c.loop-weight-test.true c.weight-item.is);
       sum =
-          omega (arith, c.add_weight.ensures.weights, inv.sum,
-          ap (sum_by (λ (x : Relaxation). x.weight)) more,
-          sum_by-append (λ (x : Relaxation). x.weight) (take i rs) (r ∷ []));
+          omega (
+            arith,
+            c.add_weight.ensures.weights,
+            inv.sum,
+            ap (sum_by (λ (x : Relaxation). x.weight)) more,
+            sum_by-append (λ (x : Relaxation). x.weight) (take i rs) (r ∷ []),
+          );
       mass = c.add_weight.ensures.mass ∙ inv.mass;
     }
