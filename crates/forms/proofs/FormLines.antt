@@ -26,7 +26,8 @@ size_cleared (Count inputs tree multiplier) = refl
 size_cleared (Group inputs) = refl
 
 found_cleared : (ns : List Numbered) (j : ℕ)
-    → option_map numbered_size (at_number (cleared ns) j) ≡ option_map numbered_size (at_number ns j)
+    → option_map numbered_size (at_number (cleared ns) j)
+    ≡ option_map numbered_size (at_number ns j)
 found_cleared ns zero = refl
 found_cleared ns (suc j) =
     ap (option_map numbered_size) (slice_get-map without_multiplier ns j) ∙ by (slice_get ns j)
@@ -90,7 +91,8 @@ less_cleared at s f =
 some_is : (m n : ℕ) → ◌≡◌ {A = Option ℕ} (Some m) (Some n) → m ≡ n
 some_is m n e = cc
 
-numbered_terms : (w j k : ℕ) (s : Forms) → option_map numbered_size (at_number s.numbered j) ≡ Some k
+numbered_terms : (w j k : ℕ) (s : Forms)
+    → option_map numbered_size (at_number s.numbered j) ≡ Some k
     → (less_numbered w j s).terms ≡ s.terms + k
 numbered_terms w j k s h = by (at_number s.numbered j) refl
   where

@@ -25,7 +25,8 @@ pub known : (s : Forms) (c : List Literal) → are_known s c ≡ true → IsKnow
 known s c h =
     let p = and_parts (nat_le (greatest_variable c) s.variables)
     (not (has_repeat c || is_tautology c)) h in
-    let q = or_parts (has_repeat c) (is_tautology c) (not-true (has_repeat c || is_tautology c) p.1) in
+    let q = or_parts (has_repeat c) (is_tautology c)
+    (not-true (has_repeat c || is_tautology c) p.1) in
     record {
       below = leb-true (greatest_variable c) s.variables p.0;
       once = q.0;
@@ -76,7 +77,8 @@ pub known_few : (n : ℕ) (c : List Literal) → greatest_variable c ≤ n → h
     → is_tautology c ≡ false → length c ≤ n + 1
 known_few n c h p q =
     subst (λ k. k ≤ n + 1) (length-map c (λ k. k.variable))
-    (length-le_from_distinct_below (map (λ k. k.variable) c) (n + 1) (all_apart c p q) (small n c h))
+    (length-le_from_distinct_below (map (λ k. k.variable) c) (n + 1) (all_apart c p q)
+    (small n c h))
 
 -- variables that are below the width have places
 pub below_width : (width : ℕ) (c : List Literal) → greatest_variable c < width

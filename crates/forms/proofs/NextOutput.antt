@@ -153,7 +153,8 @@ open_count number s h = by (at_number s.numbered number) refl
                     let gt = leb-false (s.made + length g.clauses) MOST_COUNT_CLAUSES m in
                     let z : None ≡ Some Limit =
                     h
-                    ∙ sym (too_many number s inputs tree multiplier e (omega arith) (omega arith)) in
+                    ∙ sym (too_many number s inputs tree multiplier e (omega arith)
+                    (omega arith)) in
                     absurd (cc)
               ]
         ]
@@ -223,7 +224,8 @@ module _ (number : ℕ) (f : Inside) (kept : IsKept f)
     chosen_item =
         let o = chosen_count in
         let e : Some (numbered_at f.present n) ≡ Some (Count o.inputs o.tree o.multiplier) =
-        sym (found f.numbered.items number n chosen_place.0 (omega (arith, chosen_place)) is f.present)
+        sym (found f.numbered.items number n chosen_place.0 (omega (arith, chosen_place)) is
+        f.present)
         ∙ o.open_one.is in
         cc
 

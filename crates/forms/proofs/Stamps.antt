@@ -51,16 +51,20 @@ forgotten q ns os i d new lt lo same before stamped one stamp =
     let head : get_or ns i d ≡ get_or os i d = ap (λ l. get_or l 0 d) both in
     let rest : drop (i + 1) ns ≡ drop (i + 1) os =
     subst (λ n. drop n ns ≡ drop n os) next (ap (λ l. drop 1 l) both) in
-    let now : numbered_in 1 (take (i + 1) (set ns i new)) ≡ numbered_in 1 (take i ns) ++ numbered_at 1 new ∷ [] =
+    let now : numbered_in 1 (take (i + 1) (set ns i new))
+    ≡ numbered_in 1 (take i ns) ++ numbered_at 1 new ∷ [] =
     ap (numbered_in 1) (take_more_set ns i new lt)
     ∙ map-append (numbered_at 1) (take i ns) (new ∷ []) in
     let after : cleared (numbered_in q (take (i + 1) os))
-    ≡ cleared (numbered_in q (take i os)) ++ without_multiplier (numbered_at q (get_or os i d)) ∷ [] =
+    ≡ cleared (numbered_in q (take i os))
+    ++ without_multiplier (numbered_at q (get_or os i d)) ∷ [] =
     ap (λ l. cleared (numbered_in q l)) (take_more os i d lo)
     ∙ ap cleared (map-append (numbered_at q) (take i os) (get_or os i d ∷ []))
-    ∙ map-append without_multiplier (numbered_in q (take i os)) (numbered_at q (get_or os i d) ∷ []) in (
+    ∙ map-append without_multiplier (numbered_in q (take i os))
+    (numbered_at q (get_or os i d) ∷ []) in (
       now ∙ (λ j. before j ++ one j ∷ [])
-          ∙ ap (λ x. cleared (numbered_in q (take i os)) ++ without_multiplier (numbered_at q x) ∷ []) head
+          ∙ ap (λ x. cleared (numbered_in q (take i os))
+          ++ without_multiplier (numbered_at q x) ∷ []) head
           ∙ sym after,
       drop-set-lt (i + 1) ns i new (omega arith) ∙ rest,
       subst (AreStamped 1) (sym (take_more_set ns i new lt))

@@ -21,6 +21,9 @@ at = numbered ((p 1 ∷ p 2 ∷ []) ∷ [])
 abbrev clause : ℕ → NamedFact
 clause w = record { weight = w; is_numbered = false; number = 1 }
 
+abbrev count : ℕ → NamedFact
+count w = record { weight = w; is_numbered = true; number = 1 }
+
 abbrev worth : Result Forms LineFault → List Literal → Result (Option ℕ) LineFault
 worth (Err e) c = Err e
 worth (Ok s) c = cut_line c s
@@ -54,7 +57,6 @@ on (Ok m) next = next m.forms
 
 -- a count of both with one output, which is known to be true
 counted : on (count_line 1 (p 1 ∷ p 2 ∷ []) shop)
-    (λ s. worth (form_line at (Some 1) (record { weight = 3; is_numbered = true; number = 1 } ∷ []) (heard (p 3 ∷ []) s)) [])
-    ≡ Ok (Some 3)
+    (λ s. worth (form_line at (Some 1) (count 3 ∷ []) (heard (p 3 ∷ []) s)) []) ≡ Ok (Some 3)
 unfolding on
 counted = refl

@@ -11,7 +11,11 @@ add_literals-requires-clause-room c =
     let m = c.minus.result in
     let fits : SFits w128 m = search rules in
     let same : to_z w128 (of_z w128 m) ≡ m = omega (arith, ints) in
-    rw same (omega (arith, c.requires.room, weighed _ (length c.args.inputs.now) c.minus.ensures.small))
+    rw same (omega (
+      arith,
+      c.requires.room,
+      weighed _ (length c.args.inputs.now) c.minus.ensures.small,
+    ))
 
 pub add_literals-requires-2-clause-room : goal.add_literals-requires-2-clause-room
 add_literals-requires-2-clause-room c =

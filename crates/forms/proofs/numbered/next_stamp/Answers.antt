@@ -29,7 +29,8 @@ loop-place-preserved c =
           let before = inv.within v t all in
           All-set (IsWithin v t) c.loop-place.numbered.items i c.forget.new.item
           (c.forget.ensures.within v t
-          (subst (IsWithin v t) (sym c.index_mut.ensures.value) (before i old (omega (arith, inv.long)))))
+          (subst (IsWithin v t) (sym c.index_mut.ensures.value)
+          (before i old (omega (arith, inv.long)))))
           before;
     }
 

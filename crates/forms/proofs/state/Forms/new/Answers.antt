@@ -17,7 +17,8 @@ loop-weight-preserved c =
     let add : CostForm → CostForm =
     λ f. record f { cost = plus_literal (pos r.weight) r.lit f.cost } in
     let more : take (i + 1) rs ≡ take i rs ++ r ∷ [] =
-    take_more rs i r c.loop-weight-test.true ∙ ap (λ x. take i rs ++ x ∷ []) (sym c.weight-item.is) in
+    take_more rs i r c.loop-weight-test.true
+    ∙ ap (λ x. take i rs ++ x ∷ []) (sym c.weight-item.is) in
     record {
       form =
           c.add_weight.ensures.form

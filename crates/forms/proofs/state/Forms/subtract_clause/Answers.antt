@@ -41,7 +41,8 @@ invariant_of-self-2 c =
       marks = old.marks;
       variables = old.variables;
       made = old.made;
-      terms = omega (arith, c.requires.room, ap (λ s. s.terms) c.self.view_is, c.clause_size.ensures);
+      terms =
+          omega (arith, c.requires.room, ap (λ s. s.terms) c.self.view_is, c.clause_size.ensures);
       mass =
           omega (
             arith,

@@ -22,7 +22,8 @@ subtract_item-requires-clause-room c =
     let n = numbered_at f.present c.index_mut-item.result.now in
     let e =
     found f.numbered.items c.args.number c.index_mut-item.result.now (omega arith)
-    (omega (arith, c.len.ensures, c.if-number-len.false)) c.index_mut-item.ensures.value f.present in
+    (omega (arith, c.len.ensures, c.if-number-len.false)) c.index_mut-item.ensures.value
+    f.present in
     let room : f.terms + numbered_size n ≤ MOST_TERMS =
     subst (λ o. IfSome o (λ m. f.terms + numbered_size m ≤ MOST_TERMS)) e
     (subst (λ s. IfSome (at_number s.numbered c.args.number)
@@ -40,7 +41,8 @@ overflow_add-self c =
     let n = numbered_at f.present c.index_mut-item.result.now in
     let e =
     found f.numbered.items c.args.number c.index_mut-item.result.now (omega arith)
-    (omega (arith, c.len.ensures, c.if-number-len.false)) c.index_mut-item.ensures.value f.present in
+    (omega (arith, c.len.ensures, c.if-number-len.false)) c.index_mut-item.ensures.value
+    f.present in
     let room : f.terms + numbered_size n ≤ MOST_TERMS =
     subst (λ o. IfSome o (λ m. f.terms + numbered_size m ≤ MOST_TERMS)) e
     (subst (λ s. IfSome (at_number s.numbered c.args.number)
@@ -57,7 +59,8 @@ invariant_of-self c =
     let size : c.numbered_size.result ≡ numbered_size n = c.numbered_size.ensures f.present in
     let e =
     found items c.args.number c.index_mut-item.result.now (omega arith)
-    (omega (arith, c.len.ensures, c.if-number-len.false)) c.index_mut-item.ensures.value f.present in
+    (omega (arith, c.len.ensures, c.if-number-len.false)) c.index_mut-item.ensures.value
+    f.present in
     let room : f.terms + numbered_size n ≤ MOST_TERMS =
     subst (λ o. IfSome o (λ m. f.terms + numbered_size m ≤ MOST_TERMS)) e
     (subst (λ s. IfSome (at_number s.numbered c.args.number)
@@ -110,7 +113,8 @@ returns c =
     let place = c.args.number - 1 in
     let e =
     found items c.args.number item (omega arith)
-    (omega (arith, c.len.ensures, c.if-number-len.false)) c.index_mut-item.ensures.value f.present in
+    (omega (arith, c.len.ensures, c.if-number-len.false)) c.index_mut-item.ensures.value
+    f.present in
     let numbered : numbered_in f.present (set items place c.subtract_item.new.item)
     ≡ set (numbered_in f.present items) place (cited w n) =
     map-set (numbered_at f.present) items place c.subtract_item.new.item
