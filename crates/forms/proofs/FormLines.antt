@@ -1,24 +1,22 @@
 -- Form lines, and their facts one after another.
-use Rattle.std.proofs.Common.{◌≡◌, ℕ, zero, suc, ◌+◌, ◌-◌, ◌<◌, ◌≤◌, Bool, true, false, List, []}
-use Rattle.std.proofs.Common.{◌∷◌, length}
-use Rattle.std.proofs.Common.{map, set, get_or, refl, sym, ◌∙◌, ap, subst, arith, Some, None, inl}
+use Rattle.std.proofs.Common.{◌≡◌, ℕ, zero, suc, ◌+◌, ◌-◌, ◌≤◌, false, List, []}
+use Rattle.std.proofs.Common.{◌∷◌}
+use Rattle.std.proofs.Common.{get_or, refl, sym, ◌∙◌, ap, subst, arith, Some, None, inl}
 use Rattle.std.proofs.Common.{inr}
-use Rattle.std.specs.Prelude.{Option, Result, Ok, Err, nat_le, IfSome, slice_get, slice_set}
+use Rattle.std.specs.Prelude.{Option, IfSome, slice_get}
 use Rattle.std.specs.Option.{option_map}
-use Rattle.std.proofs.lemmas.Bool.{cases_Bool, false_from_ne_true, le-leb, leb-true}
+use Rattle.std.proofs.lemmas.Bool.{cases_Bool}
 use Rattle.std.proofs.lemmas.Option.{slice_get-map, get_or_from_slice_get}
 use Rattle.std.proofs.Math.Seq.{map-set_same}
 use Rattle.cnf.specs.Refute.{Clauses}
 use Rattle.cnf.specs.Literal.{Literal}
 use Rattle.forms.specs.declared.types.NamedFact.{NamedFact}
-use Rattle.forms.specs.declared.faults.LineFault.{LineFault}
-use Rattle.forms.specs.declared.faults.LineFault.TheVariants.{Name, Limit, Worth}
 use Rattle.forms.specs.declared.faults.TheConstants.{MOST_TERMS}
-use Rattle.forms.specs.Forms.{Forms, Numbered, Count, Group, at_number, begun, cited, cleared}
+use Rattle.forms.specs.Forms.{Forms, Numbered, Count, Group, at_number, cited, cleared}
 use Rattle.forms.specs.Forms.{clause_size}
-use Rattle.forms.specs.Forms.{fact_size, facts_size, form_line, less_clause, less_fact, less_facts}
-use Rattle.forms.specs.Forms.{less_numbered, numbered_size, plus_size, without_multiplier}
-use Rattle.forms.specs.Answers.{HasFormFault, HasRoom, HasSizeFault}
+use Rattle.forms.specs.Forms.{fact_size, facts_size, less_fact}
+use Rattle.forms.specs.Forms.{less_numbered, numbered_size, without_multiplier}
+use Rattle.forms.specs.Answers.{HasRoom}
 
 -- sizes do not depend on multipliers
 size_cleared : (n : Numbered) → numbered_size (without_multiplier n) ≡ numbered_size n

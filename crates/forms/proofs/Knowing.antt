@@ -1,8 +1,8 @@
 -- What is known of literals that are there.
-use Rattle.std.proofs.Common.{◌≡◌, ℕ, zero, suc, ◌+◌, ◌*◌, ◌<◌, ◌≤◌, Bool, true, false, not, ◌&&◌}
+use Rattle.std.proofs.Common.{◌≡◌, ℕ, ◌+◌, ◌*◌, ◌<◌, ◌≤◌, true, false, not}
 use Rattle.std.proofs.Common.{◌||◌, List}
-use Rattle.std.proofs.Common.{[], ◌∷◌, length, map, arith, sym, ◌∙◌, ap, subst, inl, inr}
-use Rattle.std.specs.Prelude.{nat_le, max}
+use Rattle.std.proofs.Common.{[], ◌∷◌, length, map, arith, ◌∙◌, ap, subst, inl, inr}
+use Rattle.std.specs.Prelude.{nat_le}
 use Rattle.std.specs.List.{All, AllByRecursion, IsDistinct, list_any}
 use Rattle.std.proofs.lemmas.Bool.{and_parts, eqb-true, false≢true, leb-true, ne_eqb, not-true}
 use Rattle.std.proofs.lemmas.Bool.{or_cases, or_parts}

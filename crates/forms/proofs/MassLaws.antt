@@ -1,8 +1,6 @@
 -- How much facts add to a form.
-use Rattle.std.proofs.Common.{◌≡◌, ℕ, ◌+◌, ◌*◌, ◌<◌, ◌≤◌, ◌^◌, List, length, arith}
+use Rattle.std.proofs.Common.{◌≡◌, ℕ, ◌+◌, ◌*◌, ◌≤◌, ◌^◌, arith}
 use Rattle.std.proofs.Math.Nat.{mul-add, mul-le-mul_left}
-use Rattle.cnf.specs.Literal.{Literal}
-use Rattle.forms.specs.Forms.{clause_size}
 use Rattle.forms.specs.Kept.{most_mass}
 
 -- twice a weight for each of so many literals

@@ -1,10 +1,9 @@
 -- Counts that are made.
 use Rattle.std.proofs.Common.{◌≡◌, ℕ, ◌+◌, ◌-◌, ◌<◌, ◌≤◌, ◌^◌, true, false, List, [], ◌∷◌, ◌++◌}
 use Rattle.std.proofs.Common.{length, refl, sym, ◌∙◌, ap, subst, arith, rules, Ok, nat_le}
-use Rattle.std.specs.Prelude.{All, Err}
-use Rattle.std.proofs.lemmas.List.Elements.{All-from_recursion}
+use Rattle.std.specs.Prelude.{Err}
 use Rattle.cnf.specs.Literal.{Literal}
-use Rattle.totalizer.specs.Stages.{Tree, outputs_of, size_of, stages, totalizer_of, tree_of}
+use Rattle.totalizer.specs.Stages.{Tree, size_of, stages, totalizer_of, tree_of}
 use Rattle.totalizer.specs.Grown.{HasStages}
 use Rattle.totalizer.proofs.Laws.{bare_has, outputs_count, stages_below, stages_from, stages_size}
 use Rattle.totalizer.proofs.Laws.{totalizer_has, totalizer_worth, tree_below_more, tree_of_below}
@@ -14,7 +13,7 @@ use Rattle.forms.specs.declared.faults.LineFault.TheVariants.{Limit}
 use Rattle.forms.specs.declared.faults.TheConstants.{MOST_COUNT_CLAUSES}
 use Rattle.forms.specs.declared.state.Forms.TheInside.{Inside}
 use Rattle.forms.specs.Answers.{HasGrown}
-use Rattle.forms.specs.Forms.{Forms, Numbered, Count, are_known, count_line}
+use Rattle.forms.specs.Forms.{Numbered, Count, are_known, count_line}
 use Rattle.forms.specs.Kept.{IsKept, forms_in}
 use Rattle.forms.specs.Stamped.{numbered_in}
 use Rattle.forms.specs.Within.{IsCount}

@@ -5,7 +5,6 @@ use Rattle.cnf.specs.Literal.{Literal}
 use Rattle.totalizer.specs.Stages.{Tree, Leaf, Node, Staged, size_of, outputs_of, stage, stages}
 use Rattle.totalizer.specs.Grown.{HasStages}
 use Rattle.totalizer.proofs.Laws.{outputs_count, size_positive, stages_has, stages_size}
-use Rattle.totalizer.proofs.Laws.{stages_worth}
 
 -- behind what was done before
 abbrev pub staged_behind : List (List Literal) → Staged → Staged

@@ -1,9 +1,9 @@
 -- Counts and groups under other stamps.
-use Rattle.std.proofs.Common.{◌≡◌, ℕ, zero, suc, ◌+◌, ◌-◌, ◌<◌, ◌≤◌, Bool, true, false, List, []}
+use Rattle.std.proofs.Common.{◌≡◌, ℕ, zero, suc, ◌+◌, ◌-◌, ◌<◌, ◌≤◌, List, []}
 use Rattle.std.proofs.Common.{◌∷◌, ◌++◌, refl}
-use Rattle.std.proofs.Common.{length, map, take, drop, get_or, set, sym, ◌∙◌, ap, subst, arith}
-use Rattle.std.proofs.Common.{slice_get, Some, None, inl, inr}
-use Rattle.std.specs.Prelude.{◌==◌, if◌then◌else◌, Option, slice_set}
+use Rattle.std.proofs.Common.{length, take, drop, get_or, set, sym, ◌∙◌, ap, subst, arith}
+use Rattle.std.proofs.Common.{Some, inl, inr}
+use Rattle.std.specs.Prelude.{◌==◌, slice_set}
 use Rattle.std.specs.List.{AllByRecursion}
 use Rattle.std.specs.Option.{option_map}
 use Rattle.std.proofs.lemmas.Bool.{cases_Bool, eqb-true}
@@ -15,7 +15,7 @@ use Rattle.cnf.proofs.Laws.{all_push}
 use Rattle.forms.specs.declared.numbered.Numbered.{Numbered as Stamped}
 use Rattle.forms.specs.declared.numbered.Numbered.TheVariants.{Count as StampedCount}
 use Rattle.forms.specs.declared.numbered.Numbered.TheVariants.{Group as StampedGroup}
-use Rattle.forms.specs.Forms.{Forms, Numbered, Count, Group, at_number, cited, cleared, less_item}
+use Rattle.forms.specs.Forms.{Forms, Numbered, at_number, cited, cleared, less_item}
 use Rattle.forms.specs.Forms.{less_numbered, numbered_size, without_multiplier}
 use Rattle.forms.specs.Stamped.{AreStamped, IsStamped, numbered_in, numbered_at}
 

@@ -7,7 +7,7 @@ use Rattle.cnf.specs.Literal.{Literal}
 use Rattle.adder.specs.declared.relaxations.Relaxation.{Relaxation}
 use Rattle.adder.specs.Parts.{weight_in}
 use Rattle.linear.specs.Linear.{Linear, plus_literal}
-use Rattle.linear.specs.Costs.{CostForm, cost_from, form_of}
+use Rattle.linear.specs.Costs.{cost_from, form_of}
 
 cost_push : (f : Linear) (ws : List (ℕ × Literal)) (e : ℕ × Literal)
     → cost_from f (ws ++ e ∷ []) ≡ plus_literal (pos e.0) e.1 (cost_from f ws)

@@ -1,8 +1,6 @@
 -- The widths of forms.
-use Rattle.std.proofs.Common.{◌≡◌, ℕ, ◌+◌, ◌-◌, ◌≤◌, ◌++◌, List, length, length-append, arith, refl}
-use Rattle.std.specs.Prelude.{Bool, Option, None, replicate}
-use Rattle.std.proofs.lemmas.List.{length-replicate}
-use Rattle.linear.specs.Costs.{CostForm, width_of, widened}
+use Rattle.std.proofs.Common.{◌≡◌, ℕ, refl}
+use Rattle.linear.specs.Costs.{CostForm, width_of}
 use Rattle.forms.specs.Forms.{Numbered, Count, Group, less_item}
 
 -- a fact changes none

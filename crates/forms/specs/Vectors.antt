@@ -1,14 +1,14 @@
 -- Worked lines.
-use Rattle.std.specs.Prelude.{◌≡◌, ℕ, true, false, List, [], ◌∷◌, Option, Some, None, Result, Ok}
+use Rattle.std.specs.Prelude.{◌≡◌, ℕ, true, false, List, [], ◌∷◌, Option, Some, Result, Ok}
 use Rattle.std.specs.Prelude.{Err, refl}
 use Rattle.cnf.specs.Literal.{Literal, positive as p, negative as n}
 use Rattle.forms.specs.declared.faults.LineFault.{LineFault}
-use Rattle.forms.specs.declared.faults.LineFault.TheVariants.{Name, Limit, Worth}
+use Rattle.forms.specs.declared.faults.LineFault.TheVariants.{Name}
 use Rattle.forms.specs.declared.types.NamedFact.{NamedFact}
 use Rattle.cnf.specs.Formula.{numbered}
 use Rattle.cnf.specs.Refute.{Clauses}
 use Rattle.forms.specs.Forms.{Forms, Made, forms_of, heard, count_line}
-use Rattle.forms.specs.Forms.{more_line, group_line, form_line, cut_line, bound_line}
+use Rattle.forms.specs.Forms.{form_line, cut_line}
 
 -- 3 for the first variable, 4 for the second
 abbrev shop : Forms

@@ -1,6 +1,5 @@
-use Rattle.std.proofs.Common.{rules, ◌≡◌, ◌+◌, ◌*◌, ◌≤◌, ◌^◌, length, arith, to_z, of_z, subst, sym}
+use Rattle.std.proofs.Common.{rules, ◌≡◌, length, arith, to_z, of_z}
 use Rattle.std.proofs.lemmas.Int.{ints}
-use Rattle.std.specs.Int.RustNames.{unsigned_abs}
 use mir.Syntax.{w128}
 use mir.Val.{SFits}
 use Rattle.forms.proofs.MassLaws.{weighed}

@@ -1,4 +1,4 @@
-use Rattle.std.proofs.Common.{◌<◌, ℕ, arith, length}
+use Rattle.std.proofs.Common.{arith}
 use Rattle.forms.proofs.Stamps.{found}
 use Rattle.forms.proofs.numbered.find.Goals as goal
 

@@ -1,5 +1,5 @@
 -- One more is forgotten.
-use Rattle.std.proofs.Common.{◌<◌, ◌∙◌, length, length-set, ap, arith, get_or, subst, sym}
+use Rattle.std.proofs.Common.{◌∙◌, length-set, ap, arith, subst, sym}
 use Rattle.std.proofs.lemmas.List.Elements.{All-set, recursion_from_All}
 use Rattle.forms.specs.Forms.{without_multiplier}
 use Rattle.forms.specs.Stamped.{IsStamped, numbered_at}

@@ -5,7 +5,6 @@ use Rattle.linear.specs.Costs.{width_of}
 use Rattle.forms.specs.declared.faults.TheConstants.{MOST_COUNT_CLAUSES}
 use Rattle.forms.specs.Answers.{IsGrown}
 use Rattle.forms.specs.Forms.{are_known, count_line}
-use Rattle.forms.specs.Kept.{most_mass}
 use Rattle.forms.proofs.MassLaws.{mass_rises}
 use Rattle.forms.proofs.NewCount.{new_bare, new_count, new_few, new_from, new_limit, new_line}
 use Rattle.forms.proofs.NewCount.{new_room, new_size, new_worth}

@@ -1,11 +1,10 @@
 -- One more output.
-use Rattle.std.proofs.Common.{◌≡◌, ◌+◌, ◌-◌, ◌<◌, ◌≤◌, Some, None, length, ap, sym, ◌∙◌, arith}
+use Rattle.std.proofs.Common.{◌+◌, ◌-◌, ◌≤◌, length, ap, sym, ◌∙◌, arith}
 use Rattle.std.proofs.Common.{subst, refl, pos, ◌∷◌, []}
 use Rattle.std.proofs.lemmas.List.Elements.{All-set}
 use Rattle.cnf.specs.Literal.{positive}
-use Rattle.linear.specs.Costs.{CostForm, widened, width_of}
-use Rattle.forms.specs.Answers.{fault_of}
-use Rattle.forms.specs.Forms.{more_line, next_stage, plus}
+use Rattle.linear.specs.Costs.{width_of}
+use Rattle.forms.specs.Forms.{more_line, plus}
 use Rattle.forms.specs.Kept.{forms_in, most_mass}
 use Rattle.forms.specs.Stamped.{IsStamped, numbered_in}
 use Rattle.forms.specs.Within.{IsWithin}

@@ -1,4 +1,4 @@
-use Rattle.std.proofs.Common.{◌≡◌, ◌+◌, ◌*◌, ◌<◌, ◌≤◌, ◌^◌, ap, arith}
+use Rattle.std.proofs.Common.{◌+◌, ◌*◌, ◌^◌, ap, arith}
 use Rattle.linear.specs.Costs.{width_of}
 use Rattle.forms.specs.Forms.{clause_size}
 use Rattle.forms.specs.Kept.{most_mass}

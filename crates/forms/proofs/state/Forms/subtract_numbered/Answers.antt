@@ -1,12 +1,11 @@
-use Rattle.std.proofs.Common.{◌≡◌, ◌+◌, ◌-◌, ◌*◌, ◌<◌, ◌≤◌, ◌^◌, ◌∙◌, sym, ap, subst, length, set}
+use Rattle.std.proofs.Common.{◌≡◌, ◌+◌, ◌-◌, ◌*◌, ◌≤◌, ◌^◌, ◌∙◌, sym, ap, subst, set}
 use Rattle.std.proofs.Common.{arith}
-use Rattle.std.proofs.Common.{Some}
 use Rattle.std.specs.Prelude.{IfSome}
 use Rattle.std.proofs.lemmas.List.{map-set}
 use Rattle.std.proofs.lemmas.List.Elements.{All-set}
 use Rattle.linear.specs.Costs.{width_of}
 use Rattle.forms.specs.declared.faults.TheConstants.{MOST_TERMS}
-use Rattle.forms.specs.Forms.{at_number, cited, less_item, less_numbered, numbered_size}
+use Rattle.forms.specs.Forms.{at_number, cited, less_numbered, numbered_size}
 use Rattle.forms.specs.Kept.{forms_in, most_mass}
 use Rattle.forms.specs.Stamped.{IsStamped, numbered_at, numbered_in}
 use Rattle.forms.specs.Within.{IsWithin}
