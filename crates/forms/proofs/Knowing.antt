@@ -1,13 +1,14 @@
 -- What is known of literals that are there.
-use Rattle.std.proofs.Common.{◌≡◌, ℕ, zero, suc, ◌+◌, ◌*◌, ◌<◌, ◌≤◌, Bool, true, false, not, ◌&&◌, ◌||◌, List}
-use Rattle.std.proofs.Common.{[], ◌∷◌, length, map, arith, sym, ◌∙◌, ap, subst, inl, inr}
-use Rattle.std.specs.Prelude.{nat_le, max}
+use Rattle.std.proofs.Common.{◌≡◌, ℕ, ◌+◌, ◌*◌, ◌<◌, ◌≤◌, true, false, not}
+use Rattle.std.proofs.Common.{◌||◌, List}
+use Rattle.std.proofs.Common.{[], ◌∷◌, length, map, arith, ◌∙◌, ap, subst, inl, inr}
+use Rattle.std.specs.Prelude.{nat_le}
 use Rattle.std.specs.List.{All, AllByRecursion, IsDistinct, list_any}
 use Rattle.std.proofs.lemmas.Bool.{and_parts, eqb-true, false≢true, leb-true, ne_eqb, not-true}
 use Rattle.std.proofs.lemmas.Bool.{or_cases, or_parts}
 use Rattle.std.proofs.Math.Dec.{eqb}
 use Rattle.std.proofs.lemmas.List.{length-map}
-use Rattle.std.proofs.lemmas.List.Elements.{All-from_recursion, recursion_from_All}
+use Rattle.std.proofs.lemmas.List.Elements.{All-from_recursion, All-weaker, recursion_from_All}
 use Rattle.std.proofs.lemmas.Map.Steps.{length-le_from_distinct_below}
 use Rattle.cnf.specs.Literal.{Literal, literal_eq, negation}
 use Rattle.cnf.specs.Clause.{contains_literal, greatest_variable, has_repeat, is_tautology}
@@ -24,18 +25,13 @@ pub known : (s : Forms) (c : List Literal) → are_known s c ≡ true → IsKnow
 known s c h =
     let p = and_parts (nat_le (greatest_variable c) s.variables)
     (not (has_repeat c || is_tautology c)) h in
-    let q = or_parts (has_repeat c) (is_tautology c) (not-true (has_repeat c || is_tautology c) p.1) in
+    let q = or_parts (has_repeat c) (is_tautology c)
+    (not-true (has_repeat c || is_tautology c) p.1) in
     record {
       below = leb-true (greatest_variable c) s.variables p.0;
       once = q.0;
       open_one = q.1;
     }
-
--- each variable is at most the greatest one
-pub each_below : (n : ℕ) (c : List Literal) → greatest_variable c ≤ n
-    → AllByRecursion (λ l. l.variable ≤ n) c
-each_below n [] h = tt
-each_below n (l ∷ c) h = (omega arith, each_below n c (omega arith))
 
 -- with places for the marks of their literals
 pub known_places : (n rows : ℕ) (c : List Literal) → 2 * n ≤ rows → greatest_variable c ≤ n
@@ -81,7 +77,8 @@ pub known_few : (n : ℕ) (c : List Literal) → greatest_variable c ≤ n → h
     → is_tautology c ≡ false → length c ≤ n + 1
 known_few n c h p q =
     subst (λ k. k ≤ n + 1) (length-map c (λ k. k.variable))
-    (length-le_from_distinct_below (map (λ k. k.variable) c) (n + 1) (all_apart c p q) (small n c h))
+    (length-le_from_distinct_below (map (λ k. k.variable) c) (n + 1) (all_apart c p q)
+    (small n c h))
 
 -- variables that are below the width have places
 pub below_width : (width : ℕ) (c : List Literal) → greatest_variable c < width
@@ -92,6 +89,13 @@ below_width width c h = All-from_recursion (λ l. l.variable < width) c (by c h)
         → AllByRecursion (λ l. l.variable < width) d
     by [] g = tt
     by (l ∷ d) g = (omega arith, by d (omega arith))
+
+-- each variable is at most the greatest one
+pub each_within : (n : ℕ) (c : List Literal) → greatest_variable c ≤ n
+    → All (λ l. l.variable ≤ n) c
+each_within n c h =
+    All-weaker (λ l. l.variable < n + 1) (λ l. l.variable ≤ n) (λ l p. omega (arith, p)) c
+    (below_width (n + 1) c (omega arith))
 
 pub known_within : (s : Forms) (width : ℕ) (c : List Literal) → s.variables < width
     → are_known s c ≡ true → All (λ l. l.variable < width) c

@@ -1,13 +1,14 @@
 -- Worked lines.
-use Rattle.std.specs.Prelude.{◌≡◌, ℕ, true, false, List, [], ◌∷◌, Option, Some, None, Result, Ok, Err, refl}
+use Rattle.std.specs.Prelude.{◌≡◌, ℕ, true, false, List, [], ◌∷◌, Option, Some, Result, Ok}
+use Rattle.std.specs.Prelude.{Err, refl}
 use Rattle.cnf.specs.Literal.{Literal, positive as p, negative as n}
 use Rattle.forms.specs.declared.faults.LineFault.{LineFault}
-use Rattle.forms.specs.declared.faults.LineFault.TheVariants.{Name, Limit, Worth}
+use Rattle.forms.specs.declared.faults.LineFault.TheVariants.{Name}
 use Rattle.forms.specs.declared.types.NamedFact.{NamedFact}
 use Rattle.cnf.specs.Formula.{numbered}
 use Rattle.cnf.specs.Refute.{Clauses}
 use Rattle.forms.specs.Forms.{Forms, Made, forms_of, heard, count_line}
-use Rattle.forms.specs.Forms.{more_line, group_line, form_line, cut_line, bound_line}
+use Rattle.forms.specs.Forms.{form_line, cut_line}
 
 -- 3 for the first variable, 4 for the second
 abbrev shop : Forms
@@ -19,6 +20,9 @@ at = numbered ((p 1 ∷ p 2 ∷ []) ∷ [])
 
 abbrev clause : ℕ → NamedFact
 clause w = record { weight = w; is_numbered = false; number = 1 }
+
+abbrev count : ℕ → NamedFact
+count w = record { weight = w; is_numbered = true; number = 1 }
 
 abbrev worth : Result Forms LineFault → List Literal → Result (Option ℕ) LineFault
 worth (Err e) c = Err e
@@ -53,7 +57,6 @@ on (Ok m) next = next m.forms
 
 -- a count of both with one output, which is known to be true
 counted : on (count_line 1 (p 1 ∷ p 2 ∷ []) shop)
-    (λ s. worth (form_line at (Some 1) (record { weight = 3; is_numbered = true; number = 1 } ∷ []) (heard (p 3 ∷ []) s)) [])
-    ≡ Ok (Some 3)
+    (λ s. worth (form_line at (Some 1) (count 3 ∷ []) (heard (p 3 ∷ []) s)) []) ≡ Ok (Some 3)
 unfolding on
 counted = refl
