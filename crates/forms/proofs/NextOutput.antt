@@ -94,7 +94,8 @@ stage_rises v (Node a b own) more =
     let right = stage_takes (length own + 1) (stage (length own + 1) v a).fresh b in
     rw e (omega (arith, left.from, right.from))
 
-last_push : (ls : List Literal) (l : Literal) → last_of (ls ++ l ∷ []) ≡ l ∷ []
+-- the last of a list to which one more has come
+pub last_push : (ls : List Literal) (l : Literal) → last_of (ls ++ l ∷ []) ≡ l ∷ []
 last_push [] l = refl
 last_push (k ∷ []) l = refl
 last_push (k ∷ j ∷ ls) l = last_push (j ∷ ls) l

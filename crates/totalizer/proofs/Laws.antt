@@ -1,4 +1,5 @@
 -- The laws of this crate that other crates cite, from one place.
+pub use Rattle.totalizer.proofs.Apart.{AreDifferent, IsNew, below_greatest, different_from}
 pub use Rattle.totalizer.proofs.Extending.{Extends, bare_means, leaves_same, means_same}
 pub use Rattle.totalizer.proofs.Extending.{stage_extends, stages_extend, totalizer_extends}
 pub use Rattle.totalizer.proofs.Growing.{bare_has, outputs_count, outputs_more, stage_has}
