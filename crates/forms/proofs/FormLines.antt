@@ -1,26 +1,22 @@
 -- Form lines, and their facts one after another.
-use Rattle.std.proofs.Common.{◌≡◌, ℕ, zero, suc, ◌+◌, ◌-◌, ◌<◌, ◌≤◌, Bool, true, false, List, [], ◌∷◌, length}
-use Rattle.std.proofs.Common.{map, set, get_or, refl, sym, ◌∙◌, ap, subst, arith, Some, None, inl, inr}
-use Rattle.std.specs.Prelude.{Option, Result, Ok, Err, nat_le, IfSome, slice_get, slice_set}
+use Rattle.std.proofs.Common.{◌≡◌, ℕ, zero, suc, ◌+◌, ◌-◌, ◌≤◌, false, List, []}
+use Rattle.std.proofs.Common.{◌∷◌}
+use Rattle.std.proofs.Common.{get_or, refl, sym, ◌∙◌, ap, subst, arith, Some, None, inl}
+use Rattle.std.proofs.Common.{inr}
+use Rattle.std.specs.Prelude.{Option, IfSome, slice_get}
 use Rattle.std.specs.Option.{option_map}
-use Rattle.std.proofs.lemmas.Bool.{cases_Bool, false_from_ne_true, le-leb, leb-true}
+use Rattle.std.proofs.lemmas.Bool.{cases_Bool}
 use Rattle.std.proofs.lemmas.Option.{slice_get-map, get_or_from_slice_get}
 use Rattle.std.proofs.Math.Seq.{map-set_same}
 use Rattle.cnf.specs.Refute.{Clauses}
 use Rattle.cnf.specs.Literal.{Literal}
 use Rattle.forms.specs.declared.types.NamedFact.{NamedFact}
-use Rattle.forms.specs.declared.faults.LineFault.{LineFault}
-use Rattle.forms.specs.declared.faults.LineFault.TheVariants.{Name, Limit, Worth}
 use Rattle.forms.specs.declared.faults.TheConstants.{MOST_TERMS}
-use Rattle.forms.specs.Forms.{Forms, Numbered, Count, Group, at_number, begun, cited, cleared}
+use Rattle.forms.specs.Forms.{Forms, Numbered, Count, Group, at_number, cited, cleared}
 use Rattle.forms.specs.Forms.{clause_size}
-use Rattle.forms.specs.Forms.{fact_size, facts_size, form_line, less_clause, less_fact, less_facts}
-use Rattle.forms.specs.Forms.{less_numbered, numbered_size, plus_size, without_multiplier}
-use Rattle.forms.specs.Answers.{HasFormFault, HasRoom, HasSizeFault}
-
-not_le : (m n : ℕ) → n < m → nat_le m n ≡ false
-not_le m n h = false_from_ne_true (nat_le m n) (λ e. let g = leb-true m n e in
-    let bad : ⊥ = omega arith in bad)
+use Rattle.forms.specs.Forms.{fact_size, facts_size, less_fact}
+use Rattle.forms.specs.Forms.{less_numbered, numbered_size, without_multiplier}
+use Rattle.forms.specs.Answers.{HasRoom}
 
 -- sizes do not depend on multipliers
 size_cleared : (n : Numbered) → numbered_size (without_multiplier n) ≡ numbered_size n
@@ -28,7 +24,8 @@ size_cleared (Count inputs tree multiplier) = refl
 size_cleared (Group inputs) = refl
 
 found_cleared : (ns : List Numbered) (j : ℕ)
-    → option_map numbered_size (at_number (cleared ns) j) ≡ option_map numbered_size (at_number ns j)
+    → option_map numbered_size (at_number (cleared ns) j)
+    ≡ option_map numbered_size (at_number ns j)
 found_cleared ns zero = refl
 found_cleared ns (suc j) =
     ap (option_map numbered_size) (slice_get-map without_multiplier ns j) ∙ by (slice_get ns j)
@@ -55,26 +52,6 @@ pub facts_same : (at : Clauses) (ns ms : List Numbered) (fs : List NamedFact)
     → cleared ms ≡ cleared ns → facts_size at ms fs ≡ facts_size at ns fs
 facts_same at ns ms fs e =
     sym (facts_cleared at ms fs) ∙ ap (λ x. facts_size at x fs) e ∙ facts_cleared at ns fs
-
--- where a form is there, or begins, it is refused for its facts alone
-pub judged : (at : Clauses) (scale : Option ℕ) (facts : List NamedFact) (s : Forms)
-    (fault : Option LineFault) → (scale ≡ None → s.has_form ≡ true)
-    → HasSizeFault at s facts fault → HasFormFault at scale facts s fault
-judged at (Some d) facts s None can h = (h, rw (h.1, le-leb (s.terms + h.0) MOST_TERMS h.2) refl)
-judged at None facts s None can h =
-    (h, rw (can refl, h.1, le-leb (s.terms + h.0) MOST_TERMS h.2) refl)
-judged at (Some d) facts s (Some Name) can h = rw h refl
-judged at None facts s (Some Name) can h = rw (can refl, h) refl
-judged at (Some d) facts s (Some Limit) can h =
-    rw (h.1, not_le (s.terms + h.0) MOST_TERMS h.2) refl
-judged at None facts s (Some Limit) can h =
-    rw (can refl, h.1, not_le (s.terms + h.0) MOST_TERMS h.2) refl
-judged at scale facts s (Some Worth) can h = absurd h
-
--- no form goes on where there is none
-pub none_goes_on : (at : Clauses) (facts : List NamedFact) (s : Forms) → s.has_form ≡ false
-    → form_line at None facts s ≡ Err Name
-none_goes_on at facts s e = rw e refl
 
 cited_cleared : (w : ℕ) (n : Numbered) → without_multiplier (cited w n) ≡ without_multiplier n
 cited_cleared w (Count inputs tree multiplier) = refl
@@ -112,7 +89,8 @@ less_cleared at s f =
 some_is : (m n : ℕ) → ◌≡◌ {A = Option ℕ} (Some m) (Some n) → m ≡ n
 some_is m n e = cc
 
-numbered_terms : (w j k : ℕ) (s : Forms) → option_map numbered_size (at_number s.numbered j) ≡ Some k
+numbered_terms : (w j k : ℕ) (s : Forms)
+    → option_map numbered_size (at_number s.numbered j) ≡ Some k
     → (less_numbered w j s).terms ≡ s.terms + k
 numbered_terms w j k s h = by (at_number s.numbered j) refl
   where

@@ -4,9 +4,10 @@ mod FactSizes
 mod Staging
 mod MassLaws
 mod Knowing
-mod NextOutput
+pub mod NextOutput
 mod Withins
 mod Widths
 mod NewCount
 mod Weighing
 mod FormLines
+pub mod Laws

@@ -1,8 +1,6 @@
 -- How much facts add to a form.
-use Rattle.std.proofs.Common.{◌≡◌, ℕ, ◌+◌, ◌*◌, ◌<◌, ◌≤◌, ◌^◌, List, length, arith}
+use Rattle.std.proofs.Common.{◌≡◌, ℕ, ◌+◌, ◌*◌, ◌≤◌, ◌^◌, arith}
 use Rattle.std.proofs.Math.Nat.{mul-add, mul-le-mul_left}
-use Rattle.cnf.specs.Literal.{Literal}
-use Rattle.forms.specs.Forms.{clause_size}
 use Rattle.forms.specs.Kept.{most_mass}
 
 -- twice a weight for each of so many literals
@@ -19,11 +17,6 @@ more_mass terms size made mass by h g = grind arith
 -- and there is room for them
 pub mass_room : (terms made : ℕ) → terms ≤ 2 ^ 32 → made ≤ 2 ^ 22 → most_mass terms made ≤ 2 ^ 120
 mass_room terms made h g = grind arith
-
--- a clause's fact
-pub clause_weighed : (w : ℕ) (c : List Literal) → w ≤ 2 ^ 62
-    → 2 * w * length c + w ≤ 3 * 2 ^ 62 * clause_size c
-clause_weighed w c h = omega (arith, weighed w (length c) h)
 
 -- one more output of a count, which takes a clause or more
 pub output_mass : (terms made n mass multiplier : ℕ) → mass ≤ most_mass terms made → 1 ≤ n

@@ -1,10 +1,9 @@
 -- Counts that are made.
 use Rattle.std.proofs.Common.{◌≡◌, ℕ, ◌+◌, ◌-◌, ◌<◌, ◌≤◌, ◌^◌, true, false, List, [], ◌∷◌, ◌++◌}
 use Rattle.std.proofs.Common.{length, refl, sym, ◌∙◌, ap, subst, arith, rules, Ok, nat_le}
-use Rattle.std.specs.Prelude.{All, Err}
-use Rattle.std.proofs.lemmas.List.Elements.{All-from_recursion}
+use Rattle.std.specs.Prelude.{Err}
 use Rattle.cnf.specs.Literal.{Literal}
-use Rattle.totalizer.specs.Stages.{Tree, outputs_of, size_of, stages, totalizer_of, tree_of}
+use Rattle.totalizer.specs.Stages.{Tree, size_of, stages, totalizer_of, tree_of}
 use Rattle.totalizer.specs.Grown.{HasStages}
 use Rattle.totalizer.proofs.Laws.{bare_has, outputs_count, stages_below, stages_from, stages_size}
 use Rattle.totalizer.proofs.Laws.{totalizer_has, totalizer_worth, tree_below_more, tree_of_below}
@@ -14,11 +13,11 @@ use Rattle.forms.specs.declared.faults.LineFault.TheVariants.{Limit}
 use Rattle.forms.specs.declared.faults.TheConstants.{MOST_COUNT_CLAUSES}
 use Rattle.forms.specs.declared.state.Forms.TheInside.{Inside}
 use Rattle.forms.specs.Answers.{HasGrown}
-use Rattle.forms.specs.Forms.{Forms, Numbered, Count, are_known, count_line}
+use Rattle.forms.specs.Forms.{Numbered, Count, are_known, count_line}
 use Rattle.forms.specs.Kept.{IsKept, forms_in}
 use Rattle.forms.specs.Stamped.{numbered_in}
 use Rattle.forms.specs.Within.{IsCount}
-use Rattle.forms.proofs.Knowing.{each_below, known, known_few}
+use Rattle.forms.proofs.Knowing.{each_within, known, known_few}
 
 -- a count of these literals is made
 module _ (outputs : ℕ) (inputs : List Literal) (f : Inside) (kept : IsKept f)
@@ -94,8 +93,7 @@ module _ (outputs : ℕ) (inputs : List Literal) (f : Inside) (kept : IsKept f)
           let below = k.below in
           subst (λ u. IsCount (next - 1) f.terms inputs u 0) (sym tree) (record {
             some = omega arith;
-            known = All-from_recursion (λ l. l.variable ≤ next - 1) inputs
-                (each_below (next - 1) inputs (omega arith));
+            known = each_within (next - 1) inputs (omega arith);
             below = tree_below_more g.fresh (next - 1 + 1) g.tree e
                 (stages_below outputs 1 v (tree_of inputs)
                 (tree_of_below v inputs k.once k.open_one (omega arith)));

@@ -10,8 +10,8 @@ use Rattle.std.proofs.lemmas.Option.{slice_get_within}
 use Rattle.cnf.specs.Literal.{Literal, positive}
 use Rattle.totalizer.specs.Stages.{Tree, Leaf, Node, Staged, size_of, outputs_of, stage}
 use Rattle.totalizer.specs.Grown.{HasStages}
-use Rattle.totalizer.proofs.Laws.{outputs_more, outputs_next, stage_below, stage_has, stage_takes}
-use Rattle.totalizer.proofs.Laws.{stage_worth, tree_below_more}
+use Rattle.totalizer.proofs.Laws.{outputs_more, outputs_next, size_positive, stage_below, stage_has}
+use Rattle.totalizer.proofs.Laws.{stage_takes, stage_worth, tree_below_more}
 use Rattle.linear.specs.Costs.{CostForm, widened}
 use Rattle.forms.specs.declared.numbered.Numbered.{Numbered as Stamped}
 use Rattle.forms.specs.declared.numbered.Numbered.TheVariants.{Count as StampedCount}
@@ -27,7 +27,6 @@ use Rattle.forms.specs.Kept.{IsKept, forms_in}
 use Rattle.forms.specs.Stamped.{IsStamped, numbered_at, numbered_in}
 use Rattle.forms.specs.Within.{CanGrow, IsCount, IsWithin}
 use Rattle.forms.proofs.Stamps.{found}
-use Rattle.forms.proofs.Staging.{some_leaf}
 
 pub count_grows : (v terms : ℕ) (inputs : List Literal) (tree : Tree) (multiplier : ℕ) → 0 < v
     → length (outputs_of tree) < size_of tree → IsCount (v - 1) terms inputs tree multiplier
@@ -95,7 +94,8 @@ stage_rises v (Node a b own) more =
     let right = stage_takes (length own + 1) (stage (length own + 1) v a).fresh b in
     rw e (omega (arith, left.from, right.from))
 
-last_push : (ls : List Literal) (l : Literal) → last_of (ls ++ l ∷ []) ≡ l ∷ []
+-- the last of a list to which one more has come
+pub last_push : (ls : List Literal) (l : Literal) → last_of (ls ++ l ∷ []) ≡ l ∷ []
 last_push [] l = refl
 last_push (k ∷ []) l = refl
 last_push (k ∷ j ∷ ls) l = last_push (j ∷ ls) l
@@ -105,7 +105,7 @@ pub latest_output : (v : ℕ) (tree : Tree) → length (outputs_of tree) < size_
 latest_output v (Leaf l) more = absurd (omega arith)
 latest_output v (Node a b own) more =
     ap last_of (outputs_next (length own + 1) v (Node a b own)
-    (omega (arith, some_leaf a, some_leaf b)) (omega arith))
+    (omega (arith, size_positive a, size_positive b)) (omega arith))
     ∙ last_push own (positive ((next_stage v (Node a b own)).fresh - 1))
 
 -- the count with a number has a further output
@@ -154,7 +154,8 @@ open_count number s h = by (at_number s.numbered number) refl
                     let gt = leb-false (s.made + length g.clauses) MOST_COUNT_CLAUSES m in
                     let z : None ≡ Some Limit =
                     h
-                    ∙ sym (too_many number s inputs tree multiplier e (omega arith) (omega arith)) in
+                    ∙ sym (too_many number s inputs tree multiplier e (omega arith)
+                    (omega arith)) in
                     absurd (cc)
               ]
         ]
@@ -224,7 +225,8 @@ module _ (number : ℕ) (f : Inside) (kept : IsKept f)
     chosen_item =
         let o = chosen_count in
         let e : Some (numbered_at f.present n) ≡ Some (Count o.inputs o.tree o.multiplier) =
-        sym (found f.numbered.items number n chosen_place.0 (omega (arith, chosen_place)) is f.present)
+        sym (found f.numbered.items number n chosen_place.0 (omega (arith, chosen_place)) is
+        f.present)
         ∙ o.open_one.is in
         cc
 

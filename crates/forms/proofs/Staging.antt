@@ -4,7 +4,7 @@ use Rattle.std.proofs.Common.{sym, ◌∙◌, ap, subst, arith, append_assoc, ap
 use Rattle.cnf.specs.Literal.{Literal}
 use Rattle.totalizer.specs.Stages.{Tree, Leaf, Node, Staged, size_of, outputs_of, stage, stages}
 use Rattle.totalizer.specs.Grown.{HasStages}
-use Rattle.totalizer.proofs.Laws.{outputs_count, stages_has, stages_worth, stages_size}
+use Rattle.totalizer.proofs.Laws.{outputs_count, size_positive, stages_has, stages_size}
 
 -- behind what was done before
 abbrev pub staged_behind : List (List Literal) → Staged → Staged
@@ -59,16 +59,11 @@ outputs_stages (suc count) v t many bare few =
     (stages_has (suc count) 0 v t bare)) (omega arith)
     (omega (arith, stages_size (suc count) 1 v t))
 
--- there is a leaf
-pub some_leaf : (t : Tree) → 1 ≤ size_of t
-some_leaf (Leaf l) = omega arith
-some_leaf (Node a b outputs) = omega (arith, some_leaf a, some_leaf b)
-
 -- a leaf has no more stages
 pub leaf_stages : (v : ℕ) (t : Tree) → size_of t ≡ 1
     → stages 1 1 v t ≡ record { tree = t; clauses = []; fresh = v }
 leaf_stages v (Leaf l) one = refl
-leaf_stages v (Node a b outputs) one = absurd (omega (arith, some_leaf a, some_leaf b))
+leaf_stages v (Node a b outputs) one = absurd (omega (arith, size_positive a, size_positive b))
 
 -- how many clauses there are with the next stage
 pub next_length : (d v : ℕ) (t now : Tree) (n : ℕ) → now ≡ (stages d 1 v t).tree

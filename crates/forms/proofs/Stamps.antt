@@ -1,8 +1,9 @@
 -- Counts and groups under other stamps.
-use Rattle.std.proofs.Common.{◌≡◌, ℕ, zero, suc, ◌+◌, ◌-◌, ◌<◌, ◌≤◌, Bool, true, false, List, [], ◌∷◌, ◌++◌, refl}
-use Rattle.std.proofs.Common.{length, map, take, drop, get_or, set, sym, ◌∙◌, ap, subst, arith}
-use Rattle.std.proofs.Common.{slice_get, Some, None, inl, inr}
-use Rattle.std.specs.Prelude.{◌==◌, if◌then◌else◌, Option, slice_set}
+use Rattle.std.proofs.Common.{◌≡◌, ℕ, zero, suc, ◌+◌, ◌-◌, ◌<◌, ◌≤◌, List, []}
+use Rattle.std.proofs.Common.{◌∷◌, ◌++◌, refl}
+use Rattle.std.proofs.Common.{length, take, drop, get_or, set, sym, ◌∙◌, ap, subst, arith}
+use Rattle.std.proofs.Common.{Some, inl, inr}
+use Rattle.std.specs.Prelude.{◌==◌, slice_set}
 use Rattle.std.specs.List.{AllByRecursion}
 use Rattle.std.specs.Option.{option_map}
 use Rattle.std.proofs.lemmas.Bool.{cases_Bool, eqb-true}
@@ -14,7 +15,7 @@ use Rattle.cnf.proofs.Laws.{all_push}
 use Rattle.forms.specs.declared.numbered.Numbered.{Numbered as Stamped}
 use Rattle.forms.specs.declared.numbered.Numbered.TheVariants.{Count as StampedCount}
 use Rattle.forms.specs.declared.numbered.Numbered.TheVariants.{Group as StampedGroup}
-use Rattle.forms.specs.Forms.{Forms, Numbered, Count, Group, at_number, cited, cleared, less_item}
+use Rattle.forms.specs.Forms.{Forms, Numbered, at_number, cited, cleared, less_item}
 use Rattle.forms.specs.Forms.{less_numbered, numbered_size, without_multiplier}
 use Rattle.forms.specs.Stamped.{AreStamped, IsStamped, numbered_in, numbered_at}
 
@@ -50,16 +51,20 @@ forgotten q ns os i d new lt lo same before stamped one stamp =
     let head : get_or ns i d ≡ get_or os i d = ap (λ l. get_or l 0 d) both in
     let rest : drop (i + 1) ns ≡ drop (i + 1) os =
     subst (λ n. drop n ns ≡ drop n os) next (ap (λ l. drop 1 l) both) in
-    let now : numbered_in 1 (take (i + 1) (set ns i new)) ≡ numbered_in 1 (take i ns) ++ numbered_at 1 new ∷ [] =
+    let now : numbered_in 1 (take (i + 1) (set ns i new))
+    ≡ numbered_in 1 (take i ns) ++ numbered_at 1 new ∷ [] =
     ap (numbered_in 1) (take_more_set ns i new lt)
     ∙ map-append (numbered_at 1) (take i ns) (new ∷ []) in
     let after : cleared (numbered_in q (take (i + 1) os))
-        ≡ cleared (numbered_in q (take i os)) ++ without_multiplier (numbered_at q (get_or os i d)) ∷ [] =
+    ≡ cleared (numbered_in q (take i os))
+    ++ without_multiplier (numbered_at q (get_or os i d)) ∷ [] =
     ap (λ l. cleared (numbered_in q l)) (take_more os i d lo)
     ∙ ap cleared (map-append (numbered_at q) (take i os) (get_or os i d ∷ []))
-    ∙ map-append without_multiplier (numbered_in q (take i os)) (numbered_at q (get_or os i d) ∷ []) in (
+    ∙ map-append without_multiplier (numbered_in q (take i os))
+    (numbered_at q (get_or os i d) ∷ []) in (
       now ∙ (λ j. before j ++ one j ∷ [])
-          ∙ ap (λ x. cleared (numbered_in q (take i os)) ++ without_multiplier (numbered_at q x) ∷ []) head
+          ∙ ap (λ x. cleared (numbered_in q (take i os))
+          ++ without_multiplier (numbered_at q x) ∷ []) head
           ∙ sym after,
       drop-set-lt (i + 1) ns i new (omega arith) ∙ rest,
       subst (AreStamped 1) (sym (take_more_set ns i new lt))

@@ -1,12 +1,13 @@
 -- One weight more.
-use Rattle.std.proofs.Common.{◌≡◌, ℕ, ◌+◌, ◌<◌, pos, List, [], ◌∷◌, ◌++◌, length, map, take, get_or, refl, sym}
+use Rattle.std.proofs.Common.{◌≡◌, ℕ, ◌+◌, ◌<◌, pos, List, [], ◌∷◌, ◌++◌, length, map, take, get_or}
+use Rattle.std.proofs.Common.{refl, sym}
 use Rattle.std.proofs.Common.{◌∙◌, ap}
 use Rattle.std.proofs.lemmas.List.{map-append, take_more}
 use Rattle.cnf.specs.Literal.{Literal}
 use Rattle.adder.specs.declared.relaxations.Relaxation.{Relaxation}
 use Rattle.adder.specs.Parts.{weight_in}
 use Rattle.linear.specs.Linear.{Linear, plus_literal}
-use Rattle.linear.specs.Costs.{CostForm, cost_from, form_of}
+use Rattle.linear.specs.Costs.{cost_from, form_of}
 
 cost_push : (f : Linear) (ws : List (ℕ × Literal)) (e : ℕ × Literal)
     → cost_from f (ws ++ e ∷ []) ≡ plus_literal (pos e.0) e.1 (cost_from f ws)
@@ -24,5 +25,5 @@ form_push n rs i r lt is =
     ∙ ap (λ x. form_of n (map weight_in (take i rs ++ x ∷ []))) (sym is)
     ∙ ap (form_of n) (map-append weight_in (take i rs) (r ∷ []))
     ∙ (λ j. record (form_of n before) {
-      cost = cost_push (form_of n []).cost before (weight_in r) j
+      cost = cost_push (form_of n []).cost before (weight_in r) j;
     })

@@ -1,5 +1,5 @@
 -- What is known of counts and groups, when there are more terms or variables.
-use Rattle.std.proofs.Common.{ℕ, ◌+◌, ◌*◌, ◌≤◌, ◌^◌, List, length, arith}
+use Rattle.std.proofs.Common.{ℕ, ◌+◌, ◌≤◌, List, arith}
 use Rattle.std.specs.Prelude.{All}
 use Rattle.std.proofs.lemmas.List.Elements.{All-weaker}
 use Rattle.totalizer.proofs.Laws.{tree_below_more}

@@ -2,23 +2,23 @@
 -- A fact is a linear function of the variables that is at least 0 in each solution that is cheap
 -- enough. A form is a multiple of the cost, less multiples of facts. So it is at most that multiple
 -- of the cost, and what its least value exceeds is too dear.
-use Rattle.std.specs.Prelude.{◌≡◌, ℕ, zero, suc, ℤ, pos, negsuc, ◌+ℤ◌, ◌-ℤ◌, ◌*ℤ◌, ◌+◌, ◌-◌, ◌*◌}
+use Rattle.std.specs.Prelude.{ℕ, zero, suc, ℤ, pos, negsuc, ◌+ℤ◌, ◌-ℤ◌, ◌+◌, ◌-◌}
 use Rattle.std.specs.Prelude.{◌/◌, min, max, Bool, true, false, not, ◌&&◌, ◌||◌, List, [], ◌∷◌}
-use Rattle.std.specs.Prelude.{◌++◌, length, map, Option, Some, None, Result, Ok, Err, nat_le, ◌==◌}
+use Rattle.std.specs.Prelude.{◌++◌, length, map, Option, Some, None, Result, Ok, Err, nat_le}
 use Rattle.std.specs.Prelude.{slice_get, slice_set, if◌then◌else◌}
-use Rattle.std.specs.List.{list_all, list_any}
+use Rattle.std.specs.List.{list_all}
 use Rattle.std.specs.Option.{option_map}
 use Rattle.cnf.specs.Literal.{Literal, negation}
 use Rattle.cnf.specs.Clause.{contains_literal, greatest_variable, has_repeat, is_tautology}
 use Rattle.cnf.specs.declared.limits.TheConstants.{NUMBER_LIMIT}
 use Rattle.totalizer.specs.Stages.{Tree, Staged, outputs_of, size_of, stage, totalizer_of}
-use Rattle.linear.specs.Linear.{Linear, plus_constant, plus_literals}
+use Rattle.linear.specs.Linear.{plus_constant, plus_literals}
 use Rattle.linear.specs.Costs.{CostForm, fixed_by, falsified, form_of, least, least_where}
 use Rattle.linear.specs.Costs.{restarted, widened}
 use Rattle.cnf.specs.Refute.{Clauses}
 use Rattle.forms.specs.declared.types.NamedFact.{NamedFact}
 use Rattle.forms.specs.declared.faults.LineFault.{LineFault}
-use Rattle.forms.specs.declared.faults.LineFault.TheVariants.{Name, Limit, Worth}
+use Rattle.forms.specs.declared.faults.LineFault.TheVariants.{Name, Limit}
 use Rattle.forms.specs.declared.faults.TheConstants.{MOST_COUNT_CLAUSES, MOST_TERMS}
 
 -- what has a number: facts with a number are said of these

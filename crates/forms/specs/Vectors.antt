@@ -1,13 +1,14 @@
 -- Worked lines.
-use Rattle.std.specs.Prelude.{◌≡◌, ℕ, true, false, List, [], ◌∷◌, Option, Some, None, Result, Ok, Err, refl}
+use Rattle.std.specs.Prelude.{◌≡◌, ℕ, true, false, List, [], ◌∷◌, Option, Some, None, Result, Ok}
+use Rattle.std.specs.Prelude.{Err, refl}
 use Rattle.cnf.specs.Literal.{Literal, positive as p, negative as n}
 use Rattle.forms.specs.declared.faults.LineFault.{LineFault}
-use Rattle.forms.specs.declared.faults.LineFault.TheVariants.{Name, Limit, Worth}
+use Rattle.forms.specs.declared.faults.LineFault.TheVariants.{Name}
 use Rattle.forms.specs.declared.types.NamedFact.{NamedFact}
 use Rattle.cnf.specs.Formula.{numbered}
 use Rattle.cnf.specs.Refute.{Clauses}
-use Rattle.forms.specs.Forms.{Forms, Made, forms_of, heard, count_line}
-use Rattle.forms.specs.Forms.{more_line, group_line, form_line, cut_line, bound_line}
+use Rattle.forms.specs.Forms.{Forms, Made, count_line, cut_line, fact_size, form_line, forms_of}
+use Rattle.forms.specs.Forms.{group_line, heard, more_line}
 
 -- 3 for the first variable, 4 for the second
 abbrev shop : Forms
@@ -19,6 +20,9 @@ at = numbered ((p 1 ∷ p 2 ∷ []) ∷ [])
 
 abbrev clause : ℕ → NamedFact
 clause w = record { weight = w; is_numbered = false; number = 1 }
+
+abbrev item : ℕ → NamedFact
+item w = record { weight = w; is_numbered = true; number = 1 }
 
 abbrev worth : Result Forms LineFault → List Literal → Result (Option ℕ) LineFault
 worth (Err e) c = Err e
@@ -43,8 +47,8 @@ twice = refl
 unknown : worth (form_line at (Some 1) [] shop) (p 3 ∷ []) ≡ Err Name
 unknown = refl
 
--- half of 7, rounded up
-half : worth (form_line at (Some 2) (clause 7 ∷ []) shop) [] ≡ Ok (Some 3)
+-- half of 7, which is the least value where there is no tea, rounded up
+half : worth (form_line at (Some 2) (clause 7 ∷ []) shop) (p 1 ∷ []) ≡ Ok (Some 4)
 half = refl
 
 on : Result Made LineFault → (Forms → Result (Option ℕ) LineFault) → Result (Option ℕ) LineFault
@@ -53,7 +57,42 @@ on (Ok m) next = next m.forms
 
 -- a count of both with one output, which is known to be true
 counted : on (count_line 1 (p 1 ∷ p 2 ∷ []) shop)
-    (λ s. worth (form_line at (Some 1) (record { weight = 3; is_numbered = true; number = 1 } ∷ []) (heard (p 3 ∷ []) s)) [])
-    ≡ Ok (Some 3)
+    (λ s. worth (form_line at (Some 1) (item 3 ∷ []) (heard (p 3 ∷ []) s)) []) ≡ Ok (Some 3)
 unfolding on
 counted = refl
+
+abbrev grown : Result Forms LineFault → List Literal → Result (Option ℕ) LineFault
+grown (Err e) c = Err e
+grown (Ok s) c = on (more_line 1 s) (cut_line c)
+
+-- its second output belongs to its fact
+more : on (count_line 1 (p 1 ∷ p 2 ∷ []) shop)
+    (λ s. grown (form_line at (Some 1) (item 3 ∷ []) (heard (p 3 ∷ []) s)) (n 4 ∷ []))
+    ≡ Ok (Some 6)
+unfolding on
+more = refl
+
+abbrev next : Result Forms LineFault → (Forms → Result Forms LineFault) → Result Forms LineFault
+next (Err e) line = Err e
+next (Ok s) line = line s
+
+-- the form with two facts more
+goes_on : worth (next (form_line at (Some 1) (clause 1 ∷ []) shop)
+    (form_line at None (clause 2 ∷ []))) [] ≡ Ok (Some 3)
+goes_on = refl
+
+-- not both; 3 where the first is false, 4 where the second is
+abbrev apart : Clauses
+apart = numbered ((n 1 ∷ n 2 ∷ []) ∷ [])
+
+either : worth (next (group_line apart (p 1 ∷ p 2 ∷ []) (1 ∷ [])
+    (forms_of 2 ((3, n 1) ∷ (4, n 2) ∷ []))) (form_line apart (Some 1) (item 3 ∷ []))) []
+    ≡ Ok (Some 3)
+either = refl
+
+both_may_be : group_line at (p 1 ∷ p 2 ∷ []) (1 ∷ []) shop ≡ Err Name
+both_may_be = refl
+
+-- the fact of the empty clause has a term
+empty : fact_size (numbered ([] ∷ [])) [] (clause 1) ≡ Some 1
+empty = refl

@@ -51,7 +51,5 @@ fn exclude_with<'a, T: ClauseTable>(
 fn excludes(first: Lit, second: Lit, clause: &[Lit]) -> bool
     ensures { result ≡ excludes (first, second) clause.now }
 {
-    clause
-        .iter()
-        .all(|lit| *lit == first.negation() || *lit == second.negation())
+    clause.iter().all(|lit| *lit == first.negation() || *lit == second.negation())
 }

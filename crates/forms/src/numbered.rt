@@ -33,7 +33,8 @@ pub(crate) enum Numbered {
 pub(crate) fn find(numbered: &[Numbered], number: u64) -> Option<&Numbered>
     ensures { (present : ℕ) → MatchOption result
         (at_number (numbered_in present numbered.now) number ≡ None)
-        (λ n. at_number (numbered_in present numbered.now) number ≡ Some (numbered_at present n.now)) }
+        (λ n. at_number (numbered_in present numbered.now) number
+        ≡ Some (numbered_at present n.now)) }
 {
     if number == 0 || number > numbered.len() as u64 {
         return None;
@@ -54,9 +55,8 @@ pub(crate) fn numbered_size(numbered: &Numbered) -> u64
 /// The stamp of a form that is begun, which no count has.
 pub(crate) fn next_stamp(numbered: &mut Vec<Numbered>, present: u64) -> u64
     requires { AreStamped present numbered.old.items }
-    ensures cleared {
-        numbered_in result numbered.new.items ≡ cleared (numbered_in present numbered.old.items)
-    }
+    ensures cleared { numbered_in result numbered.new.items
+        ≡ cleared (numbered_in present numbered.old.items) }
     ensures stamped { AreStamped result numbered.new.items }
     ensures within { (variables terms : ℕ) → All (IsWithin variables terms) numbered.old.items
         → All (IsWithin variables terms) numbered.new.items }

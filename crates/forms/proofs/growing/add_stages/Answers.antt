@@ -1,6 +1,6 @@
 -- One stage more.
-use Rattle.std.proofs.Common.{◌≡◌, ◌+◌, ◌-◌, ◌<◌, ◌≤◌, suc, length, sym, ◌∙◌, ap, subst}
-use Rattle.std.proofs.Common.{arith, ◌++◌, [], length-append}
+use Rattle.std.proofs.Common.{◌≡◌, ◌+◌, ◌-◌, ◌<◌, suc, length, sym, ◌∙◌, ap, subst}
+use Rattle.std.proofs.Common.{arith, ◌++◌, length-append}
 use Rattle.totalizer.specs.Stages.{size_of, outputs_of, stage, stages}
 use Rattle.totalizer.proofs.Laws.{stages_from, stages_worth, stages_size}
 use Rattle.forms.proofs.Staging.{leaf_stages, next_length, next_stage, outputs_stages, stages_rise}

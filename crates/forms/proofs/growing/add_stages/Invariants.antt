@@ -1,5 +1,5 @@
 -- The stages so far.
-use Rattle.std.proofs.Common.{◌≡◌, ◌<◌, ◌≤◌, length}
+use Rattle.std.proofs.Common.{◌≡◌, ◌≤◌, length}
 use Rattle.totalizer.specs.Stages.{stages}
 use Rattle.forms.proofs.growing.add_stages.Given as goal
 

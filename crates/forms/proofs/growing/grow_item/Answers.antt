@@ -1,6 +1,5 @@
 -- One more output.
-use Rattle.std.proofs.Common.{◌≡◌, ◌-◌, ap, subst, sym}
-use Rattle.totalizer.specs.Stages.{Tree}
+use Rattle.std.proofs.Common.{◌-◌, subst, sym}
 use Rattle.forms.specs.Forms.{next_stage}
 use Rattle.forms.specs.Within.{IsCount, IsWithin, CanGrow}
 use Rattle.forms.proofs.NextOutput.{count_grows}

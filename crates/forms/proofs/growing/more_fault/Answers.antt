@@ -1,6 +1,5 @@
 -- Why there is no further output.
-use Rattle.std.proofs.Common.{◌≡◌, ◌+◌, ap, arith, length, Some, ◌∙◌}
-use Rattle.totalizer.specs.Stages.{size_of, outputs_of}
+use Rattle.std.proofs.Common.{◌+◌, ap, arith, length, Some, ◌∙◌}
 use Rattle.forms.specs.Forms.{at_number}
 use Rattle.forms.specs.Stamped.{numbered_at}
 use Rattle.forms.proofs.NextOutput.{all_there, can_grow, no_count, no_item, too_many}

@@ -1,5 +1,5 @@
 -- One more is forgotten.
-use Rattle.std.proofs.Common.{◌<◌, ◌∙◌, length, length-set, ap, arith, get_or, subst, sym}
+use Rattle.std.proofs.Common.{◌∙◌, length-set, ap, arith, subst, sym}
 use Rattle.std.proofs.lemmas.List.Elements.{All-set, recursion_from_All}
 use Rattle.forms.specs.Forms.{without_multiplier}
 use Rattle.forms.specs.Stamped.{IsStamped, numbered_at}
@@ -29,7 +29,8 @@ loop-place-preserved c =
           let before = inv.within v t all in
           All-set (IsWithin v t) c.loop-place.numbered.items i c.forget.new.item
           (c.forget.ensures.within v t
-          (subst (IsWithin v t) (sym c.index_mut.ensures.value) (before i old (omega (arith, inv.long)))))
+          (subst (IsWithin v t) (sym c.index_mut.ensures.value)
+          (before i old (omega (arith, inv.long)))))
           before;
     }
 

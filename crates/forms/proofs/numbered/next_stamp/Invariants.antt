@@ -1,5 +1,5 @@
 -- The counts so far are forgotten, and the others are as they were.
-use Rattle.std.proofs.Common.{◌≡◌, ℕ, ◌<◌, length, take, drop}
+use Rattle.std.proofs.Common.{◌≡◌, ℕ, length, take, drop}
 use Rattle.std.specs.Prelude.{All}
 use Rattle.forms.specs.Forms.{cleared}
 use Rattle.forms.specs.Stamped.{AreStamped, numbered_in}

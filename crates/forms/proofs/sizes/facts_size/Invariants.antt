@@ -1,5 +1,5 @@
 -- The terms so far, with those of the facts that are left, are all.
-use Rattle.std.proofs.Common.{◌≡◌, ℕ, ◌+◌, ◌*◌, ◌≤◌, ◌^◌, drop, Some}
+use Rattle.std.proofs.Common.{◌≡◌, ℕ, ◌*◌, ◌≤◌, ◌^◌, drop}
 use Rattle.forms.specs.Forms.{facts_size, plus_size}
 use Rattle.forms.specs.Stamped.{numbered_in}
 use Rattle.forms.proofs.sizes.facts_size.Given as goal

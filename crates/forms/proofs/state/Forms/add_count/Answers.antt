@@ -5,11 +5,10 @@ use Rattle.linear.specs.Costs.{width_of}
 use Rattle.forms.specs.declared.faults.TheConstants.{MOST_COUNT_CLAUSES}
 use Rattle.forms.specs.Answers.{IsGrown}
 use Rattle.forms.specs.Forms.{are_known, count_line}
-use Rattle.forms.specs.Kept.{most_mass}
 use Rattle.forms.proofs.MassLaws.{mass_rises}
 use Rattle.forms.proofs.NewCount.{new_bare, new_count, new_few, new_from, new_limit, new_line}
 use Rattle.forms.proofs.NewCount.{new_room, new_size, new_worth}
-use Rattle.forms.proofs.Widths.{widened_past}
+use Rattle.linear.proofs.Laws.{widened_width}
 use Rattle.forms.proofs.Withins.{within_wider}
 use Rattle.forms.proofs.state.Forms.add_count.Goals as goal
 
@@ -111,7 +110,7 @@ invariant_of-self-2 c =
     c.add_stages.new.totalizer c.add_stages.new.clauses c.in-Some.fresh has in
     let wide = ap (λ b. width_of b.form) c.in_ok-widen.ensures.widened in
     record {
-      width = omega (arith, wide, widened_past v (f.bound).form, from);
+      width = omega (arith, wide, widened_width v (f.bound).form, from);
       marks = c.in_ok-widen.ensures.marks;
       variables = omega (arith, from, worth, c.len.ensures, c.self.invariant.variables);
       made = omega (arith, few, c.len.ensures);

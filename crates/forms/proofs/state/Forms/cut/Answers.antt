@@ -12,4 +12,5 @@ least_where_false-least-requires-clause-variables c =
     let same : s ≡ c.args.self.now = c.self-2.view_is ∙ c.are_known.ensures.unchanged in
     let h : are_known s c.args.lits.now ≡ true =
     ap (λ x. are_known x c.args.lits.now) same ∙ sym c.if-not-are_known.ensures.known in
-    known_within s (width_of (c.self-2.inside.bound).form) c.args.lits.now c.self-2.invariant.width h
+    known_within s (width_of (c.self-2.inside.bound).form) c.args.lits.now
+    c.self-2.invariant.width h

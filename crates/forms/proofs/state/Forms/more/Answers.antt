@@ -1,18 +1,17 @@
 -- One more output.
-use Rattle.std.proofs.Common.{◌≡◌, ◌+◌, ◌-◌, ◌<◌, ◌≤◌, Some, None, length, ap, sym, ◌∙◌, arith}
+use Rattle.std.proofs.Common.{◌+◌, ◌-◌, ◌≤◌, length, ap, sym, ◌∙◌, arith}
 use Rattle.std.proofs.Common.{subst, refl, pos, ◌∷◌, []}
 use Rattle.std.proofs.lemmas.List.Elements.{All-set}
 use Rattle.cnf.specs.Literal.{positive}
-use Rattle.linear.specs.Costs.{CostForm, widened, width_of}
-use Rattle.forms.specs.Answers.{fault_of}
-use Rattle.forms.specs.Forms.{more_line, next_stage, plus}
+use Rattle.linear.specs.Costs.{width_of}
+use Rattle.forms.specs.Forms.{more_line, plus}
 use Rattle.forms.specs.Kept.{forms_in, most_mass}
 use Rattle.forms.specs.Stamped.{IsStamped, numbered_in}
 use Rattle.forms.specs.Within.{IsWithin}
 use Rattle.forms.proofs.NextOutput.{chosen_after, chosen_grows, chosen_line, chosen_multiplier}
 use Rattle.forms.proofs.NextOutput.{chosen_place, chosen_stamped, chosen_within, refused}
 use Rattle.forms.proofs.MassLaws.{mass_room, output_mass}
-use Rattle.forms.proofs.Widths.{widened_past}
+use Rattle.linear.proofs.Laws.{widened_width}
 use Rattle.forms.proofs.Withins.{wider_one, within_wider}
 use Rattle.forms.proofs.state.Forms.more.Goals as goal
 
@@ -179,7 +178,7 @@ invariant_of-self c =
     c.multiplier_of-multiplier.result c.self.invariant.mass
     (omega (arith, after.rises, after.worth)) often in
     record {
-      width = omega (arith, form, wide, widened_past v (f.bound).form, after.rises);
+      width = omega (arith, form, wide, widened_width v (f.bound).form, after.rises);
       marks = c.in-Ok.ensures.marks;
       variables =
           omega (arith, after.worth, after.rises, c.len.ensures, c.self.invariant.variables);

@@ -17,15 +17,20 @@ loop-weight-preserved c =
     let add : CostForm → CostForm =
     λ f. record f { cost = plus_literal (pos r.weight) r.lit f.cost } in
     let more : take (i + 1) rs ≡ take i rs ++ r ∷ [] =
-    take_more rs i r c.loop-weight-test.true ∙ ap (λ x. take i rs ++ x ∷ []) (sym c.weight-item.is) in
+    take_more rs i r c.loop-weight-test.true
+    ∙ ap (λ x. take i rs ++ x ∷ []) (sym c.weight-item.is) in
     record {
       form =
           c.add_weight.ensures.form
           ∙ ap add inv.form
           ∙ sym (form_push (c.args.variables + 1) rs i r c.loop-weight-test.true c.weight-item.is);
       sum =
-          omega (arith, c.add_weight.ensures.weights, inv.sum,
-          ap (sum_by (λ (x : Relaxation). x.weight)) more,
-          sum_by-append (λ (x : Relaxation). x.weight) (take i rs) (r ∷ []));
+          omega (
+            arith,
+            c.add_weight.ensures.weights,
+            inv.sum,
+            ap (sum_by (λ (x : Relaxation). x.weight)) more,
+            sum_by-append (λ (x : Relaxation). x.weight) (take i rs) (r ∷ []),
+          );
       mass = c.add_weight.ensures.mass ∙ inv.mass;
     }

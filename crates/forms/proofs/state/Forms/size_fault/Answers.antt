@@ -1,8 +1,5 @@
-use Rattle.std.proofs.Common.{◌≡◌, ◌+◌, ◌<◌, ◌≤◌, ◌∙◌, sym, ap, arith, Some, None}
-use Rattle.std.specs.Prelude.{Option}
-use Rattle.forms.specs.declared.faults.TheConstants.{MOST_TERMS}
+use Rattle.std.proofs.Common.{◌∙◌, sym, ap, arith}
 use Rattle.forms.specs.Forms.{facts_size}
-use Rattle.forms.specs.Kept.{forms_in}
 use Rattle.forms.specs.Stamped.{numbered_in}
 use Rattle.forms.proofs.state.Forms.size_fault.Goals as goal
 

@@ -1,11 +1,11 @@
-use Rattle.std.proofs.Common.{◌≡◌, ◌+◌, ◌-◌, ◌*◌, ◌<◌, ◌≤◌, ◌^◌, ◌∙◌, sym, ap, subst, length, set, arith}
-use Rattle.std.proofs.Common.{Some}
+use Rattle.std.proofs.Common.{◌≡◌, ◌+◌, ◌-◌, ◌*◌, ◌≤◌, ◌^◌, ◌∙◌, sym, ap, subst, set}
+use Rattle.std.proofs.Common.{arith}
 use Rattle.std.specs.Prelude.{IfSome}
 use Rattle.std.proofs.lemmas.List.{map-set}
 use Rattle.std.proofs.lemmas.List.Elements.{All-set}
 use Rattle.linear.specs.Costs.{width_of}
 use Rattle.forms.specs.declared.faults.TheConstants.{MOST_TERMS}
-use Rattle.forms.specs.Forms.{at_number, cited, less_item, less_numbered, numbered_size}
+use Rattle.forms.specs.Forms.{at_number, cited, less_numbered, numbered_size}
 use Rattle.forms.specs.Kept.{forms_in, most_mass}
 use Rattle.forms.specs.Stamped.{IsStamped, numbered_at, numbered_in}
 use Rattle.forms.specs.Within.{IsWithin}
@@ -21,15 +21,18 @@ subtract_item-requires-clause-room c =
     let n = numbered_at f.present c.index_mut-item.result.now in
     let e =
     found f.numbered.items c.args.number c.index_mut-item.result.now (omega arith)
-    (omega (arith, c.len.ensures, c.if-number-len.false)) c.index_mut-item.ensures.value f.present in
+    (omega (arith, c.len.ensures, c.if-number-len.false)) c.index_mut-item.ensures.value
+    f.present in
     let room : f.terms + numbered_size n ≤ MOST_TERMS =
     subst (λ o. IfSome o (λ m. f.terms + numbered_size m ≤ MOST_TERMS)) e
     (subst (λ s. IfSome (at_number s.numbered c.args.number)
     (λ m. s.terms + numbered_size m ≤ MOST_TERMS)) (sym c.self.view_is) c.requires.room) in
-    omega (arith,
-    more_mass f.terms (numbered_size n) f.made (f.bound).mass (3 * 2 ^ 62 * numbered_size n)
-    c.self.invariant.mass (omega arith),
-    mass_room (f.terms + numbered_size n) f.made room c.self.invariant.made)
+    omega (
+      arith,
+      more_mass f.terms (numbered_size n) f.made (f.bound).mass (3 * 2 ^ 62 * numbered_size n)
+          c.self.invariant.mass (omega arith),
+      mass_room (f.terms + numbered_size n) f.made room c.self.invariant.made,
+    )
 
 pub overflow_add-self : goal.overflow_add-self
 overflow_add-self c =
@@ -37,7 +40,8 @@ overflow_add-self c =
     let n = numbered_at f.present c.index_mut-item.result.now in
     let e =
     found f.numbered.items c.args.number c.index_mut-item.result.now (omega arith)
-    (omega (arith, c.len.ensures, c.if-number-len.false)) c.index_mut-item.ensures.value f.present in
+    (omega (arith, c.len.ensures, c.if-number-len.false)) c.index_mut-item.ensures.value
+    f.present in
     let room : f.terms + numbered_size n ≤ MOST_TERMS =
     subst (λ o. IfSome o (λ m. f.terms + numbered_size m ≤ MOST_TERMS)) e
     (subst (λ s. IfSome (at_number s.numbered c.args.number)
@@ -54,7 +58,8 @@ invariant_of-self c =
     let size : c.numbered_size.result ≡ numbered_size n = c.numbered_size.ensures f.present in
     let e =
     found items c.args.number c.index_mut-item.result.now (omega arith)
-    (omega (arith, c.len.ensures, c.if-number-len.false)) c.index_mut-item.ensures.value f.present in
+    (omega (arith, c.len.ensures, c.if-number-len.false)) c.index_mut-item.ensures.value
+    f.present in
     let room : f.terms + numbered_size n ≤ MOST_TERMS =
     subst (λ o. IfSome o (λ m. f.terms + numbered_size m ≤ MOST_TERMS)) e
     (subst (λ s. IfSome (at_number s.numbered c.args.number)
@@ -69,17 +74,24 @@ invariant_of-self c =
     c.subtract_item.new.item (omega (arith, some, size))
     (c.subtract_item.ensures.within f.variables f.terms was) in
     record {
-      width = omega (arith, old.width, ap width_of c.subtract_item.ensures.form,
-      item_width c.args.weight n (f.bound).form);
+      width = omega (
+        arith,
+        old.width,
+        ap width_of c.subtract_item.ensures.form,
+        item_width c.args.weight n (f.bound).form,
+      );
       marks = old.marks;
       variables = old.variables;
       made = old.made;
       terms = omega (arith, room, size);
       mass =
           subst (λ k. c.subtract_item.new.bound.mass ≤ most_mass (f.terms + k) f.made) (sym size)
-          (omega (arith, c.subtract_item.ensures.mass,
-          more_mass f.terms (numbered_size n) f.made (f.bound).mass
-          (3 * 2 ^ 62 * numbered_size n) old.mass (omega arith)));
+          (omega (
+            arith,
+            c.subtract_item.ensures.mass,
+            more_mass f.terms (numbered_size n) f.made (f.bound).mass
+                (3 * 2 ^ 62 * numbered_size n) old.mass (omega arith),
+          ));
       within =
           All-set (IsWithin f.variables (f.terms + c.numbered_size.result)) items place
           c.subtract_item.new.item now
@@ -100,9 +112,10 @@ returns c =
     let place = c.args.number - 1 in
     let e =
     found items c.args.number item (omega arith)
-    (omega (arith, c.len.ensures, c.if-number-len.false)) c.index_mut-item.ensures.value f.present in
+    (omega (arith, c.len.ensures, c.if-number-len.false)) c.index_mut-item.ensures.value
+    f.present in
     let numbered : numbered_in f.present (set items place c.subtract_item.new.item)
-        ≡ set (numbered_in f.present items) place (cited w n) =
+    ≡ set (numbered_in f.present items) place (cited w n) =
     map-set (numbered_at f.present) items place c.subtract_item.new.item
     ∙ ap (set (numbered_in f.present items) place) c.subtract_item.ensures.item in
     (λ i. record (forms_in f) {
