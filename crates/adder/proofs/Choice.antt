@@ -7,9 +7,9 @@ use Rattle.std.proofs.lemmas.List.Elements.{All-from_recursion}
 use Rattle.cnf.specs.Numbers.{one_if}
 use Rattle.cnf.specs.Literal.{Assignment, Literal, negation, literal_value, positive}
 use Rattle.cnf.specs.Literal.{put, SameBelow}
-use Rattle.cnf.specs.Clause.{clause_value, greatest_variable}
+use Rattle.cnf.specs.Clause.{AreBelow, clause_value, greatest_variable}
 use Rattle.cnf.specs.Problem.{SoftClause, AreWithin}
-use Rattle.cnf.proofs.Laws.{put_here, put_other, one_if_le}
+use Rattle.cnf.proofs.Laws.{below_more, put_here, put_other, one_if_le}
 use Rattle.adder.specs.declared.cells.Cell.{Cell}
 use Rattle.adder.specs.declared.profiles.Relaxing.{Relaxing}
 use Rattle.adder.specs.Network.{Relaxed, Column, bit, relaxed_from, column_of, added_up}
@@ -42,13 +42,6 @@ pub chain_append : (n : ℕ) (xs ys : List Cell) (m : ℕ) → m ≡ n + 2 * len
 chain_append n [] ys m e h k = subst (λ x. IsChain x ys) (omega arith) k
 chain_append n (x ∷ xs) ys m e h k =
     (h.0, h.1, h.2, h.3, h.4, chain_append (n + 2) xs ys m (omega arith) h.5 k)
-
-abbrev pub AreBelow : ℕ → List Literal → Type 0
-AreBelow n ls = AllByRecursion (λ l. l.variable < n) ls
-
-pub below_more : (n m : ℕ) (ls : List Literal) → n ≤ m → AreBelow n ls → AreBelow m ls
-below_more n m [] le h = tt
-below_more n m (l ∷ ls) le h = (omega (arith, h.0), below_more n m ls le h.1)
 
 pub below_append : (n : ℕ) (xs ys : List Literal) → AreBelow n xs → AreBelow n ys
     → AreBelow n (xs ++ ys)

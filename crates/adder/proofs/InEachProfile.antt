@@ -1,5 +1,5 @@
 -- The laws of the network in each profile.
-use Rattle.std.proofs.Common.{◌≡◌, ◌⊎◌, inl, inr, ℕ, ◌+◌, ◌*◌, ◌^◌, ◌<◌, ◌≤◌, List, [], length}
+use Rattle.std.proofs.Common.{◌≡◌, ℕ, ◌+◌, ◌*◌, ◌^◌, ◌<◌, ◌≤◌, List, [], length}
 use Rattle.std.proofs.Common.{filter, sum_by, All, refl, sym, ◌∙◌, ap, subst, arith}
 use Rattle.std.proofs.Common.{mul-le-mul_right}
 use Rattle.std.specs.List.{AllByRecursion}
@@ -10,9 +10,9 @@ use Rattle.cnf.specs.Problem.{Problem, SoftClause, AreWithin}
 use Rattle.cnf.specs.Instance.{IsInstance, IsClauseWithin}
 use Rattle.adder.specs.declared.networks.TheConstants.{CELL_LIMIT}
 use Rattle.adder.specs.declared.profiles.Profile.{Profile}
-use Rattle.adder.specs.declared.profiles.Profile.TheVariants.{One, Two, Three, Four, Five}
+use Rattle.adder.specs.declared.profiles.Profile.TheVariants.{One, Two, Four, Five}
 use Rattle.adder.specs.declared.profiles.Adding.{Adding}
-use Rattle.adder.specs.declared.profiles.Adding.TheVariants.{Columns, Tree, Sums}
+use Rattle.adder.specs.declared.profiles.Adding.TheVariants.{Columns, Sums}
 use Rattle.adder.specs.Network.{relaxing_of, adding_of}
 use Rattle.adder.specs.Network.{Adders, Relaxed, binary_length, total_weight, relaxed_as}
 use Rattle.adder.specs.Network.{relaxed_variables, column_of, along_columns, along_tree, adders_as}
@@ -30,14 +30,12 @@ use Rattle.adder.proofs.Numbers.{along_tree_with, along_tree_chain}
 abbrev adders_by : Profile → Problem → Adding → Adders
 adders_by profile p Columns =
     along_columns (relaxed_as profile p) (total_weight p) (relaxed_variables profile p + 1)
-adders_by profile p Tree = along_tree (relaxed_as profile p) (relaxed_variables profile p + 1)
 adders_by profile p Sums = along_tree (relaxed_as profile p) (relaxed_variables profile p + 1)
 
 adders_are : (profile : Profile) (p : Problem)
     → adders_by profile p (adding_of profile) ≡ adders_as profile p
 adders_are One p = refl
 adders_are Two p = refl
-adders_are Three p = refl
 adders_are Four p = refl
 adders_are Five p = refl
 
@@ -48,10 +46,9 @@ pub is_columns : (profile : Profile) (p : Problem) (a : Adding) → a ≡ adding
 is_columns profile p a same e = ap (adders_by profile p) (sym e ∙ same) ∙ adders_are profile p
 
 pub is_tree : (profile : Profile) (p : Problem) (a : Adding) → a ≡ adding_of profile
-    → (a ≡ Tree) ⊎ (a ≡ Sums)
+    → a ≡ Sums
     → along_tree (relaxed_as profile p) (relaxed_variables profile p + 1) ≡ adders_as profile p
-is_tree profile p a same (inl e) = ap (adders_by profile p) (sym e ∙ same) ∙ adders_are profile p
-is_tree profile p a same (inr e) = ap (adders_by profile p) (sym e ∙ same) ∙ adders_are profile p
+is_tree profile p a same e = ap (adders_by profile p) (sym e ∙ same) ∙ adders_are profile p
 
 -- what holds of both forms
 pub adders_cases : (profile : Profile) (p : Problem) (P : Adders → Type 0)
@@ -62,8 +59,7 @@ adders_cases profile p P columns tree = by (adding_of profile) refl
   where
     by : (a : Adding) → adding_of profile ≡ a → P (adders_as profile p)
     by Columns e = subst P (is_columns profile p Columns (sym e) refl) columns
-    by Tree e = subst P (is_tree profile p Tree (sym e) (inl refl)) tree
-    by Sums e = subst P (is_tree profile p Sums (sym e) (inr refl)) tree
+    by Sums e = subst P (is_tree profile p Sums (sym e) refl) tree
 
 module _ (profile : Profile) (p : Problem) where
   abbrev es : List Relaxed

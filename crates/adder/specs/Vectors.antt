@@ -1,15 +1,15 @@
--- Worked networks of profile 3.
+-- Worked networks along a balanced tree.
 use Rattle.std.specs.Prelude.{◌≡◌, ℕ, ◌+◌, ◌^◌, List, [], ◌∷◌, ◌++◌, map, Option, Some, None}
 use Rattle.std.specs.Prelude.{replicate, refl}
 use Rattle.cnf.specs.Literal.{Literal, positive}
 use Rattle.adder.specs.declared.cells.Cell.{Cell}
-use Rattle.adder.specs.declared.profiles.Profile.TheVariants.{Three}
+use Rattle.adder.specs.declared.profiles.Profile.TheVariants.{Four}
 use Rattle.adder.specs.Network.{Adders, adders_as}
 
 -- one variable, and a soft clause of each weight
 abbrev network_of : List ℕ → Adders
 network_of ws =
-    adders_as Three
+    adders_as Four
     (record {
       variables = 1;
       hard = [];

@@ -33,11 +33,11 @@ pub fn network(instance: &Instance) -> Result<Network, AllocError>
 ///
 /// In `Profile::One` and `Profile::Two` the column of 2^j holds at first, in the order of the soft
 /// clauses, the relaxation literals of the weights with the binary digit j, and the columns are
-/// added up from the lowest on. In `Profile::Three` each weight is a number of its own. By rising
-/// weight, and in the order of the soft clauses where weights are equal, these are added in pairs,
-/// an odd one is left for the next round, and rounds follow until one number is left: a column has
-/// the bits of two numbers. In `Profile::Four` and `Profile::Five` the network is that of
-/// `Profile::Three`: it stands in where sums take too many clauses.
+/// added up from the lowest on. In `Profile::Four` and `Profile::Five`, where the network stands in
+/// for sums that take too many clauses, each weight is a number of its own. By rising weight, and in
+/// the order of the soft clauses where weights are equal, these are added in pairs, an odd one is
+/// left for the next round, and rounds follow until one number is left: a column has the bits of
+/// two numbers.
 ///
 /// # Errors
 ///
@@ -50,7 +50,7 @@ pub fn network_as(instance: &Instance, profile: Profile) -> Result<Network, Allo
     let relaxations = Relaxations::of(instance, profile)?;
     match profile.adding() {
         Adding::Columns => add_columns(alloc, &relaxations),
-        Adding::Tree | Adding::Sums => add_tree(alloc, relaxations),
+        Adding::Sums => add_tree(alloc, relaxations),
     }
 }
 

@@ -12,12 +12,10 @@ pub enum Profile {
     /// A soft clause of just one literal by the negation of that literal; each other one by the
     /// next variable after those of the instance. The weights are added column by column.
     Two,
-    /// Relaxed as in `One`. The weights are added in pairs along a balanced tree, light ones first,
-    /// so that sums of few of them are known early.
-    Three,
     /// Relaxed as in `One`. The weights are added by sums (generalized totalizers) over at-most-one
-    /// groups of soft clauses, along a tree that follows the hard clauses; where these would take
-    /// too many clauses, as in `Three`.
+    /// groups of soft clauses, along a tree that follows the hard clauses. Where these would take
+    /// too many clauses, they are added in pairs along a balanced tree, light ones first, so that
+    /// sums of few of them are known early.
     Four,
     /// Relaxed and added up as in `Four`. A certificate may bring cores, whose clauses then stand
     /// in place of the sums.
@@ -39,11 +37,9 @@ pub enum Relaxing {
 pub enum Adding {
     /// By a network, column by column.
     Columns,
-    /// By a network, in pairs along a balanced tree, light ones first, so that sums of few of them
-    /// are known early.
-    Tree,
     /// By sums over groups of soft clauses, along a tree that follows the hard clauses. Where these
-    /// would take too many clauses, by the network of `Tree`.
+    /// would take too many clauses, by a network, in pairs along a balanced tree, light ones first,
+    /// so that sums of few of them are known early.
     Sums,
 }
 
@@ -53,9 +49,7 @@ impl Profile {
         ensures { result ≡ relaxing_of self }
     {
         match self {
-            Profile::One | Profile::Three | Profile::Four | Profile::Five => {
-                Relaxing::EachByVariable
-            }
+            Profile::One | Profile::Four | Profile::Five => Relaxing::EachByVariable,
             Profile::Two => Relaxing::UnitsByNegation,
         }
     }
@@ -66,7 +60,6 @@ impl Profile {
     {
         match self {
             Profile::One | Profile::Two => Adding::Columns,
-            Profile::Three => Adding::Tree,
             Profile::Four | Profile::Five => Adding::Sums,
         }
     }

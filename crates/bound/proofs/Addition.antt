@@ -4,7 +4,7 @@ use Rattle.std.proofs.Common.{◌++◌, refl, ◌∙◌, ap}
 use Rattle.cnf.specs.Literal.{Literal, positive}
 use Rattle.cnf.specs.Problem.{Problem, SoftClause}
 use Rattle.adder.specs.declared.profiles.Profile.{Profile}
-use Rattle.adder.specs.declared.profiles.Profile.TheVariants.{One, Two, Three, Four, Five}
+use Rattle.adder.specs.declared.profiles.Profile.TheVariants.{One, Two, Four, Five}
 use Rattle.adder.specs.declared.profiles.Relaxing.TheVariants.{EachByVariable}
 use Rattle.adder.specs.Network.{relaxing_of, relaxed_from, relaxed_variables, adders_as}
 use Rattle.sums_tree.specs.Arranging.{tree}
@@ -37,7 +37,6 @@ pub addition_cases : (profile : Profile) (p : Problem) (P : Addition → Type 0)
 unfolding addition_as
 addition_cases One p P network sums = network
 addition_cases Two p P network sums = network
-addition_cases Three p P network sums = network
 addition_cases Four p P network sums =
     elim (sums_over p (tree p))
     as (λ o. sums_over p (tree p) ≡ o → P (sums_or (adders_as Four p) o)) [

@@ -16,7 +16,7 @@ use Rattle.adder.specs.declared.cells.Cell.{Cell}
 use Rattle.adder.specs.declared.profiles.Profile.{Profile}
 use Rattle.adder.specs.declared.profiles.Profile.TheVariants.{One, Five}
 use Rattle.adder.specs.declared.profiles.Adding.{Adding}
-use Rattle.adder.specs.declared.profiles.Adding.TheVariants.{Columns, Tree as AlongTree}
+use Rattle.adder.specs.declared.profiles.Adding.TheVariants.{Columns}
 use Rattle.adder.specs.declared.profiles.Adding.TheVariants.{Sums as BySums}
 use Rattle.adder.specs.Network.{Adders, adders_as, adding_of, bit, relaxed_as, relaxed_variables}
 use Rattle.adder.specs.Network.{SameUpTo}
@@ -105,7 +105,6 @@ addition_as profile p = by (adding_of profile)
   where
     by : Adding → Addition
     by Columns = Network (adders_as profile p)
-    by AlongTree = Network (adders_as profile p)
     by BySums = sums_or (adders_as profile p) (sums_over p (tree p))
 
 abbrev pub addition_clauses : Addition → List (List Literal)

@@ -41,7 +41,7 @@ impl Addition {
         ensures { IfOk result (λ a. a ≡ addition_as profile instance.now) }
     {
         match profile.adding() {
-            Adding::Columns | Adding::Tree => network_of(instance, profile),
+            Adding::Columns => network_of(instance, profile),
             Adding::Sums => match sums_of(instance)? {
                 Some(root) => Ok(Addition::Sums(root)),
                 None => network_of(instance, profile),

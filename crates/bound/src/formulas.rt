@@ -43,9 +43,8 @@ pub fn formula(instance: &Instance, k: u64) -> Result<Formula, AllocError>
 
 /// As `formula`, in any profile: in `Profile::Two` a soft clause of one literal has no relaxation
 /// variable and is not among the clauses, as the negation of its literal relaxes it; in
-/// `Profile::Three` the network adds the weights in pairs along a balanced tree; in `Profile::Four`
-/// and `Profile::Five` the clauses of sums stand in place of those of cells, unless they would be
-/// too many.
+/// `Profile::Four` and `Profile::Five` the clauses of sums stand in place of those of cells, unless
+/// they would be too many.
 ///
 /// # Errors
 ///

@@ -12,7 +12,7 @@ use Rattle.std.proofs.lemmas.List.{take_all, take_more}
 use Rattle.std.proofs.lemmas.List.Elements.{All-nil, All-cons, All-head, All-tail, All-push}
 use Rattle.std.proofs.lemmas.List.Elements.{recursion_from_All}
 use Rattle.cnf.specs.Literal.{Literal, negation}
-use Rattle.cnf.specs.Clause.{contains_literal, has_repeat, is_subset}
+use Rattle.cnf.specs.Clause.{contains_literal, has_repeat, is_subset, is_empty_clause}
 use Rattle.cnf.proofs.Laws.{all_at, contains_front, contains_negation, subset_from}
 use Rattle.clauses.specs.Slots.{Slots, clause_at}
 use Rattle.clauses.specs.Within.{Within}
@@ -32,7 +32,7 @@ use Rattle.lrat_log.specs.declared.lines.Name.{Name}
 use Rattle.lrat_log.specs.declared.lines.Name.TheVariants.{Added}
 use Rattle.lrat_log.specs.declared.lines.Kind.TheVariants.{Learned}
 use Rattle.lrat_log.specs.Log.{LogLine}
-use Rattle.lrat_log.specs.Steps.{IsBaseOf, IsNewTo, log_live, nothing_exempt, is_empty_clause}
+use Rattle.lrat_log.specs.Steps.{IsBaseOf, IsNewTo, log_live, nothing_exempt}
 use Rattle.cdcl_search.specs.declared.input.Input.{Input}
 use Rattle.cdcl_search.specs.declared.search.Search.{Search}
 use Rattle.cdcl_search.specs.Invariant.{HasUnit, NotesUnits, IsRunning, zero_of}

@@ -13,7 +13,7 @@ use Rattle.std.proofs.lemmas.List.Elements.{All-push, All-head, All-tail, Contai
 use Rattle.std.proofs.lemmas.List.Elements.{All-nil}
 use Rattle.std.proofs.lemmas.Option.{same_Some, unwrap_or-slice_get}
 use Rattle.cnf.specs.Literal.{Literal, Assignment, literal_value}
-use Rattle.cnf.specs.Clause.{clause_value, Satisfies, greatest_variable}
+use Rattle.cnf.specs.Clause.{clause_value, Satisfies, greatest_variable, is_empty_clause}
 use Rattle.cnf.specs.Lrat.{IsId}
 use Rattle.cnf.specs.Refute.{IsUnit, IsFalseUnder, IsRefutedByHints}
 use Rattle.cnf.specs.Bits.{assignment_of}
@@ -26,7 +26,7 @@ use Rattle.lrat_log.specs.declared.lines.Name.{Name}
 use Rattle.lrat_log.specs.declared.lines.Name.TheVariants.{Formula}
 use Rattle.lrat_log.specs.Log.{LogLine, Given, given_at, number_in}
 use Rattle.lrat_log.specs.Steps.{StaysLogOver, IsLogOver, IsAcceptedLog, AddsNoEmptyClause}
-use Rattle.lrat_log.specs.Steps.{adds_empty_clause, is_empty_clause, IsBaseOf, log_live, IsNewTo}
+use Rattle.lrat_log.specs.Steps.{adds_empty_clause, IsBaseOf, log_live, IsNewTo}
 use Rattle.lrat_log.specs.Steps.{nothing_exempt}
 use Rattle.lrat_log.proofs.Laws.{accepted_log}
 use Rattle.eliminate.specs.Elimination.{StackState, Removed, extended, IsFree, becomes_true}

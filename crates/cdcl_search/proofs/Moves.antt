@@ -13,7 +13,8 @@ use Rattle.propagate.specs.Fits.{Fits, GrowsByUnits}
 use Rattle.lrat_log.specs.declared.lines.Name.{Name}
 use Rattle.lrat_log.specs.declared.lines.Name.TheVariants.{Added}
 use Rattle.lrat_log.specs.Log.{LogLine, Given, is_delete, number_in}
-use Rattle.lrat_log.specs.Steps.{adds_empty_clause, is_empty_clause}
+use Rattle.cnf.specs.Clause.{is_empty_clause}
+use Rattle.lrat_log.specs.Steps.{adds_empty_clause}
 use Rattle.lrat_log.proofs.Laws.{one_apart, open_push}
 use Rattle.eliminate.specs.Elimination.{StackState}
 use Rattle.cdcl_search.specs.Invariant.{Tables, name_at, is_kept_name, NamesStore, NotesUnits}

@@ -8,7 +8,7 @@ pub use Rattle.cnf.proofs.Laid.{compacting_live, laid_le, laid_push, laid_set, l
 pub use Rattle.cnf.proofs.Laid.{moved_within, pieces-append, pieces_dead, pieces_live, pieces_push}
 pub use Rattle.cnf.proofs.Laid.{range-append, range-appended}
 pub use Rattle.cnf.proofs.Lists.{all_append, all_both, all_left, all_mapped, all_parts, all_push}
-pub use Rattle.cnf.proofs.Lists.{all_right, all_weaker, contains_one}
+pub use Rattle.cnf.proofs.Lists.{all_right, all_weaker, below_more, contains_one}
 pub use Rattle.cnf.proofs.Literals.{all_at, all_from}
 pub use Rattle.cnf.proofs.Literals.{at_contains, contains-push, index_below, index_same}
 pub use Rattle.cnf.proofs.Literals.{literal_eq-complement, literal_eq-refl, literal_eq-swapped}

@@ -1,11 +1,17 @@
 -- What holds of each element of a list.
-use Rattle.std.proofs.Common.{◌≡◌, ℕ, zero, suc, List, [], ◌∷◌, ◌++◌, map, sym, arith}
+use Rattle.std.proofs.Common.{◌≡◌, ℕ, zero, suc, ◌<◌, ◌≤◌, List, [], ◌∷◌, ◌++◌, map, sym, arith}
 use Rattle.std.specs.List.{AllByRecursion, Contains}
+use Rattle.cnf.specs.Literal.{Literal}
+use Rattle.cnf.specs.Clause.{AreBelow}
 
 pub all_weaker : {X : Type 0} (P Q : X → Type 0) (xs : List X) → ((x : X) → P x → Q x)
     → AllByRecursion P xs → AllByRecursion Q xs
 all_weaker P Q [] f h = tt
 all_weaker P Q (x ∷ xs) f h = (f x h.0, all_weaker P Q xs f h.1)
+
+pub below_more : (n m : ℕ) (c : List Literal) → n ≤ m → AreBelow n c → AreBelow m c
+below_more n m c le h = all_weaker (λ l. l.variable < n) (λ l. l.variable < m) c
+    (λ l lt. omega (arith, le, lt)) h
 
 pub all_both : {X : Type 0} (P Q : X → Type 0) (xs : List X) → AllByRecursion P xs
     → AllByRecursion Q xs → AllByRecursion (λ x. P x × Q x) xs

@@ -1,7 +1,7 @@
 -- Clauses, as lists of literals.
-use Rattle.std.specs.Prelude.{◌≡◌, ℕ, max, Bool, true, false, not, ◌||◌, List, [], ◌∷◌, filter}
+use Rattle.std.specs.Prelude.{◌≡◌, ℕ, ◌<◌, ◌≤◌, All, max, Bool, true, false, not, ◌||◌, List, [], ◌∷◌, filter}
 use Rattle.std.specs.Prelude.{if◌then◌else◌}
-use Rattle.std.specs.List.{list_any}
+use Rattle.std.specs.List.{AllByRecursion, list_any}
 use Rattle.cnf.specs.Literal.{Literal, Assignment, negation, literal_value, literal_eq}
 
 -- true when some literal of it is; so the empty clause is never true
@@ -36,6 +36,18 @@ has_repeat (l ∷ c) = contains_literal l c || has_repeat c
 abbrev pub is_tautology : List Literal → Bool
 is_tautology [] = false
 is_tautology (l ∷ c) = contains_literal (negation l) c || is_tautology c
+
+abbrev pub is_empty_clause : List Literal → Bool
+is_empty_clause [] = true
+is_empty_clause (l ∷ c) = false
+
+-- no literal has a variable above the number
+abbrev pub IsClauseWithin : ℕ → List Literal → Type 0
+IsClauseWithin variables c = All (λ l. l.variable ≤ variables) c
+
+-- the variables of the literals are below n
+abbrev pub AreBelow : ℕ → List Literal → Type 0
+AreBelow n c = AllByRecursion (λ l. l.variable < n) c
 
 abbrev pub greatest_variable : List Literal → ℕ
 greatest_variable [] = 0

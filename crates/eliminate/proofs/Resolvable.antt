@@ -6,7 +6,7 @@ use Rattle.std.proofs.lemmas.Bool.{both_ways}
 use Rattle.std.proofs.lemmas.Option.{same_Some}
 use Rattle.std.proofs.lemmas.List.Elements.{All-nil, All-cons, All-append, All-filter, All-weaker}
 use Rattle.cnf.specs.Literal.{Literal, negation, literal_eq}
-use Rattle.cnf.specs.Clause.{contains_literal, without_literal, is_tautology}
+use Rattle.cnf.specs.Clause.{contains_literal, without_literal, is_tautology, is_empty_clause}
 use Rattle.cnf.specs.Formula.{IsFormulaClause}
 use Rattle.cnf.specs.Lrat.{IsId}
 use Rattle.clauses.specs.Slots.{Slots, clause_at}
@@ -16,7 +16,7 @@ use Rattle.lrat_log.specs.declared.lines.Kind.TheVariants.{Empty, Resolvent}
 use Rattle.lrat_log.specs.declared.lines.Hint.{Hint}
 use Rattle.lrat_log.specs.declared.lines.Hint.TheVariants.{Plain}
 use Rattle.lrat_log.specs.Log.{HasNumber, LogLine, is_delete, is_learned}
-use Rattle.lrat_log.specs.Steps.{given_of, IsOwnGroup, is_empty_clause}
+use Rattle.lrat_log.specs.Steps.{given_of, IsOwnGroup}
 use Rattle.cnf.specs.Marks.{HasPlace}
 use Rattle.eliminate.specs.declared.simplifier.Simplifier.{Simplifier}
 use Rattle.eliminate.specs.Elimination.{is_eliminated}

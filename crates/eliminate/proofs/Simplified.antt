@@ -5,11 +5,11 @@ use Rattle.std.proofs.Common.{◌∷◌, ◌++◌, length, Some, None, refl, sym
 use Rattle.std.specs.Prelude.{All, Contains}
 use Rattle.std.proofs.lemmas.Bool.{both_ways, false≢true}
 use Rattle.cnf.specs.Literal.{Literal}
-use Rattle.cnf.specs.Clause.{is_subset}
+use Rattle.cnf.specs.Clause.{is_subset, is_empty_clause}
 use Rattle.cnf.specs.Formula.{IsFormulaClause}
 use Rattle.clauses.specs.Slots.{Slots, clause_at, live_clauses}
 use Rattle.lrat_log.specs.Log.{LogLine}
-use Rattle.lrat_log.specs.Steps.{is_empty_clause, AddsNoEmptyClause}
+use Rattle.lrat_log.specs.Steps.{AddsNoEmptyClause}
 use Rattle.cnf.specs.Marks.{HasPlace}
 use Rattle.eliminate.specs.declared.simplifier.Simplifier.{Simplifier}
 use Rattle.lrat_log.specs.Steps.{added_count}

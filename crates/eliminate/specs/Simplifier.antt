@@ -8,7 +8,8 @@ use Rattle.cnf.specs.declared.limits.TheConstants.{FORMULA_VARIABLE_LIMIT}
 use Rattle.clauses.specs.Slots.{Slots, clause_at, live_clauses}
 use Rattle.lrat_log.specs.Log.{LogLine, IsLine, is_learned}
 use Rattle.lrat_log.specs.Steps.{given_of, StaysLogOver, AddsNoEmptyClause, learned_count}
-use Rattle.lrat_log.specs.Steps.{IsOwnGroup, is_empty_clause}
+use Rattle.cnf.specs.Clause.{is_empty_clause}
+use Rattle.lrat_log.specs.Steps.{IsOwnGroup}
 use Rattle.eliminate.specs.declared.ending.TheConstants.{MOST_FRESH}
 use Rattle.eliminate.specs.declared.simplifier.Simplifier.{Simplifier}
 use Rattle.eliminate.specs.Elimination.{is_eliminated}

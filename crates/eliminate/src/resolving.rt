@@ -3,7 +3,7 @@ ghost use Rattle.std.specs.Prelude.{◌≡◌, ◌<◌, List, [], ◌∷◌, fal
 ghost use Rattle.std.specs.Prelude.{IfOk, IfSome, Some, None, if◌then◌else◌};
 ghost use Rattle.cnf.specs.Literal.{Literal, negation};
 ghost use Rattle.clauses.specs.Slots.{clause_at};
-ghost use Rattle.lrat_log.specs.Steps.{is_empty_clause};
+ghost use Rattle.cnf.specs.Clause.{is_empty_clause};
 ghost use Rattle.eliminate_tables.specs.Resolvents.{resolvent};
 ghost use Rattle.eliminate.specs.Simplifier.{IsOpen, Passes};
 ghost use Rattle.eliminate.specs.Variables.{IsWith, GrowsWithout, IsPairResolved};

@@ -5,7 +5,7 @@ ghost use Rattle.std.specs.Prelude.{IfOk, OnOk, IfSome, OnErr};
 ghost use Rattle.cnf.specs.Formula.{IsFormula};
 ghost use Rattle.cnf.specs.Marks.{HasPlace};
 ghost use Rattle.clauses.specs.Slots.{IsLive, live_clauses};
-ghost use Rattle.lrat_log.specs.Steps.{is_empty_clause};
+ghost use Rattle.cnf.specs.Clause.{is_empty_clause};
 ghost use Rattle.eliminate_tables.specs.Rows.{AreRows};
 ghost use Rattle.eliminate_tables.specs.declared.against.Against.TheVariants.{Within};
 ghost use Rattle.eliminate.specs.Simplifier.{IsSimplified, IsOpen, IsAddable};

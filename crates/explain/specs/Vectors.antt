@@ -10,7 +10,7 @@ one_of_two = record {
   variables = 2;
   hard = (p 1 ∷ p 2 ∷ []) ∷ [];
   soft =
-      record { weight = 3; clause = n 1 ∷ [] } ∷ record { weight = 4; clause = n 2 ∷ [] } ∷ [];
+      record { weight = 3; clause = n 1 ∷ [] } ∷ record { weight = 5; clause = n 2 ∷ [] } ∷ [];
 }
 
 given_up :

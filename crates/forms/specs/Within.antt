@@ -1,21 +1,18 @@
 -- What is known of counts and groups.
 use Rattle.std.specs.Prelude.{ℕ, ◌+◌, ◌*◌, ◌<◌, ◌≤◌, ◌^◌, List, All, length}
 use Rattle.cnf.specs.Literal.{Literal}
+use Rattle.cnf.specs.Clause.{IsClauseWithin}
 use Rattle.totalizer.specs.Stages.{Tree, outputs_of, size_of}
 use Rattle.totalizer.specs.Grown.{HasStages, IsTreeBelow}
 use Rattle.forms.specs.declared.numbered.Numbered.{Numbered as Stamped}
 use Rattle.forms.specs.declared.numbered.Numbered.TheVariants.{Count as StampedCount}
 use Rattle.forms.specs.declared.numbered.Numbered.TheVariants.{Group as StampedGroup}
 
--- literals of variables up to a number
-abbrev pub AreWithin : ℕ → List Literal → Type 0
-AreWithin variables c = All (λ l. l.variable ≤ variables) c
-
 -- what is known of a count
 pub record IsCount (variables terms : ℕ) (inputs : List Literal) (tree : Tree) (multiplier : ℕ) :
     Type 0 where
   pub some : 0 < length inputs
-  pub known : AreWithin variables inputs
+  pub known : IsClauseWithin variables inputs
   pub below : IsTreeBelow (variables + 1) tree
   pub stages : HasStages (length (outputs_of tree)) tree
   pub small : size_of tree ≤ 2 ^ 26
@@ -24,7 +21,7 @@ pub record IsCount (variables terms : ℕ) (inputs : List Literal) (tree : Tree)
 -- and of a count or group
 abbrev pub IsWithin : ℕ → ℕ → Stamped → Type 0
 IsWithin variables terms (StampedGroup lits) =
-    (2 ≤ length lits.items) × AreWithin variables lits.items
+    (2 ≤ length lits.items) × IsClauseWithin variables lits.items
 IsWithin variables terms (StampedCount c) =
     IsCount variables terms c.inputs.items c.totalizer c.multiplier
 

@@ -9,13 +9,13 @@ use Rattle.std.proofs.lemmas.Bool.{false≢true}
 use Rattle.std.proofs.lemmas.List.Elements.{recursion_from_All, All-from_recursion}
 use Rattle.std.proofs.lemmas.List.{length-map}
 use Rattle.cnf.specs.Literal.{Literal}
-use Rattle.cnf.specs.Clause.{is_subset, IsCovered}
+use Rattle.cnf.specs.Clause.{is_subset, IsCovered, is_empty_clause}
 use Rattle.cnf.specs.Formula.{Cnf, IsFormulaClause}
 use Rattle.cnf.specs.Problem.{Problem}
 use Rattle.cnf.specs.Instance.{IsInstance}
 use Rattle.lrat_log.specs.declared.lines.Name.{Name}
 use Rattle.lrat_log.specs.Log.{LogLine, clauses_in}
-use Rattle.lrat_log.specs.Steps.{IsLogOver, IsAcceptedLog, AddsNoEmptyClause, is_empty_clause}
+use Rattle.lrat_log.specs.Steps.{IsLogOver, IsAcceptedLog, AddsNoEmptyClause}
 use Rattle.lrat_log.specs.Steps.{LearnsNew, is_later, learned_count, given_of}
 use Rattle.lrat_log.specs.Rebase.{WeakerList, rebased, IsWeakerOf, IsSomeClause, KeepsLog}
 use Rattle.adder.specs.declared.profiles.Profile.{Profile}

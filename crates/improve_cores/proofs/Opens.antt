@@ -1,5 +1,6 @@
 -- A log over clauses that can be satisfied never adds the empty clause; and those of a search for
 -- cores can, where the instance has a solution.
+use Rattle.std.proofs.lemmas.Bool.{or_parts}
 use Rattle.std.proofs.Common.{◌≡◌, ℕ, ◌+◌, ◌<◌, ◌≤◌, Bool, true, false, ◌||◌, List, [], ◌∷◌}
 use Rattle.std.proofs.Common.{◌++◌, ◌∙◌, length, refl, sym, ap, subst, arith, All}
 use Rattle.std.specs.Prelude.{nat_le, if◌then◌else◌}
@@ -22,14 +23,10 @@ use Rattle.improve_cores.specs.CoreWork.{work_clauses}
 use Rattle.improve_cores.specs.Work.{IsSearchWork}
 use Rattle.improve_cores.specs.declared.work.SearchWork.{SearchWork}
 
-neither : (a b : Bool) → (a || b) ≡ false → (a ≡ false) × (b ≡ false)
-neither true b e = absurd (true≢false e)
-neither false b e = (refl, e)
-
 pub none_adds : (ls : List LogLine) → list_any adds_empty_clause ls ≡ false → AddsNoEmptyClause ls
 none_adds [] e = tt
 none_adds (l ∷ ls) e =
-    let h = neither (adds_empty_clause l) (list_any adds_empty_clause ls) e in
+    let h = or_parts (adds_empty_clause l) (list_any adds_empty_clause ls) e in
     (h.0, none_adds ls h.1)
 
 pub stays_open : (cs : List (List Literal)) (ls : List LogLine) → IsLogOver (given_of cs) ls

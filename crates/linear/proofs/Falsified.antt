@@ -1,4 +1,5 @@
 -- Literals that become false, one after the other.
+use Rattle.std.proofs.lemmas.Bool.{or_parts}
 use Rattle.std.proofs.Common.{◌≡◌, ◌≢◌, ℕ, zero, suc, ℤ, ◌+ℤ◌, ◌+◌, ◌<◌, List, [], ◌∷◌, ◌++◌}
 use Rattle.std.proofs.Common.{Option, Some, None, Bool, true, false, ◌||◌, length, get_or, set}
 use Rattle.std.proofs.Common.{take, arith, refl, sym, ap, ◌∙◌, inl, inr, get_or-set_other}
@@ -32,10 +33,6 @@ falsified_other (l ∷ ls) fs v h =
     falsified_other ls (set fs l.variable (Some l.negated)) v h.1
     ∙ get_or-set_other fs l.variable v (Some l.negated) None (λ e. h.0 (sym e))
 
-neither : (a b : Bool) → (a || b) ≡ false → (a ≡ false) × (b ≡ false)
-neither false b e = (refl, e)
-neither true b e = cc
-
 -- a literal's variable is of none before it, where none stands twice
 pub others_before : (ls : List Literal) (i : ℕ) (l : Literal) → has_repeat ls ≡ false
     → is_tautology ls ≡ false → i < length ls → l ≡ get_or ls i l
@@ -43,8 +40,8 @@ pub others_before : (ls : List Literal) (i : ℕ) (l : Literal) → has_repeat l
 others_before [] i l h t lt is = absurd (omega (arith, lt))
 others_before (k ∷ c) zero l h t lt is = tt
 others_before (k ∷ c) (suc i) l h t lt is =
-    let r = neither (contains_literal k c) (has_repeat c) h in
-    let s = neither (contains_literal (negation k) c) (is_tautology c) t in
+    let r = or_parts (contains_literal k c) (has_repeat c) h in
+    let s = or_parts (contains_literal (negation k) c) (is_tautology c) t in
     let d : i < length c = omega (arith, lt) in
     let m = at_contains c i l d is in
     let first : k.variable ≢ l.variable

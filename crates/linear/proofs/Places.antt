@@ -43,10 +43,6 @@ pub record StandsAt (ts : List Term) (v : ℕ) (old : Term) : Type 0 where
   pub within : v < length ts
   pub here : old ≡ get_or ts v old
 
-pub width_within : (k : ℤ) (s : ℕ) (r : ℤ) (p : ℕ) (ts : List Term) (v : ℕ)
-    → v < width_of (form_of_terms k s r p ts) → v < length ts
-width_within k s r p ts v lt = omega (arith, length-map ts (λ t. t.value), lt)
-
 pub within_width : (ts : List Term) (v : ℕ) → v < length ts → v < length (values ts)
 within_width ts v lt = omega (arith, length-map ts (λ t. t.value), lt)
 
@@ -323,22 +319,6 @@ widened_form k s r p ts width t c e f =
     (map-append (λ u. u.value) ts (replicate m t)
     ∙ ap (λ xs. values ts ++ xs) (map_replicate (λ u. u.value) m t ∙ ap (λ x. replicate m x) f)
     ∙ ap (λ x. values ts ++ replicate x None) n)
-
--- no wider than it was
-pub as_wide : (f : CostForm) (width : ℕ) → width ≤ width_of f → widened width f ≡ f
-as_wide f width h =
-    let z : width - width_of f ≡ 0 = omega (arith, h) in
-    let cs = append-nil (f.cost).coefficients in
-    let rs = append-nil (f.rest).coefficients in
-    let fs = append-nil f.fixed in
-    ap (λ n. record {
-      cost = widened_linear n f.cost;
-      scale = f.scale;
-      rest = widened_linear n f.rest;
-      fixed = f.fixed ++ replicate n None;
-    }) z ∙ same_form (f.cost).constant f.scale (f.rest).constant ((f.cost).coefficients ++ [])
-    (f.cost).coefficients ((f.rest).coefficients ++ []) (f.rest).coefficients
-    (f.fixed ++ []) f.fixed cs rs fs
 
 -- what a literal's weight adds to its coefficient and to the constant
 pub literal_parts : (w : ℤ) (l : Literal) (f : Linear)

@@ -19,7 +19,7 @@ use Rattle.lrat_check.specs.Ends.{Faulty, end_of_head}
 use Rattle.lrat_check.specs.Heads.{EndsWith, HeadReading, IsEndedHead, IsLineLeft, IsOpenHead}
 use Rattle.cores.proofs.Laws.{counted_push}
 use Rattle.lrat_check.proofs.EndLaws.{other_first}
-use Rattle.lrat_check.proofs.PieceLaws.{tokens-first, tokens-last}
+use Rattle.text.proofs.Laws.{line_tokens-first, line_tokens-last}
 
 pub core_counted : (old new : HeadState) (c : Core) → new.from ≡ old.from
     → count_core old.from old.counted c ≡ Ok new.counted → CountsOn old new
@@ -60,7 +60,7 @@ module _ (p : Problem) (old : HeadReading) (bytes end : List ℕ)
   at_line : (more : List ℕ) → end_from old.head (tokens ∷ token_lines more)
       ≡ end_of_head p ((bytes ++ (end ++ 10 ∷ [])) ++ more)
   at_line more =
-      ap (end_from old.head) (sym (tokens-first (old.rest ++ end) more no_feeds))
+      ap (end_from old.head) (sym (line_tokens-first (old.rest ++ end) more no_feeds))
       ∙ h.resumes ((old.rest ++ end) ++ 10 ∷ more)
       ∙ ap (end_of_head p) (regroup more)
 
@@ -82,7 +82,7 @@ module _ (p : Problem) (old : HeadReading) (bytes end : List ℕ)
       ≡ end_at old.head (token_lines ((old.rest ++ end) ++ 10 ∷ more))
   line_ended more behind =
       sym (at_line more) ∙ behind_at old.head tokens (token_lines more) behind
-      ∙ ap (end_at old.head) (sym (tokens-first (old.rest ++ end) more no_feeds))
+      ∙ ap (end_at old.head) (sym (line_tokens-first (old.rest ++ end) more no_feeds))
 
 -- what is left where the head has ended before a line
 left_behind : (rest new_rest end after left more : List ℕ) (kept : ℕ) → kept ≤ length end
@@ -213,13 +213,13 @@ module _ (p : Problem) (r : HeadReading) (bytes : List ℕ) (h : IsOpenHead p r 
   last_line : 0 < length r.rest
       → end_from r.head (tokens_of r.rest ∷ []) ≡ end_of_head p bytes
   last_line some =
-      ap (end_from r.head) (sym (tokens-last r.rest some ((h.cut).unfinished)))
+      ap (end_from r.head) (sym (line_tokens-last r.rest some ((h.cut).unfinished)))
       ∙ h.resumes r.rest ∙ ap (end_of_head p) (sym (h.cut).split)
 
   last_ended : 0 < length r.rest → IsBehindHead (tokens_of r.rest)
       → end_at r.head (token_lines r.rest) ≡ end_of_head p bytes
   last_ended some behind =
-      ap (end_at r.head) (tokens-last r.rest some ((h.cut).unfinished))
+      ap (end_at r.head) (line_tokens-last r.rest some ((h.cut).unfinished))
       ∙ sym (behind_at r.head (tokens_of r.rest) [] behind) ∙ last_line some
 
 pub ends_with : (old new : HeadReading) (step : HeadStep) → 0 < length old.rest

@@ -11,3 +11,4 @@ pub mod BehindLaws
 pub mod LeftLaws
 pub mod Stops
 pub mod LowerLaws
+pub mod CutsLaws

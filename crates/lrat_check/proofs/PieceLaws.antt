@@ -13,7 +13,7 @@ use Rattle.std.specs.Io.KnownBytes.{Consumes, IsAtEnd}
 use Rattle.cnf.specs.Literal.{Literal}
 use Rattle.text.specs.Text.{tokens_of, token_lines, IsNoFeed}
 use Rattle.text.specs.Pieces.{EndsInFeed, IsCut, HasTaken}
-use Rattle.text.proofs.Laws.{cut-ended, cut-kept, cut-nothing, lines-rest, lines-split}
+use Rattle.text.proofs.Laws.{cut-ended, cut-kept, cut-nothing, line_tokens-first, line_tokens-last}
 use Rattle.text.proofs.Laws.{taken-on, taken-whole}
 use Rattle.lrat_machine.specs.declared.verdicts.Verdict.{Verdict}
 use Rattle.lrat_machine.specs.Machine.{MachineState, after_lines, listed_from, verdict_after}
@@ -21,14 +21,6 @@ use Rattle.lrat_check.specs.Verdict.{verdict_on, proof_verdict}
 use Rattle.lrat_machine.proofs.Laws.{live_of-start, state_of}
 use Rattle.lrat_check.specs.Pieces.{ReadingState, IsOpen, IsRefused, Holds, Judges}
 use Rattle.lrat_check.specs.Pieces.{CheckerState, HasJudged, JudgesLines}
-
--- the tokens of the first line, and those of the others
-pub tokens-first : (x more : List ℕ) → IsNoFeed x
-    → token_lines (x ++ 10 ∷ more) ≡ tokens_of (strip_carriage_return x) ∷ token_lines more
-tokens-first x more h = ap (map tokens_of) (lines-split x more h)
-
-pub tokens-last : (x : List ℕ) → 0 < length x → IsNoFeed x → token_lines x ≡ tokens_of x ∷ []
-tokens-last x l h = ap (map tokens_of) (lines-rest x l h)
 
 regroup : (d r t more : List ℕ) → d ++ ((r ++ t) ++ more) ≡ ((d ++ r) ++ t) ++ more
 regroup d r t more = simp append_assoc
@@ -89,7 +81,7 @@ lines_more old new text none ended empty j formula bytes h = record {
 pub verdict_first : (m : MachineState) (x more : List ℕ) → IsNoFeed x
     → verdict_after m (token_lines (x ++ 10 ∷ more))
     ≡ verdict_after m (tokens_of (strip_carriage_return x) ∷ token_lines more)
-verdict_first m x more h = ap (verdict_after m) (tokens-first x more h)
+verdict_first m x more h = ap (verdict_after m) (line_tokens-first x more h)
 
 first_of : (m : MachineState) (x line more : List ℕ) → IsNoFeed x
     → line ≡ strip_carriage_return x
@@ -235,7 +227,7 @@ pub lines_passed_on : (l : Live) (k n : ℕ) (more : List ℕ)
 lines_passed_on l k zero more =
     let same : k ≡ k + 0 = omega arith in ap (λ j. verdict_on l false j (token_lines more)) same
 lines_passed_on l k (suc n) more =
-    ap (verdict_on l false k) (tokens-first [] (replicate n 10 ++ more) none)
+    ap (verdict_on l false k) (line_tokens-first [] (replicate n 10 ++ more) none)
     ∙ lines_passed_on l (k + 1) n more
     ∙ (let same : (k + 1) + n ≡ k + suc n = omega arith in
     ap (λ j. verdict_on l false j (token_lines more)) same)
@@ -288,7 +280,7 @@ module _ (r : ReadingState) (none : r.refused ≡ None) (some : 0 < length r.res
   last_line : verdict_after r.machine (tokens_of r.rest ∷ []) ≡ proof_verdict formula bytes
   last_line =
       let o = h.open_end none in
-      ap (verdict_after r.machine) (sym (tokens-last r.rest some (o.cut).unfinished))
+      ap (verdict_after r.machine) (sym (line_tokens-last r.rest some (o.cut).unfinished))
       ∙ o.resumes r.rest ∙ ap (proof_verdict formula) (sym (o.cut).split)
 
   pub ends_open : (new : MachineState) → Judges r.machine r.rest new None

@@ -9,3 +9,4 @@ pub mod CoreFormula
 pub mod Left
 pub mod Stopping
 pub mod Lower
+pub mod Cuts

@@ -80,30 +80,41 @@ bits_fault p r cost bits =
     else if not (cost_under p (assignment_of bits) == cost) then Some (No CostWrong r.cost_line)
     else None
 
-abbrev pub said_verdict : Profile → Problem → Report → List ℕ → Verdict
-said_verdict profile p r proof = by r.said
+-- the verdict on what was said of an instance, from those on a certificate: that nothing costs less
+-- than this, and that there is no solution
+abbrev pub verdict_said : Problem → Report → (ℕ → Verdict) → Verdict → Verdict
+verdict_said p r costs_least inconsistent = by r.said
   where
     first : Option Verdict → Verdict → Verdict
     first None next = next
     first (Some v) next = v
 
     by : Said → Verdict
-    by (OptimumFound c bits) =
-        first (bits_fault p r c bits) (bound_verdict profile p c proof)
+    by (OptimumFound c bits) = first (bits_fault p r c bits) (costs_least c)
     by (Satisfiable c bits) = first (bits_fault p r c bits) (No StatusWithoutProof r.status_line)
-    by Unsatisfiable = proof_verdict (hard_cnf p).clauses proof
+    by Unsatisfiable = inconsistent
     by Unknown = No StatusWithoutProof r.status_line
 
-abbrev pub verdict_as : Profile → List ℕ → List ℕ → List ℕ → Verdict
-verdict_as profile text result proof = read (reading_of text)
+-- the verdict on a text and a result, from that on what the result says of the instance
+abbrev pub verdict_read : List ℕ → List ℕ → (Problem → Report → Verdict) → Verdict
+verdict_read text result said = read (reading_of text)
   where
     reported : Problem → Result Report ℕ → Verdict
     reported p (Err n) = No ResultForm n
-    reported p (Ok r) = said_verdict profile p r proof
+    reported p (Ok r) = said p r
 
     read : Result Problem (FaultKind × ℕ) → Verdict
     read (Err e) = No Text e.1
     read (Ok p) = reported p (report_of result)
+
+abbrev pub said_verdict : Profile → Problem → Report → List ℕ → Verdict
+said_verdict profile p r proof =
+    verdict_said p r (λ cost. bound_verdict profile p cost proof)
+    (proof_verdict (hard_cnf p).clauses proof)
+
+abbrev pub verdict_as : Profile → List ℕ → List ℕ → List ℕ → Verdict
+verdict_as profile text result proof =
+    verdict_read text result (λ p r. said_verdict profile p r proof)
 
 abbrev pub check_verdict : List ℕ → List ℕ → List ℕ → Verdict
 check_verdict text result proof = verdict_as One text result proof

@@ -190,13 +190,13 @@ fn read_claim(instance: Instance, report: &Report, profile: Profile) -> Result<L
         },
         Said::Sat(solution) => match solution_fault(&instance, solution) {
             Some(refused) => Ok(Left::Nothing(refused)),
-            None => Ok(refuse_status(report)),
+            None => Ok(Left::Nothing(refuse_status(report))),
         },
         Said::Unsat => {
             let formula = hard_formula(&instance)?;
             Ok(Left::Proof(formula))
         }
-        Said::Limit => Ok(refuse_status(report)),
+        Said::Limit => Ok(Left::Nothing(refuse_status(report))),
     }
 }
 
@@ -211,15 +211,15 @@ fn takes_cores(profile: Profile, cost: u64) -> bool
 }
 
 // A certificate shows nothing of the status.
-fn refuse_status(report: &Report) -> Left
-    ensures { result ≡ Left.Nothing (Verdict.No Cause.StatusWithoutProof report.now.status_line) }
+pub(crate) fn refuse_status(report: &Report) -> Verdict
+    ensures { result ≡ Verdict.No Cause.StatusWithoutProof report.now.status_line }
 {
-    Left::Nothing(Verdict::No(Cause::StatusWithoutProof, report.status_line))
+    Verdict::No(Cause::StatusWithoutProof, report.status_line)
 }
 
 // The first fault of a solution: the number of its bits, a hard clause that they break, a cost that
 // they do not have.
-fn solution_fault(instance: &Instance, solution: &ClaimedSolution) -> Option<Verdict>
+pub(crate) fn solution_fault(instance: &Instance, solution: &ClaimedSolution) -> Option<Verdict>
     ensures fault { (r : Reported) → r.bits_line ≡ solution.now.bits_line
         → r.cost_line ≡ solution.now.cost.line
         → result ≡ bits_fault instance.now r solution.now.cost.cost solution.now.bits.items }

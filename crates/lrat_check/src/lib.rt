@@ -6,6 +6,7 @@ pub mod certificate;
 pub mod checking;
 pub mod core_formula;
 mod core_lines;
+pub mod cuts;
 mod head_streams;
 mod headed;
 mod heads;

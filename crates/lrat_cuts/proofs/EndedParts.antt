@@ -4,7 +4,6 @@ use Rattle.std.proofs.Common.{subst, take, inl, inr, append_assoc, append-nil, i
 use Rattle.std.specs.Prelude.{◌==◌, ◌≤◌, length, Option, None, Some, Ok, Err, IsOk}
 use Rattle.std.proofs.lemmas.List.Elements.{All-head, All-tail}
 use Rattle.std.specs.Io.KnownBytes.{Consumes}
-use Rattle.std.proofs.KnownBytes.{Consumes-trans}
 use Rattle.cnf.specs.Problem.{Problem}
 use Rattle.text.specs.declared.watched.TheConstants.{READ_SIZE}
 use Rattle.text.specs.Text.{IsNoFeed}
@@ -57,13 +56,6 @@ pub open_ended : (r : ReadingState) (cost : Option ℕ) (p : Problem) (bytes : L
 open_ended r cost p bytes o =
     ap (judged_text cost p) (ended_part-cut bytes o.done r.rest o.cut ∙ sym (append-nil o.done))
     ∙ sym (o.resumes [])
-
--- nothing more is read
-pub read_nothing : (a b c : Option (List ℕ)) (bytes buffer : List ℕ) (k : ℕ)
-    → Consumes a b bytes → Consumes b c (take k buffer) → k ≡ 0 → Consumes a c bytes
-read_nothing a b c bytes buffer k p q e =
-    subst (Consumes a c) (append-nil bytes)
-    (Consumes-trans a b c bytes [] p (subst (Consumes b c) (ap (λ j. take j buffer) e) q))
 
 -- a piece more is read
 pub piece_on : (r : ReadingState) (cost : Option ℕ) (p : Problem) (before front piece : List ℕ)

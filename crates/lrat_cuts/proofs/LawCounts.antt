@@ -6,13 +6,14 @@ use Rattle.std.proofs.lemmas.List.Sums.{sum_by_push}
 use Rattle.std.proofs.Math.Nat.{zero-mul}
 use Rattle.std.specs.List.{AllByRecursion}
 use Rattle.cnf.specs.Literal.{Assignment, Literal, SameBelow, literal_value}
-use Rattle.cnf.specs.Clause.{Satisfies, greatest_variable, has_repeat, is_tautology}
+use Rattle.cnf.specs.Clause.{Satisfies, greatest_variable, has_repeat, is_tautology, AreBelow}
 use Rattle.cnf.specs.Problem.{Problem}
 use Rattle.cnf.specs.Instance.{IsInstance}
 use Rattle.cnf.proofs.Laws.{all_left, all_push, all_right, all_weaker}
 use Rattle.adder.specs.Network.{SameUpTo}
 use Rattle.totalizer.specs.Stages.{Staged, outputs_of, totalizer_of, tree_of}
-use Rattle.totalizer.specs.Grown.{AreBelow, HasStages, IsTreeBelow}
+use Rattle.totalizer.specs.Grown.{HasStages, IsTreeBelow}
+use Rattle.cnf.proofs.Laws.{below_more}
 use Rattle.totalizer.proofs.Laws.{count_steps, means_same, outputs_count, stages_below, stages_from}
 use Rattle.totalizer.proofs.Laws.{stages_size, totalizer_extends, totalizer_has, totalizer_leaves}
 use Rattle.totalizer.proofs.Laws.{totalizer_true, tree_below_more, tree_of_below, tree_of_size}
@@ -27,10 +28,6 @@ use Rattle.lrat_cuts.proofs.LawMeaning.{IsMeant, Means, slack}
 pub same_count : (t : Assignment) (xs : List Literal)
     → true_count t xs ≡ Rattle.std.specs.List.count_by (literal_value t) xs
 same_count t xs = count_steps t (true_count t) refl (λ l ls. refl) xs
-
-pub below_more : (n m : ℕ) (c : List Literal) → n ≤ m → AreBelow n c → AreBelow m c
-below_more n m c le h = all_weaker (λ l. l.variable < n) (λ l. l.variable < m) c
-    (λ l lt. omega (arith, le, lt)) h
 
 pub item_more : (n m : ℕ) (x : Numbered) → n ≤ m → IsItemBelow n x → IsItemBelow m x
 item_more n m (Count inputs tree multiplier) le h = record {

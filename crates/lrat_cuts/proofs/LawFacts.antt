@@ -10,13 +10,13 @@ use Rattle.std.proofs.lemmas.Option.{get_or_from_slice_get, slice_get_within}
 use Rattle.std.proofs.Math.Nat.{add-mul, mul-add, mul-le-mul, mul-one, zero-mul}
 use Rattle.std.proofs.Math.IntN.{negsuc-*ℤ-pos}
 use Rattle.std.specs.List.{AllByRecursion}
+use Rattle.cnf.specs.Numbers.{one_if}
 use Rattle.cnf.specs.Literal.{Assignment, Literal, literal_value}
-use Rattle.cnf.specs.Clause.{Satisfies, clause_value, greatest_variable}
+use Rattle.cnf.specs.Clause.{Satisfies, clause_value, greatest_variable, AreBelow}
 use Rattle.cnf.specs.Problem.{Problem}
 use Rattle.cnf.specs.Refute.{Clauses}
-use Rattle.cnf.proofs.Laws.{AllHold}
+use Rattle.cnf.proofs.Laws.{AllHold, below_more}
 use Rattle.totalizer.specs.Stages.{outputs_of}
-use Rattle.totalizer.specs.Grown.{AreBelow}
 use Rattle.totalizer.proofs.Laws.{outputs_at_most, outputs_below}
 use Rattle.linear.specs.Linear.{true_count, value}
 use Rattle.linear.specs.Costs.{AgreesWith, CostForm, HasOneWidth, widened, width_of}
@@ -31,7 +31,7 @@ use Rattle.lrat_cuts.proofs.LawMeaning.{FormHolds, IsCheap, IsItemBelow, IsLow, 
 use Rattle.lrat_cuts.proofs.LawMeaning.{slack}
 use Rattle.lrat_cuts.proofs.LawForms.{Holds}
 use Rattle.lrat_cuts.proofs.LawResults.{err_ok, ok_same}
-use Rattle.lrat_cuts.proofs.LawCounts.{below_more, greatest_below, item_more, same_count}
+use Rattle.lrat_cuts.proofs.LawCounts.{greatest_below, item_more, same_count}
 use Rattle.lrat_cuts.proofs.LawMore.{all_here, all_place, all_set, all_back}
 
 -- so many times less
@@ -46,14 +46,11 @@ times_less (suc w) n =
     let k = ap (λ x. x *ℤ pos n) e in
     omega (arith, ints, d, k)
 
-abbrev digit : Bool → ℕ
-digit b = if b then 1 else 0
-
 some_true : (t : Assignment) (c : List Literal) → Satisfies t c → 1 ≤ true_count t c
 some_true t [] e = absurd (false≢true e)
 some_true t (l ∷ c) e = elim (or_cases (literal_value t l) (clause_value t c) e) [
   | inl here ↦
-      let one : digit (literal_value t l) ≡ 1 = ap digit here in
+      let one : one_if (literal_value t l) ≡ 1 = ap one_if here in
       omega (arith, one)
   | inr more ↦ omega (arith, some_true t c more)
 ]

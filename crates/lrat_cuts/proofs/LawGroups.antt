@@ -5,6 +5,7 @@ use Rattle.std.proofs.lemmas.Int.{ints}
 use Rattle.std.proofs.lemmas.Bool.{and_parts, or_cases, false≢true, both_ways, cases_Bool}
 use Rattle.std.proofs.lemmas.List.Sums.{sum_by_push}
 use Rattle.std.specs.List.{AllByRecursion}
+use Rattle.cnf.specs.Numbers.{one_if}
 use Rattle.cnf.specs.Literal.{Assignment, Literal, literal_eq, literal_value, negation}
 use Rattle.cnf.specs.Clause.{Satisfies, clause_value, contains_literal}
 use Rattle.cnf.specs.Problem.{Problem}
@@ -59,9 +60,6 @@ excluded_each t at (q ∷ ps) (i ∷ ids) all e =
           (excluded_one t q c parts.0 (all i c s), excluded_each t at ps ids all parts.1)
     ] refl
 
-abbrev digit : Bool → ℕ
-digit b = if b then 1 else 0
-
 -- where a literal is true, those that exclude it are false
 none_with : (t : Assignment) (l : Literal) (before : List Literal) → literal_value t l ≡ true
     → AllByRecursion (IsEitherFalse t) (pairs_with l before) → true_count t before ≡ 0
@@ -71,7 +69,7 @@ none_with t l (m ∷ before) on h =
       | inl first ↦ first
       | inr second ↦ absurd (both_ways (literal_value t l) second on)
     ] in
-    let e : digit (literal_value t m) ≡ 0 = ap digit off in
+    let e : one_if (literal_value t m) ≡ 0 = ap one_if off in
     omega (arith, e, none_with t l before on h.1)
 
 count_after : (t : Assignment) (before ls : List Literal) → true_count t before ≤ 1
@@ -84,7 +82,7 @@ count_after t before (l ∷ ls) low h =
     let pushed = count_push t before l in
     elim (cases_Bool (literal_value t l)) [
       | inl on ↦
-          let e : digit (literal_value t l) ≡ 1 = ap digit on in
+          let e : one_if (literal_value t l) ≡ 1 = ap one_if on in
           let none = none_with t l before on parts.0 in
           omega (
             arith,
@@ -94,7 +92,7 @@ count_after t before (l ∷ ls) low h =
             count_after t (before ++ l ∷ []) ls (omega (arith, pushed, e, none)) parts.1,
           )
       | inr off ↦
-          let e : digit (literal_value t l) ≡ 0 = ap digit off in
+          let e : one_if (literal_value t l) ≡ 0 = ap one_if off in
           omega (
             arith,
             pushed,

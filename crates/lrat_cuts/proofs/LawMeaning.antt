@@ -14,7 +14,8 @@ use Rattle.cnf.specs.declared.limits.TheConstants.{NUMBER_LIMIT}
 use Rattle.adder.specs.declared.profiles.Profile.TheVariants.{Two}
 use Rattle.adder.specs.Network.{relaxed_variables, SameUpTo}
 use Rattle.totalizer.specs.Stages.{Tree, outputs_of, true_leaves}
-use Rattle.totalizer.specs.Grown.{AreBelow, HasStages, IsTreeBelow, MeansRight}
+use Rattle.cnf.specs.Clause.{AreBelow}
+use Rattle.totalizer.specs.Grown.{HasStages, IsTreeBelow, MeansRight}
 use Rattle.linear.specs.Linear.{true_count, value}
 use Rattle.linear.specs.Costs.{AgreesWith, CostForm, HasOneWidth, form_value, width_of}
 use Rattle.bound.proofs.Laws.{AreTight, feasible_same, solution_cost}

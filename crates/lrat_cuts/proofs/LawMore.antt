@@ -11,7 +11,7 @@ use Rattle.cnf.specs.Literal.{Assignment, Literal, positive}
 use Rattle.cnf.specs.Clause.{Satisfies}
 use Rattle.cnf.specs.Problem.{Problem}
 use Rattle.cnf.specs.Instance.{IsInstance}
-use Rattle.cnf.proofs.Laws.{all_weaker}
+use Rattle.cnf.proofs.Laws.{all_weaker, below_more}
 use Rattle.adder.specs.Network.{SameUpTo}
 use Rattle.totalizer.specs.Stages.{Tree, Leaf, Node, Staged, outputs_of, size_of, stage}
 use Rattle.totalizer.specs.Grown.{HasStages, MeansRight}
@@ -25,7 +25,7 @@ use Rattle.linear.proofs.Laws.{widened_wide, widened_width}
 use Rattle.forms.specs.Forms.{Numbered, Count, last_of, plus}
 use Rattle.lrat_cuts.proofs.LawMeaning.{FormHolds, IsCheap, IsCountBelow, IsItemBelow, IsLow}
 use Rattle.lrat_cuts.proofs.LawMeaning.{IsMeant, Means, slack}
-use Rattle.lrat_cuts.proofs.LawCounts.{below_more, choice_kept, item_more, last_push}
+use Rattle.lrat_cuts.proofs.LawCounts.{choice_kept, item_more, last_push}
 use Rattle.lrat_cuts.proofs.LawCounts.{meant_kept, same_count}
 
 -- what holds of each element of a list in which one is changed

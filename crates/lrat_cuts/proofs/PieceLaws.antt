@@ -7,20 +7,12 @@ use Rattle.std.proofs.lemmas.List.Elements.{All-append}
 use Rattle.cnf.specs.Problem.{Problem}
 use Rattle.text.specs.Text.{tokens_of, token_lines, IsNoFeed}
 use Rattle.text.specs.Pieces.{IsCut, HasTaken}
-use Rattle.text.proofs.Laws.{cut-ended, cut-kept, lines-rest, lines-split, taken-on, taken-whole}
+use Rattle.text.proofs.Laws.{cut-ended, cut-kept, line_tokens-first, line_tokens-last, taken-on, taken-whole}
 use Rattle.lrat_machine.specs.declared.verdicts.Cause.{Cause}
 use Rattle.lrat_cuts.specs.Machine.{MachineState, judged_after}
 use Rattle.lrat_cuts.specs.Pieces.{CheckerState, HasJudged, Holds, IsOpen, IsRefused, Judges}
 use Rattle.lrat_cuts.specs.Pieces.{ReadingState}
 use Rattle.lrat_cuts.specs.Verdict.{cuts_verdict, judged_text, verdict_of}
-
--- the tokens of the first line, and those of the others
-tokens-first : (x more : List ℕ) → IsNoFeed x
-    → token_lines (x ++ 10 ∷ more) ≡ tokens_of (strip_carriage_return x) ∷ token_lines more
-tokens-first x more h = ap (map tokens_of) (lines-split x more h)
-
-tokens-last : (x : List ℕ) → 0 < length x → IsNoFeed x → token_lines x ≡ tokens_of x ∷ []
-tokens-last x l h = ap (map tokens_of) (lines-rest x l h)
 
 -- a line more
 module _ (old new : ReadingState) (end line : List ℕ) (no_feed : IsNoFeed end)
@@ -43,7 +35,7 @@ module _ (old new : ReadingState) (end line : List ℕ) (no_feed : IsNoFeed end)
       ≡ judged_text cost p (whole ++ more)
   from_old more =
       ap (λ x. judged_after old.machine (tokens_of x ∷ token_lines more)) same
-      ∙ ap (judged_after old.machine) (sym (tokens-first (old.rest ++ end) more no_feeds))
+      ∙ ap (judged_after old.machine) (sym (line_tokens-first (old.rest ++ end) more no_feeds))
       ∙ o.resumes ((old.rest ++ end) ++ 10 ∷ more)
       ∙ ap (judged_text cost p) (regroup o.done old.rest end more)
       ∙ ap (λ x. judged_text cost p ((x ++ (end ++ 10 ∷ [])) ++ more)) (sym (o.cut).split)
@@ -179,7 +171,7 @@ module _ (r : ReadingState) (cost : Option ℕ) (p : Problem) (bytes : List ℕ)
       → judged_after r.machine (tokens_of r.rest ∷ []) ≡ judged_text cost p bytes
   last_line none some =
       let o = h.open_end none in
-      ap (judged_after r.machine) (sym (tokens-last r.rest some (o.cut).unfinished))
+      ap (judged_after r.machine) (sym (line_tokens-last r.rest some (o.cut).unfinished))
       ∙ o.resumes r.rest ∙ ap (judged_text cost p) (sym (o.cut).split)
 
   pub ends_open : r.refused ≡ None → 0 < length r.rest → (new : MachineState)

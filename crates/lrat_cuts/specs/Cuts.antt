@@ -4,6 +4,7 @@ use Rattle.std.specs.Prelude.{ℕ, zero, suc, ◌+◌, min, max, Bool, true, fal
 use Rattle.std.specs.Prelude.{◌∷◌, ◌++◌, map, Option, Some, None, Result, Ok, Err}
 use Rattle.std.specs.Prelude.{nat_le, if◌then◌else◌}
 use Rattle.cnf.specs.Literal.{Literal}
+use Rattle.cnf.specs.Clause.{is_empty_clause}
 use Rattle.cnf.specs.Problem.{Problem}
 use Rattle.cnf.specs.declared.limits.TheConstants.{NUMBER_LIMIT}
 use Rattle.bound.specs.Weighted.{weighted_cnf, weights_of}
@@ -43,10 +44,6 @@ cause_of Name = LineName
 cause_of Limit = LineLimit
 cause_of Worth = CutWorth
 
-abbrev pub is_empty : List Literal → Bool
-is_empty [] = true
-is_empty (l ∷ c) = false
-
 -- a clause is live under an id above the last. The empty clause refutes all that costs less than
 -- the cuts are worth
 abbrev pub put : ℕ → List Literal → CutsState → CutsState
@@ -54,8 +51,8 @@ put id c s = record s {
   live = s.live ++ (id, c) ∷ [];
   last = id;
   forms = heard c s.forms;
-  ended = is_empty c;
-  proved = if is_empty c then max s.proved s.worth else s.proved;
+  ended = is_empty_clause c;
+  proved = if is_empty_clause c then max s.proved s.worth else s.proved;
 }
 
 -- clauses that a line makes, under the ids that follow the last one

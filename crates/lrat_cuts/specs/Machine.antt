@@ -1,12 +1,13 @@
 -- The checker of forms and cuts between lines, and what a line comes to.
 use Rattle.std.specs.Prelude.{◌≡◌, ℕ, ◌+◌, max, List, [], ◌∷◌, ◌++◌, length, Option, Some, None}
 use Rattle.std.specs.Prelude.{Result, Ok, Err, if◌then◌else◌}
+use Rattle.cnf.specs.Clause.{is_empty_clause}
 use Rattle.cnf.specs.Literal.{Literal}
 use Rattle.forms.specs.Forms.{Forms, heard}
 use Rattle.lrat_live.specs.Listed.{listed_from}
 use Rattle.lrat_read.specs.Words.{WordLine, word_line_of}
 use Rattle.lrat_machine.specs.declared.verdicts.Cause.{Cause}
-use Rattle.lrat_cuts.specs.Cuts.{CutsState, is_empty, judged_line, judged_lines}
+use Rattle.lrat_cuts.specs.Cuts.{CutsState, judged_line, judged_lines}
 
 pub record MachineState : Type 0 where
   -- what the lines so far leave
@@ -22,8 +23,8 @@ pub record MachineState : Type 0 where
 abbrev pub took : List Literal → CutsState → CutsState
 took c s = record s {
   forms = heard c s.forms;
-  ended = is_empty c;
-  proved = if is_empty c then max s.proved s.worth else s.proved;
+  ended = is_empty_clause c;
+  proved = if is_empty_clause c then max s.proved s.worth else s.proved;
 }
 
 -- clauses are live one after the other

@@ -10,10 +10,9 @@ use Rattle.std.proofs.lemmas.Bool.{both_ways, false≢true}
 use Rattle.std.proofs.lemmas.List.Elements.{All-nil, All-cons, All-contains, All-head, All-tail}
 use Rattle.std.proofs.lemmas.List.Elements.{All-push, All-filter, All-weaker}
 use Rattle.cnf.specs.Literal.{Literal}
-use Rattle.cnf.specs.Clause.{contains_literal, greatest_variable}
+use Rattle.cnf.specs.Clause.{contains_literal, greatest_variable, IsClauseWithin}
 use Rattle.cnf.specs.Formula.{Cnf, IsFormula, IsFormulaClause}
 use Rattle.cnf.specs.Lrat.{start_of, with_clause}
-use Rattle.lrat_machine.specs.Assumed.{AreWithin}
 use Rattle.lrat_live.specs.Listed.{Listed, ids_of, listed_at, listed_from, without_id, ids_listed}
 use Rattle.lrat_live.proofs.Laws.{Rises, rises_from_pairs, listed_here, listed_there, above_kept}
 use Rattle.lrat_live.proofs.Laws.{rises_kept, rises_from, increasing_from_rises, rises_push}
@@ -115,7 +114,7 @@ IsBase-more n m last es le b = record {
   from_one = b.from_one;
   up_to = b.up_to;
   within =
-      All-weaker (λ e. AreWithin n e.1) (λ e. AreWithin m e.1)
+      All-weaker (λ e. IsClauseWithin n e.1) (λ e. IsClauseWithin m e.1)
       (λ e w. All-weaker (λ l. l.variable ≤ n) (λ l. l.variable ≤ m) (λ l h. omega arith) e.1 w)
       es b.within;
 }
@@ -129,14 +128,14 @@ IsBase-without n last i es b =
           increasing_from_rises (ids_of (filter p es)) (rises_kept p es (rises_from es b.rising));
       from_one = All-filter p (λ e. 0 < e.0) es b.from_one;
       up_to = All-filter p (λ e. e.0 ≤ last) es b.up_to;
-      within = All-filter p (λ e. AreWithin n e.1) es b.within;
+      within = All-filter p (λ e. IsClauseWithin n e.1) es b.within;
     }
 
 pub below_id : (last id : ℕ) (es : Listed) → IsUpTo last es → last < id → All (λ e. e.0 < id) es
 below_id last id es u lt = All-weaker (λ e. e.0 ≤ last) (λ e. e.0 < id) (λ e h. omega arith) es u
 
 pub IsBase-push : (n last id : ℕ) (es : Listed) (c : List Literal) → IsBase n last es → last < id
-    → AreWithin n c → IsBase n id (es ++ (id, c) ∷ [])
+    → IsClauseWithin n c → IsBase n id (es ++ (id, c) ∷ [])
 IsBase-push n last id es c b lt w = record {
   rising =
       increasing_from_rises (ids_of (es ++ (id, c) ∷ []))
@@ -148,7 +147,7 @@ IsBase-push n last id es c b lt w = record {
         c,
       ) (All-weaker (λ e. e.0 ≤ last) (λ e. e.0 ≤ id) (λ e h. omega arith) es b.up_to)
       (omega arith);
-  within = All-push (λ e. AreWithin n e.1) es (id, c) b.within w;
+  within = All-push (λ e. IsClauseWithin n e.1) es (id, c) b.within w;
 }
 
 pub live_of-push : (last id : ℕ) (es : Listed) (c : List Literal) → All (λ e. e.0 < id) es
@@ -166,25 +165,25 @@ pub live_of-start : (cs : List (List Literal)) → live_of (length cs) (listed_f
 live_of-start cs =
     ap (λ f. record { clause_at = f; last = length cs }) (fun_ext (listed_numbered cs))
 
-pub IsBase-start : (n last : ℕ) (cs : List (List Literal)) → last ≡ length cs → All (AreWithin n) cs
+pub IsBase-start : (n last : ℕ) (cs : List (List Literal)) → last ≡ length cs → All (IsClauseWithin n) cs
     → IsBase n last (listed_from 1 cs)
 IsBase-start n last cs e w = record {
   rising = increasing_from_rises (ids_of (listed_from 1 cs)) (rises_listed 1 cs);
   from_one = listed_from-all (λ e. 0 < e.0) 1 cs (λ k c h i m. omega arith);
   up_to = listed_from-all (λ e. e.0 ≤ last) 1 cs (λ k c h i m. omega arith);
   within =
-      listed_from-all (λ e. AreWithin n e.1) 1 cs
-      (λ k c h i m. All-contains (AreWithin n) cs c w m);
+      listed_from-all (λ e. IsClauseWithin n e.1) 1 cs
+      (λ k c h i m. All-contains (IsClauseWithin n) cs c w m);
 }
 
-within_greatest : (n : ℕ) (c : List Literal) → greatest_variable c ≤ n → AreWithin n c
+within_greatest : (n : ℕ) (c : List Literal) → greatest_variable c ≤ n → IsClauseWithin n c
 within_greatest n [] h = All-nil (λ l. l.variable ≤ n)
 within_greatest n (l ∷ c) h =
     All-cons (λ k. k.variable ≤ n) l c (omega arith) (within_greatest n c (omega arith))
 
-pub within_formula : (f : Cnf) (n : ℕ) → IsFormula f → f.variables ≤ n → All (AreWithin n) f.clauses
+pub within_formula : (f : Cnf) (n : ℕ) → IsFormula f → f.variables ≤ n → All (IsClauseWithin n) f.clauses
 within_formula f n h le =
-    All-weaker (IsFormulaClause f.variables) (AreWithin n) (λ c k. let small = k.small in
+    All-weaker (IsFormulaClause f.variables) (IsClauseWithin n) (λ c k. let small = k.small in
     within_greatest n c (omega arith)) f.clauses h.clauses
 
 pub deleted_more : (last : ℕ) (es : Listed) (hs : List (Bool × ℕ)) (i : ℕ) (h : Bool × ℕ)

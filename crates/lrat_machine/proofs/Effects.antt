@@ -10,10 +10,9 @@ use Rattle.std.specs.List.{last_or}
 use Rattle.std.proofs.lemmas.Bool.{or_cases, false≢true}
 use Rattle.std.proofs.lemmas.List.Elements.{All-head, All-tail}
 use Rattle.cnf.specs.Literal.{Literal, negation, literal_eq}
-use Rattle.cnf.specs.Clause.{contains_literal}
+use Rattle.cnf.specs.Clause.{contains_literal, IsClauseWithin}
 use Rattle.cnf.specs.Refute.{Clauses}
 use Rattle.cnf.proofs.Laws.{literal_eq-true}
-use Rattle.lrat_machine.specs.Assumed.{AreWithin}
 use Rattle.lrat_live.specs.Listed.{listed_at}
 use Rattle.lrat_machine.specs.declared.verdicts.Cause.TheVariants.{HintAfterConflict}
 use Rattle.lrat_machine.specs.Verdict.{Fault, NotUnit, Conflict, Makes, HintOutcome}
@@ -113,7 +112,7 @@ makes_open A c o l n e f =
     outcome_is c A ∙ ap (outcome_on A) (one_last o (open_literals A c) l n e) ∙ makes_one A l f
 
 -- a literal that a hint makes true
-member_within : (n : ℕ) (l : Literal) (c : List Literal) → AreWithin n c
+member_within : (n : ℕ) (l : Literal) (c : List Literal) → IsClauseWithin n c
     → contains_literal l c ≡ true → l.variable ≤ n
 member_within n l [] w h = absurd (false≢true h)
 member_within n l (k ∷ c) w h =
@@ -123,7 +122,7 @@ member_within n l (k ∷ c) w h =
       | inr e ↦ member_within n l c (All-tail (λ x. x.variable ≤ n) k c w) e
     ]
 
-pub makes_within : (n : ℕ) (A c : List Literal) (l : Literal) → AreWithin n c
+pub makes_within : (n : ℕ) (A c : List Literal) (l : Literal) → IsClauseWithin n c
     → outcome_of (Some c) A ≡ Makes l → l.variable ≤ n
 makes_within n A c l w e =
     let m = makes_means (Some c) A l e in
@@ -133,18 +132,18 @@ makes_within n A c l w e =
 
 -- a clause of the list
 pub listed_within : (n : ℕ) (es : List (ℕ × List Literal)) (i : ℕ) (c : List Literal)
-    → All (λ e. AreWithin n e.1) es → listed_at es i ≡ Some c → AreWithin n c
+    → All (λ e. IsClauseWithin n e.1) es → listed_at es i ≡ Some c → IsClauseWithin n c
 listed_within n [] i c w e = absurd (cc)
 listed_within n (x ∷ es) i c w e =
-    elim (x.0 == i) as (λ v. cond v (Some x.1) (listed_at es i) ≡ Some c → AreWithin n c) [
+    elim (x.0 == i) as (λ v. cond v (Some x.1) (listed_at es i) ≡ Some c → IsClauseWithin n c) [
       | true ↦ λ e. let same : x.1 ≡ c = cc in
-          subst (AreWithin n) same (All-head (λ y. AreWithin n y.1) x es w)
-      | false ↦ λ e. listed_within n es i c (All-tail (λ y. AreWithin n y.1) x es w) e
+          subst (IsClauseWithin n) same (All-head (λ y. IsClauseWithin n y.1) x es w)
+      | false ↦ λ e. listed_within n es i c (All-tail (λ y. IsClauseWithin n y.1) x es w) e
     ] e
 
 pub found_within : (n : ℕ) (es : List (ℕ × List Literal)) (i : ℕ) (found : Option (List Literal))
-    → All (λ e. AreWithin n e.1) es → found ≡ listed_at es i
-    → IfSome found (λ c. AreWithin n c)
+    → All (λ e. IsClauseWithin n e.1) es → found ≡ listed_at es i
+    → IfSome found (λ c. IsClauseWithin n c)
 found_within n es i None w e = tt
 found_within n es i (Some c) w e = listed_within n es i c w (sym e)
 

@@ -7,10 +7,9 @@ use Rattle.std.proofs.lemmas.Bool.{false_from_ne_true}
 use Rattle.std.proofs.lemmas.List.Folds.{list_any-append}
 use Rattle.std.proofs.lemmas.List.Elements.{All-head, All-tail}
 use Rattle.cnf.specs.Literal.{Literal, negation, literal_eq}
-use Rattle.cnf.specs.Clause.{contains_literal, has_repeat, is_tautology}
+use Rattle.cnf.specs.Clause.{contains_literal, has_repeat, is_tautology, IsClauseWithin}
 use Rattle.cnf.proofs.Laws.{literal_eq-refl, literal_eq-true, negation_twice, literal_eq-swapped}
 use Rattle.cnf.proofs.Laws.{literal_eq_ne, literal_ne, tests_agree}
-use Rattle.lrat_machine.specs.Assumed.{AreWithin}
 use Rattle.lrat_machine.specs.Steps.{HaveSame}
 
 -- one more at the end
@@ -106,7 +105,7 @@ complement_at l (x ∷ xs) ys h =
     ]
 
 -- a list within a bound has no literal past it
-pub none_past : (n : ℕ) (l : Literal) (xs : List Literal) → AreWithin n xs → n < l.variable
+pub none_past : (n : ℕ) (l : Literal) (xs : List Literal) → IsClauseWithin n xs → n < l.variable
     → contains_literal l xs ≡ false
 none_past n l [] w h = refl
 none_past n l (x ∷ xs) w h =

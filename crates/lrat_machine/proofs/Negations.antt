@@ -8,10 +8,9 @@ use Rattle.std.proofs.lemmas.List.{take_more, map-append, length-map}
 use Rattle.std.proofs.lemmas.Bool.{or_left, or_right}
 use Rattle.std.proofs.lemmas.List.Elements.{All-push, All-weaker}
 use Rattle.cnf.specs.Literal.{Literal, negation}
-use Rattle.cnf.specs.Clause.{contains_literal, has_repeat, is_tautology}
+use Rattle.cnf.specs.Clause.{contains_literal, has_repeat, is_tautology, IsClauseWithin}
 use Rattle.cnf.specs.Lrat.{Live, CandidateHints}
 use Rattle.lrat_read.specs.Form.{leading, groups_of}
-use Rattle.lrat_machine.specs.Assumed.{AreWithin}
 use Rattle.lrat_machine.specs.declared.verdicts.Cause.TheVariants.{HintAfterConflict, Candidates}
 use Rattle.lrat_machine.specs.declared.hints.Walked.{Walked}
 use Rattle.lrat_live.specs.Listed.{same_ids}
@@ -74,10 +73,10 @@ module _ (c : List Literal) (i : ℕ) (l : Literal) (lt : i < length c)
       ∙ is_tautology-push l (take i c) r (sym (contains_negation l (take i c))
       ∙ ap (contains_literal l) (sym e) ∙ h)
 
-  pub within_more : (n m : ℕ) → n ≤ m → AreWithin n (take i c) → l.variable ≤ m
-      → AreWithin m (take (i + 1) c)
+  pub within_more : (n m : ℕ) → n ≤ m → IsClauseWithin n (take i c) → l.variable ≤ m
+      → IsClauseWithin m (take (i + 1) c)
   within_more n m le w h =
-      subst (AreWithin m) (sym more)
+      subst (IsClauseWithin m) (sym more)
       (All-push (λ k. k.variable ≤ m) (take i c) l
       (All-weaker (λ k. k.variable ≤ n) (λ k. k.variable ≤ m) (λ k p. omega arith) (take i c) w)
       h)

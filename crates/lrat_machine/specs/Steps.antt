@@ -6,7 +6,7 @@ use Rattle.cnf.specs.Literal.{Literal}
 pub use Rattle.cnf.specs.Clause.{HaveSame}
 use Rattle.cnf.specs.Lrat.{Live}
 use Rattle.cnf.specs.Refute.{Clauses}
-use Rattle.lrat_machine.specs.Assumed.{AreWithin}
+use Rattle.cnf.specs.Clause.{IsClauseWithin}
 use Rattle.lrat_live.specs.Listed.{listed_at, IsRising}
 use Rattle.lrat_machine.specs.declared.verdicts.Cause.{Cause}
 use Rattle.lrat_read.specs.Reader.{LineState, is_large_clause}
@@ -34,7 +34,7 @@ pub record IsBase (variables last : ℕ) (es : List (ℕ × List Literal)) : Typ
   pub rising : IsRising es
   pub from_one : All (λ e. 0 < e.0) es
   pub up_to : IsUpTo last es
-  pub within : All (λ e. AreWithin variables e.1) es
+  pub within : All (λ e. IsClauseWithin variables e.1) es
 
 -- the line's clause is live from now on, under an id above the last
 pub record Adds (old : List (ℕ × List Literal)) (last : ℕ) (s : LineState)

@@ -3,8 +3,7 @@
 ghost use Rattle.std.specs.Prelude.{◌≡◌, ◌<◌, ◌≤◌, true, false, not, ◌||◌, [], Some, None, IfOk};
 ghost use Rattle.std.specs.Prelude.{map};
 ghost use Rattle.cnf.specs.Literal.{negation};
-ghost use Rattle.cnf.specs.Clause.{has_repeat, is_tautology};
-ghost use Rattle.lrat_machine.specs.Assumed.{AreWithin};
+ghost use Rattle.cnf.specs.Clause.{has_repeat, is_tautology, IsClauseWithin};
 ghost use Rattle.lrat_machine.specs.Steps.{IsBase, live_of, IsFaultOf};
 ghost use Rattle.lrat_machine.specs.Verdict.{clause_fault, walk as walk_of};
 ghost use Rattle.lrat_read.specs.Form.{leading as leading_of, groups_of};
@@ -28,7 +27,7 @@ pub(crate) fn assume_negations(
     ensures distinct { IfOk result
         (λ r. r ≡ not (has_repeat clause.now || is_tautology clause.now)) }
     ensures assumed { IfOk result (λ r. r ≡ true → assumed.new.literals ≡ map negation clause.now) }
-    ensures within { IfOk result (λ r. r ≡ true → AreWithin assumed.new.variables clause.now) }
+    ensures within { IfOk result (λ r. r ≡ true → IsClauseWithin assumed.new.variables clause.now) }
     ensures more { assumed.old.variables ≤ assumed.new.variables }
 {
     for lit in clause {
@@ -49,7 +48,7 @@ fn hints_fault(
     scratch: &mut Scratch,
 ) -> Result<Option<Cause>, AllocError>
     requires base { IsBase scratch.old.assumed.variables base.old.last base.old.live }
-    requires within { AreWithin scratch.old.assumed.variables clause.now }
+    requires within { IsClauseWithin scratch.old.assumed.variables clause.now }
     requires negated { scratch.old.assumed.literals ≡ map negation clause.now }
     ensures fault { IfOk result (λ f. f
         ≡ clause_fault (live_of base.old.last base.old.live) clause.now
@@ -79,7 +78,7 @@ pub(crate) fn addition_fault(
     requires base { IsBase scratch.old.assumed.variables base.old.last base.old.live }
     ensures fault { IfOk result (λ f. IsFaultOf (live_of base.old.last base.old.live) line.now f) }
     ensures within { IfOk result
-        (λ f. f ≡ None → AreWithin scratch.new.assumed.variables line.now.clause) }
+        (λ f. f ≡ None → IsClauseWithin scratch.new.assumed.variables line.now.clause) }
     ensures rising { IfOk result (λ f. f ≡ None → base.old.last < line.now.id) }
     ensures small { IfOk result (λ f. f ≡ None → line.now.is_large ≡ false) }
     ensures unchanged { base.new ≡ base.old }

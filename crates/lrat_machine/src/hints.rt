@@ -9,7 +9,7 @@ ghost use Rattle.std.specs.Prelude.{◌≡◌, ◌+◌, ◌<◌, false, List, So
 ghost use Rattle.std.specs.Prelude.{length, get_or, map, take, All, IfSome};
 ghost use Rattle.std.specs.Option.{option_copied};
 ghost use Rattle.cnf.specs.Literal.{Literal};
-ghost use Rattle.lrat_machine.specs.Assumed.{AreWithin};
+ghost use Rattle.cnf.specs.Clause.{IsClauseWithin};
 ghost use Rattle.lrat_live.specs.Listed.{listed_at};
 ghost use Rattle.lrat_machine.specs.Verdict.{outcome_of, of_walk, walk as walk_of};
 ghost use Rattle.lrat_machine.specs.Steps.{outcome_as, walked_as, EndAlike, IsFollowed};
@@ -61,7 +61,7 @@ impl Walked {
 /// What the clause does where these literals are true. The pass goes over all its literals and
 /// decides nothing on the way, so that there is little for the processor to guess.
 pub(crate) fn effect_of(clause: &[Lit], assumed: &AssumedLits) -> Effect
-    requires { AreWithin assumed.now.variables clause.now }
+    requires { IsClauseWithin assumed.now.variables clause.now }
     ensures { outcome_as result ≡ outcome_of (Some clause.now) assumed.now.literals }
 {
     let mut last = Lit::new(1, false);
@@ -104,7 +104,7 @@ fn follow(
     assumed: &mut AssumedLits,
 ) -> Result<Option<Walked>, AllocError>
     requires place { i < length hints.now }
-    requires within { IfSome (option_copied clause) (λ c. AreWithin assumed.old.variables c) }
+    requires within { IfSome (option_copied clause) (λ c. IsClauseWithin assumed.old.variables c) }
     ensures followed { IfOk result (λ end. (at : Clauses)
         → option_copied clause.entry ≡ at (get_or hints.now i (false, 0)).1
         → IsFollowed at hints.now i assumed.old.literals assumed.new.literals end) }
@@ -134,7 +134,7 @@ pub(crate) fn walk(
     assumed: &mut AssumedLits,
     hints: &[SignedId],
 ) -> Result<Walked, AllocError>
-    requires { All (λ e. AreWithin assumed.old.variables e.1) live.now }
+    requires { All (λ e. IsClauseWithin assumed.old.variables e.1) live.now }
     ensures walked { IfOk result (λ w.
         EndAlike (walk_of (listed_at live.now) assumed.old.literals (map (λ h. h.1) hints.now))
         (walked_as w assumed.new.literals)) }

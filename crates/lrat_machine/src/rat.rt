@@ -8,8 +8,7 @@ ghost use Rattle.std.specs.Prelude.{◌≡◌, ◌++◌, Some, IfOk, OnOk, lengt
 ghost use Rattle.std.specs.Prelude.{if◌then◌else◌};
 ghost use Rattle.std.specs.List.{list_any};
 ghost use Rattle.cnf.specs.Literal.{negation};
-ghost use Rattle.cnf.specs.Clause.{contains_literal, without_literal};
-ghost use Rattle.lrat_machine.specs.Assumed.{AreWithin};
+ghost use Rattle.cnf.specs.Clause.{contains_literal, without_literal, IsClauseWithin};
 ghost use Rattle.lrat_live.specs.Listed.{listed_at, same_ids};
 ghost use Rattle.lrat_machine.specs.Steps.{IsBase, HaveSame};
 ghost use Rattle.lrat_machine.specs.Verdict.{ids_with, group_fault as group_fault_of};
@@ -60,7 +59,7 @@ fn has_true(
     left_out: Lit,
     assumed: &AssumedLits,
 ) -> bool
-    requires { AreWithin assumed.now.variables clause.now }
+    requires { IsClauseWithin assumed.now.variables clause.now }
     ensures { result ≡ list_any (λ k. contains_literal k assumed.now.literals)
         (without_literal left_out clause.now) }
 {
@@ -74,7 +73,7 @@ fn has_true(
 
 /// Whether a literal other than the left out one is true.
 fn finds_true(clause: &[Lit], left_out: Lit, assumed: &AssumedLits) -> bool
-    requires { AreWithin assumed.now.variables clause.now }
+    requires { IsClauseWithin assumed.now.variables clause.now }
     ensures { result ≡ list_any (λ k. contains_literal k assumed.now.literals)
         (without_literal left_out clause.now) }
 {
@@ -88,7 +87,7 @@ fn finds_true(clause: &[Lit], left_out: Lit, assumed: &AssumedLits) -> bool
 
 /// Assumes the negations of all literals but the left out one.
 fn assume_others(clause: &[Lit], left_out: Lit, assumed: &mut AssumedLits) -> Result<(), AllocError>
-    requires { AreWithin assumed.old.variables clause.now }
+    requires { IsClauseWithin assumed.old.variables clause.now }
     ensures negated { IfOk result (λ _.
         HaveSame (map negation (without_literal left_out clause.now) ++ assumed.old.literals)
         assumed.new.literals) }
@@ -111,7 +110,7 @@ fn group_fault(
     live: &LiveClauses,
     assumed: &mut AssumedLits,
 ) -> Result<Option<Cause>, AllocError>
-    requires { All (λ e. AreWithin assumed.old.variables e.1) live.now }
+    requires { All (λ e. IsClauseWithin assumed.old.variables e.1) live.now }
     ensures fault { IfOk result (λ f. f
         ≡ group_fault_of (listed_at live.now) pivot assumed.old.literals
         (record { candidate = candidate; hints = map (λ h. h.1) hints.now })) }
@@ -139,7 +138,7 @@ fn groups_fault(
     live: &LiveClauses,
     assumed: &mut AssumedLits,
 ) -> Result<Option<Cause>, AllocError>
-    requires { All (λ e. AreWithin assumed.old.variables e.1) live.now }
+    requires { All (λ e. IsClauseWithin assumed.old.variables e.1) live.now }
     ensures fault { IfOk result (λ f. f
         ≡ groups_fault_of (listed_at live.now) pivot assumed.old.literals
         (groups_of hints.now)) }

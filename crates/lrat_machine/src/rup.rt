@@ -4,7 +4,7 @@ ghost use Rattle.std.specs.Prelude.{All, IsSome, MatchOption, length, map};
 ghost use Rattle.std.specs.Option.{option_copied};
 ghost use Rattle.cnf.specs.Formula.{IsFormula};
 ghost use Rattle.lrat_live.specs.Listed.{listed_at, listed_from};
-ghost use Rattle.lrat_machine.specs.Assumed.{AreWithin};
+ghost use Rattle.cnf.specs.Clause.{IsClauseWithin};
 ghost use Rattle.lrat_machine.specs.Rup.{AddsByRup, IsRupFaultOf, deleted_from, end_fault};
 ghost use Rattle.lrat_machine.specs.Rup.{with_listed};
 ghost use Rattle.lrat_machine.specs.Steps.{IsBase};
@@ -52,7 +52,7 @@ fn end_fault(
     live: &LiveClauses,
     assumed: &mut AssumedLits,
 ) -> Result<Option<Cause>, AllocError>
-    requires { All (λ e. AreWithin assumed.old.variables e.1) live.now }
+    requires { All (λ e. IsClauseWithin assumed.old.variables e.1) live.now }
     ensures fault { IfOk result (λ f. f
         ≡ end_fault
         (walk_of (listed_at live.now) assumed.old.literals (leading_of hints.now))
@@ -79,7 +79,7 @@ fn line_fault(
     ensures fault { IfOk result
         (λ f. IsRupFaultOf (record { clauses = live.now; last = last }) line.now f) }
     ensures within { IfOk result
-        (λ f. f ≡ None → AreWithin assumed.new.variables line.now.clause) }
+        (λ f. f ≡ None → IsClauseWithin assumed.new.variables line.now.clause) }
     ensures rising { IfOk result (λ f. f ≡ None → last < line.now.id) }
     ensures small { IfOk result (λ f. f ≡ None → line.now.is_large ≡ false) }
     ensures more { assumed.old.variables ≤ assumed.new.variables }
@@ -175,7 +175,7 @@ impl RupBase {
 
 /// Lets the variables of the literals be assumed.
 fn grow_to(assumed: &mut AssumedLits, lits: &[Lit]) -> Result<(), AllocError>
-    ensures ok { OnOk result (AreWithin assumed.new.variables lits.now) }
+    ensures ok { OnOk result (IsClauseWithin assumed.new.variables lits.now) }
     ensures more { assumed.old.variables ≤ assumed.new.variables }
 {
     for lit in lits {

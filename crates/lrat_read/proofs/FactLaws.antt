@@ -62,36 +62,6 @@ facts_break total fs ts sofar e = sofar ∙ ap (facts_ahead fs) (none ts e)
     none (t ∷ []) e = rw e refl
     none (t ∷ u ∷ ts) e = rw e refl
 
--- a weight, and after it no name
-pub facts_unnamed : (total : Option Facts) (fs : Facts) (ts us : List (List ℕ)) (t : List ℕ) (w : ℕ)
-    → total ≡ facts_ahead fs (ended_facts ts) → ts ≡ t ∷ us → unsigned_of t ≡ Some w → 0 < w
-    → us ≡ [] → total ≡ None
-facts_unnamed total fs ts us t zero sofar e g h n = absurd (omega arith)
-facts_unnamed total fs ts us t (suc w) sofar e g h n =
-    let none : ended_facts (t ∷ []) ≡ None = rw g refl in
-    sofar ∙ ap (λ xs. facts_ahead fs (ended_facts xs)) (e ∙ ap (λ xs. t ∷ xs) n)
-    ∙ ap (facts_ahead fs) none
-
-pub facts_misnamed : (total : Option Facts) (fs : Facts) (ts us vs : List (List ℕ)) (t u : List ℕ)
-    (w : ℕ) → total ≡ facts_ahead fs (ended_facts ts) → ts ≡ t ∷ us → unsigned_of t ≡ Some w
-    → 0 < w → us ≡ u ∷ vs → signed_of u ≡ None → total ≡ None
-facts_misnamed total fs ts us vs t u zero sofar e g h n k = absurd (omega arith)
-facts_misnamed total fs ts us vs t u (suc w) sofar e g h n k =
-    let none : ended_facts (t ∷ u ∷ vs) ≡ None = rw (g, k) refl in
-    sofar ∙ ap (λ xs. facts_ahead fs (ended_facts xs)) (e ∙ ap (λ xs. t ∷ xs) n)
-    ∙ ap (facts_ahead fs) none
-
-pub facts_zero_named : (total : Option Facts) (fs : Facts) (ts us vs : List (List ℕ))
-    (t u : List ℕ) (w : ℕ) (s : Bool) (n : ℕ) → total ≡ facts_ahead fs (ended_facts ts)
-    → ts ≡ t ∷ us → unsigned_of t ≡ Some w → 0 < w → us ≡ u ∷ vs → signed_of u ≡ Some (s, n)
-    → n ≡ 0 → total ≡ None
-facts_zero_named total fs ts us vs t u zero s n sofar e g h f k z = absurd (omega arith)
-facts_zero_named total fs ts us vs t u (suc w) s n sofar e g h f k z =
-    let zero_read : signed_of u ≡ Some (s, 0) = k ∙ ap (λ (m : ℕ). Some (s, m)) z in
-    let none : ended_facts (t ∷ u ∷ vs) ≡ None = rw (g, zero_read) refl in
-    sofar ∙ ap (λ xs. facts_ahead fs (ended_facts xs)) (e ∙ ap (λ xs. t ∷ xs) f)
-    ∙ ap (facts_ahead fs) none
-
 -- the 0 that ends the facts, with nothing behind it or with something
 pub facts_end : (line : List ℕ) (at : ℕ) (fs : Facts) (ts us : List (List ℕ)) (t : List ℕ) (w : ℕ)
     (b : Bool) → ended_facts (tokens_of (drop at line)) ≡ facts_ahead fs (ended_facts ts)

@@ -20,7 +20,7 @@ use Rattle.text.specs.Writing.{AppendsPart, Begins}
 use Rattle.text.specs.LratText.{IsTextOf}
 use Rattle.cnf.specs.Lrat.{Accepts, ProofLine}
 use Rattle.adder.specs.declared.profiles.Profile.{Profile}
-use Rattle.adder.specs.declared.profiles.Profile.TheVariants.{One, Two, Three, Four, Five}
+use Rattle.adder.specs.declared.profiles.Profile.TheVariants.{One, Two, Four, Five}
 use Rattle.bound.specs.Bound.{hard_cnf, bound_as, core_cnf}
 use Rattle.cdcl_order.specs.Budgets.{BudgetState}
 use Rattle.lrat_log.specs.Log.{LogLine, HasSmallIds, numbered_lines, text_of}
@@ -83,7 +83,6 @@ bounds_proof : (profile : Profile) (p : Problem) (c : ℕ) (text : List ℕ) (ls
     → IsBoundProof profile p c text
 bounds_proof One p c text ls h a = (ls, no_head text ls h, a)
 bounds_proof Two p c text ls h a = (ls, no_head text ls h, a)
-bounds_proof Three p c text ls h a = (ls, no_head text ls h, a)
 bounds_proof Four p c text ls h a = (ls, no_head text ls h, a)
 bounds_proof Five p zero text ls h a = (ls, no_head text ls h, a)
 bounds_proof Five p (suc c) text ls h a = ([], ls, h, a)
@@ -93,7 +92,6 @@ cores_proof : (profile : Profile) (p : Problem) (c : ℕ) (cores : List Core) (t
     → AcceptsAfter p c cores ls → IsBoundProof profile p c text
 cores_proof One p c cores text ls e lt h a = absurd (cc)
 cores_proof Two p c cores text ls e lt h a = absurd (cc)
-cores_proof Three p c cores text ls e lt h a = absurd (cc)
 cores_proof Four p c cores text ls e lt h a = absurd (cc)
 cores_proof Five p zero cores text ls e lt h a = absurd (omega arith)
 cores_proof Five p (suc c) cores text ls e lt h a = (cores, ls, h, a)

@@ -11,6 +11,7 @@ use Rattle.lrat_check.specs.declared.verdicts.Cause.TheVariants.{HintAfterConfli
 use Rattle.lrat_check.specs.declared.verdicts.Cause.TheVariants.{Candidates, NoEmptyClause}
 use Rattle.lrat_check.specs.declared.verdicts.Cause.TheVariants.{TrailingLine, ClauseForm}
 use Rattle.lrat_check.specs.declared.verdicts.Cause.TheVariants.{CoreForm, CoreWeight, CoreSum}
+use Rattle.lrat_check.specs.declared.verdicts.Cause.TheVariants.{LineName, LineLimit, CutWorth}
 use Rattle.lrat_check.specs.declared.lower.LowerVerdict.{LowerVerdict}
 use Rattle.lrat_check.specs.declared.lower.LowerVerdict.TheVariants.{AtLeast, NoSolution}
 use Rattle.lrat_check.specs.declared.lower.LowerVerdict.TheVariants.{No as NotShown}
@@ -38,6 +39,9 @@ cause_name ClauseForm = codes "ClauseForm"
 cause_name CoreForm = codes "CoreForm"
 cause_name CoreWeight = codes "CoreWeight"
 cause_name CoreSum = codes "CoreSum"
+cause_name LineName = codes "LineName"
+cause_name LineLimit = codes "LineLimit"
+cause_name CutWorth = codes "CutWorth"
 
 abbrev pub no_text : Cause → List ℕ
 no_text cause = codes "NO " ++ cause_name cause ++ codes " "

@@ -217,7 +217,8 @@ const PROFILE_HELP: &str = "\
 How 'cheaper' is encoded. The default is WMAX_PROFILE if set, else 1.
 1: adders add all weights column by column;
 2: as 1, without variables for soft clauses of one literal;
-3: adders add the weights in pairs, light ones first;
+3: forms and cuts: lower bounds and what follows from them stand in the
+certificate. solve does not write such certificates yet;
 4: generalized totalizers along a tree that follows the hard clauses;
 5: cores first, by core-guided search, and then as 4. The cores begin
 the certificate. Profile 5 finds the most optima.
@@ -341,14 +342,14 @@ pub const ANY: &str = "any";
 /// The names that `check` takes.
 const PROFILES_OR_ANY: [&str; 6] = ["1", "2", "3", "4", "5", ANY];
 
-/// The profile of this name, a digit from 1 to 5.
+/// The profile of this name, a digit from 1 to 5 but not 3: no formula of its own says 'cheaper'
+/// in that.
 pub fn pick_profile(name: &str) -> Option<Profile>
     ensures { result ≡ profile_named name.now }
 {
     match name.as_bytes() {
         [b'1'] => Some(Profile::One),
         [b'2'] => Some(Profile::Two),
-        [b'3'] => Some(Profile::Three),
         [b'4'] => Some(Profile::Four),
         [b'5'] => Some(Profile::Five),
         _ => None,

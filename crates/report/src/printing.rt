@@ -93,6 +93,9 @@ fn spell_no(cause: Cause) -> &'static [u8]
         Cause::CoreForm => b"NO CoreForm ",
         Cause::CoreWeight => b"NO CoreWeight ",
         Cause::CoreSum => b"NO CoreSum ",
+        Cause::LineName => b"NO LineName ",
+        Cause::LineLimit => b"NO LineLimit ",
+        Cause::CutWorth => b"NO CutWorth ",
     }
 }
 

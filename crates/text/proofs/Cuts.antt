@@ -1,11 +1,13 @@
 -- A text in pieces: what is kept after a line more and after a piece, and what is taken in turn.
 use Rattle.std.proofs.Common.{◌≡◌, ℕ, ◌<◌, List, [], ◌∷◌, ◌++◌, length, inl, inr}
-use Rattle.std.proofs.Common.{◌+◌, arith, length-append}
+use Rattle.std.proofs.Common.{◌+◌, Option, arith, length-append, map, take}
+use Rattle.std.proofs.KnownBytes.{Consumes-trans}
+use Rattle.std.specs.Io.KnownBytes.{Consumes}
 use Rattle.std.proofs.Common.{refl, sym, ◌∙◌, ap, subst, append_assoc, append-nil}
 use Rattle.std.specs.Prelude.{◌==◌, false}
 use Rattle.std.specs.Str.Lines.{lines, strip_carriage_return}
 use Rattle.std.proofs.lemmas.List.Elements.{All-append, All-nil}
-use Rattle.text.specs.Text.{IsNoFeed}
+use Rattle.text.specs.Text.{IsNoFeed, token_lines, tokens_of}
 use Rattle.text.specs.Pieces.{EndsInFeed, IsCut, IsFirstLine, HasTaken}
 use Rattle.text.proofs.FirstPieces.{lines-split, lines-last}
 
@@ -46,6 +48,21 @@ lines-ended rest end more r e =
 
 pub lines-rest : (rest : List ℕ) → 0 < length rest → IsNoFeed rest → lines rest ≡ rest ∷ []
 lines-rest rest some no_feed = lines-last rest some (λ k lt. no_feed k 0 lt)
+
+-- the tokens of the first line, and those of the others
+pub line_tokens-first : (x more : List ℕ) → IsNoFeed x
+    → token_lines (x ++ 10 ∷ more) ≡ tokens_of (strip_carriage_return x) ∷ token_lines more
+line_tokens-first x more h = ap (map tokens_of) (lines-split x more h)
+
+pub line_tokens-last : (x : List ℕ) → 0 < length x → IsNoFeed x → token_lines x ≡ tokens_of x ∷ []
+line_tokens-last x l h = ap (map tokens_of) (lines-rest x l h)
+
+-- nothing more is read
+pub read_nothing : (a b c : Option (List ℕ)) (bytes buffer : List ℕ) (k : ℕ) → Consumes a b bytes
+    → Consumes b c (take k buffer) → k ≡ 0 → Consumes a c bytes
+read_nothing a b c bytes buffer k p q e =
+    subst (Consumes a c) (append-nil bytes)
+    (Consumes-trans a b c bytes [] p (subst (Consumes b c) (ap (λ j. take j buffer) e) q))
 
 -- how long the first line and what follows it are
 pub line_lengths : (text line rest : List ℕ) → IsFirstLine text line rest

@@ -1,6 +1,7 @@
 -- The laws of this crate that other crates cite, from one place.
 pub use Rattle.text.proofs.CappedNumbers.{value_on-push}
 pub use Rattle.text.proofs.Cuts.{cut-ended, cut-kept, cut-nothing, line_lengths, lines-ended}
+pub use Rattle.text.proofs.Cuts.{line_tokens-first, line_tokens-last, read_nothing}
 pub use Rattle.text.proofs.Cuts.{lines-rest, taken-nothing, taken-on, taken-whole}
 pub use Rattle.text.proofs.FirstPieces.{lines-split, parts-cons}
 pub use Rattle.text.proofs.Items.{all_taken, flat_map-append, items_fault, items_more}

@@ -9,7 +9,8 @@ use Rattle.cnf.specs.Literal.{Literal, negation, literal_eq, same_bool}
 use Rattle.cnf.specs.Clause.{has_repeat, is_tautology, contains_literal, greatest_variable}
 use Rattle.cnf.proofs.Laws.{all_append, all_parts, all_weaker, same_variable, literal_eq-refl}
 use Rattle.cnf.proofs.Laws.{negation_twice}
-use Rattle.totalizer.specs.Grown.{AreBelow, AreApart, IsStageClause}
+use Rattle.cnf.specs.Clause.{AreBelow}
+use Rattle.totalizer.specs.Grown.{AreApart, IsStageClause}
 
 -- the variable is that of none of them
 abbrev pub IsNew : Literal → List Literal → Type 0
@@ -83,10 +84,6 @@ different_parts (l ∷ c) d h =
 pub below_greatest : (n : ℕ) (c : List Literal) → greatest_variable c < n → AreBelow n c
 below_greatest n [] h = tt
 below_greatest n (l ∷ c) h = (omega arith, below_greatest n c (omega arith))
-
-pub below_more : (m n : ℕ) (c : List Literal) → m ≤ n → AreBelow m c → AreBelow n c
-below_more m n c h =
-    all_weaker (λ l. l.variable < m) (λ l. l.variable < n) c (λ l g. omega arith)
 
 -- one more on a side, whose variable is above all of the other
 pub new_above : (v : ℕ) (l : Literal) (c : List Literal) → v ≤ l.variable → AreBelow v c → IsNew l c

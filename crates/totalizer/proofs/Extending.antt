@@ -7,9 +7,11 @@ use Rattle.cnf.specs.Literal.{Literal, Assignment, SameBelow, positive, literal_
 use Rattle.cnf.proofs.Laws.{put_here, put_other}
 use Rattle.totalizer.specs.Stages.{Tree, Leaf, Node, size_of, stage, stages}
 use Rattle.totalizer.specs.Stages.{tree_of, tree_within, totalizer_of, true_leaves}
-use Rattle.totalizer.specs.Grown.{IsTreeBelow, AreBelow, AreUnary, MeansRight}
+use Rattle.cnf.specs.Clause.{AreBelow}
+use Rattle.totalizer.specs.Grown.{IsTreeBelow, AreUnary, MeansRight}
 use Rattle.totalizer.proofs.Staging.{stage_takes, right_stage}
-use Rattle.totalizer.proofs.Apart.{all_got, below_more}
+use Rattle.cnf.proofs.Laws.{below_more}
+use Rattle.totalizer.proofs.Apart.{all_got}
 use Rattle.totalizer.proofs.Variables.{stage_below, tree_below_more}
 use Rattle.totalizer.proofs.Unary.{unary_push}
 use Rattle.totalizer.proofs.Meaning.{stage_leaves}

@@ -7,15 +7,16 @@ use Rattle.std.specs.Prelude.{Option, Some, None, slice_get}
 use Rattle.std.specs.List.{AllByRecursion}
 use Rattle.std.proofs.lemmas.List.{take-append-drop, length-take, length-drop}
 use Rattle.cnf.specs.Literal.{Literal, positive, negative, negation}
-use Rattle.cnf.specs.Clause.{has_repeat, is_tautology, greatest_variable}
+use Rattle.cnf.specs.Clause.{has_repeat, is_tautology, greatest_variable, AreBelow}
 use Rattle.cnf.proofs.Laws.{all_append, all_parts, all_weaker}
 use Rattle.totalizer.specs.Stages.{Tree, Leaf, Node, size_of, outputs_of, stage, stages}
 use Rattle.totalizer.specs.Stages.{tree_of, tree_within, order_clause, sum_clause}
 use Rattle.totalizer.specs.Stages.{sum_clauses}
-use Rattle.totalizer.specs.Grown.{AreBelow, IsTreeBelow, AreApart, HasHalvesApart, IsStageClause}
+use Rattle.totalizer.specs.Grown.{IsTreeBelow, AreApart, HasHalvesApart, IsStageClause}
 use Rattle.totalizer.proofs.Staging.{stage_takes, right_stage}
+use Rattle.cnf.proofs.Laws.{below_more}
 use Rattle.totalizer.proofs.Apart.{IsNew, AreDifferent, stage_clause, different_from}
-use Rattle.totalizer.proofs.Apart.{different_parts, below_greatest, below_more, new_above}
+use Rattle.totalizer.proofs.Apart.{different_parts, below_greatest, new_above}
 use Rattle.totalizer.proofs.Apart.{apart_left, apart_right, all_got}
 
 pub tree_below_more : (m n : ℕ) (t : Tree) → m ≤ n → IsTreeBelow m t → IsTreeBelow n t

@@ -4,7 +4,7 @@ use Rattle.std.specs.Prelude.{◌≡◌, ◌≢◌, ℕ, ◌+◌, ◌<◌, ◌�
 use Rattle.std.specs.Prelude.{slice_get, nat_le}
 use Rattle.std.specs.List.{AllByRecursion}
 use Rattle.cnf.specs.Literal.{Literal, Assignment, literal_value}
-use Rattle.cnf.specs.Clause.{has_repeat, is_tautology}
+use Rattle.cnf.specs.Clause.{has_repeat, is_tautology, AreBelow}
 use Rattle.totalizer.specs.Stages.{Tree, Leaf, Node, size_of, outputs_of, true_leaves}
 
 -- each node has one output for each of so many stages, as long as it has the leaves
@@ -12,10 +12,6 @@ abbrev pub HasStages : ℕ → Tree → Type 0
 HasStages h (Leaf l) = Unit {0}
 HasStages h (Node a b outputs) =
     HasStages h a × HasStages h b × (length outputs ≡ min h (size_of a + size_of b))
-
--- the variables of the literals are below n
-abbrev pub AreBelow : ℕ → List Literal → Type 0
-AreBelow n c = AllByRecursion (λ l. l.variable < n) c
 
 -- those of the leaves and outputs are
 abbrev pub IsTreeBelow : ℕ → Tree → Type 0

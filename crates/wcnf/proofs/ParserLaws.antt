@@ -161,13 +161,6 @@ end_refused p bytes (Ok x) s h = tt
 end_refused p bytes (Err f) s (inl m) = inl m
 end_refused p bytes (Err f) s (inr g) = inr (g bytes s)
 
--- the bytes of a reader
-pub all_read : (a b c : Option (List ℕ)) (bytes buf : List ℕ) (k : ℕ) → Consumes a b bytes
-    → Consumes b c (take k buf) → k ≡ 0 → Consumes a c bytes
-all_read a b c bytes buf k p q e =
-    subst (Consumes a c) (append-nil bytes)
-    (Consumes-trans a b c bytes [] p (subst (Consumes b c) (ap (λ j. take j buf) e) q))
-
 -- the reader's own fault, or one of the whole text, where that is known
 abbrev IsRefusedReading : Option (List ℕ) → ReadFault → Type 0
 IsRefusedReading known f = NoMemory f ⊎ (f ≡ record { kind = Read; line = 0 })

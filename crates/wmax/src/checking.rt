@@ -5,9 +5,10 @@ ghost use Rattle.wmax.specs.Checking.{later};
 
 use crate::arguments::CheckRequest;
 use crate::faults::{Fault, end_output, open, read_whole, tell_packed};
-use crate::profiles::{choose_profile, refuse_profile};
+use crate::profiles::{Certifying, choose_profile, refuse_profile};
 use adder::profiles::Profile;
 use lrat_check::checking::check_from_as;
+use lrat_check::cuts::check_cuts_from;
 use lrat_check::verdicts::{Cause, CheckFault, Verdict};
 use report::fault::RunFault;
 use report::options::ANY;
@@ -15,12 +16,25 @@ use report::printing::{deliver, print_verdict, verdict_code};
 use std::fs;
 use std::io::{Read, Write};
 use std::rt::{Env, Files};
+use wmax_onlooker::beginning::Beginning;
 use wmax_onlooker::files::UNREADABLE;
 use wmax_onlooker::standard_error::Messages;
 use wmax_onlooker::standard_output::standard_output;
 
 /// What is said of a certificate that cannot be read more than once.
 const NO_FILE: &str = "error: check --profile any needs a regular file as PROOF, not a pipe";
+
+/// What begins the lines that only a certificate of forms and cuts has.
+const WORDS_OF_CUTS: [&[u8]; 6] = [b"count ", b"more ", b"group ", b"form ", b"cut ", b"bound "];
+
+/// What begins the lines that only a certificate with cores has.
+const WORD_OF_CORES: &[u8] = b"core ";
+
+/// What is said of a certificate of forms and cuts in another profile.
+const CUTS_ADVICE: &str = "PROOF begins like a certificate of profile 3: try --profile 3";
+
+/// What is said of a certificate with cores in another profile.
+const CORES_ADVICE: &str = "PROOF begins like a certificate of profile 5: try --profile 5";
 
 /// The files are opened in their order before any is read, and read in their order. The certificate
 /// is judged while it is read, so none of it is kept but the clauses that are live.
@@ -38,13 +52,35 @@ pub fn check<'a, R: Files + AllocGlobal + Print + Env, E: Write>(
     };
     let mut text = open(rt, request.text)?;
     let mut answer = open(rt, request.result)?;
-    let mut proof = open(rt, request.proof)?;
+    let mut proof = Beginning::new(open(rt, request.proof)?);
     let text = read_whole(rt, &mut text, request.text)?;
     let answer = read_whole(rt, &mut answer, request.result)?;
     match check_as(rt, &text, &answer, &mut proof, profile) {
-        Ok(verdict) => show_for(rt, messages, &text, &verdict),
+        Ok(verdict) => {
+            let status = show_for(rt, messages, &text, &verdict)?;
+            if status == 1 {
+                advise_profile(messages, proof.first(), profile);
+            }
+            Ok(status)
+        }
         Err(fault) => Err(Fault::of_file(fault, request.proof)),
     }
+}
+
+/// Names the profile that reads a certificate with these first bytes, where it was another one.
+fn advise_profile<E: Write>(messages: &mut Messages<'_, E>, first: &[u8], profile: Certifying) {
+    let advice = match profile {
+        Certifying::Formula(_) if begins_with_any(first, &WORDS_OF_CUTS) => CUTS_ADVICE,
+        Certifying::Formula(Profile::Five) => return,
+        _ if first.starts_with(WORD_OF_CORES) => CORES_ADVICE,
+        _ => return,
+    };
+    let _ = writeln!(messages.below(), "{advice}");
+}
+
+/// Whether one of the words, with what follows it, stands first.
+fn begins_with_any(first: &[u8], words: &[&[u8]; 6]) -> bool {
+    words.iter().any(|word| first.starts_with(word))
 }
 
 /// The certificate is opened anew for each profile, so it has to be a file.
@@ -69,12 +105,12 @@ fn check_any<'a, R: Files + AllocGlobal + Print, E: Write>(
 }
 
 /// The profiles that are tried, the one that finds most optima first.
-const EACH: [Profile; 5] = [
-    Profile::Five,
-    Profile::Four,
-    Profile::Three,
-    Profile::Two,
-    Profile::One,
+const EACH: [Certifying; 5] = [
+    Certifying::Formula(Profile::Five),
+    Certifying::Formula(Profile::Four),
+    Certifying::Cuts,
+    Certifying::Formula(Profile::Two),
+    Certifying::Formula(Profile::One),
 ];
 
 /// Yes where one of the profiles says it; else the fault that stands last in the certificate, and
@@ -130,11 +166,15 @@ fn check_as<R: AllocGlobal, P: Read>(
     text: &[u8],
     answer: &[u8],
     proof: &mut P,
-    profile: Profile,
+    profile: Certifying,
 ) -> Result<Verdict, RunFault>
     ensures sound { IfOk result (λ v. v ≡ Verdict.Yes → IsTrueResult text.now answer.now) }
 {
-    match check_from_as(rt.alloc(), text, answer, proof, profile) {
+    let checked = match profile {
+        Certifying::Formula(profile) => check_from_as(rt.alloc(), text, answer, proof, profile),
+        Certifying::Cuts => check_cuts_from(rt.alloc(), text, answer, proof),
+    };
+    match checked {
         Ok(verdict) => Ok(verdict),
         Err(CheckFault::Memory) => Err(RunFault::Memory),
         Err(CheckFault::Read) => Err(UNREADABLE),

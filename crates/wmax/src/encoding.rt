@@ -4,10 +4,11 @@ ghost use Rattle.cnf.specs.declared.limits.TheConstants.{NUMBER_LIMIT};
 
 use crate::arguments::EncodeRequest;
 use crate::faults::{Fault, end_output, open, read_whole, tell_text_fault};
-use crate::profiles::{choose_profile, refuse_profile};
+use crate::profiles::{Certifying, choose_profile, refuse_profile};
 use adder::profiles::Profile;
 use bound::encoding::{WatchedWriter, write_formula};
 use bound::formulas::write_dimacs;
+use bound::weighted::weighted_formula;
 use lrat_check::core_formula::{RefutedFormula, core_formula};
 use report::fault::RunFault;
 use report::options::MOST_COST;
@@ -23,7 +24,8 @@ use wmax_onlooker::standard_output::standard_output;
 /// What is said of a `--proof` in another profile.
 const NO_CORES: &str = "error: encode takes --proof only with --profile 5";
 
-/// The formula for 'cost below COST', or with `--proof` that of the core lines of the certificate,
+/// The formula for 'cost below COST' (in profile 3 that of the relaxed clauses, whatever COST is),
+/// or with `--proof` that of the core lines of the certificate,
 /// which is opened after FILE and before any of it is read.
 pub fn encode<'a, R: Files + AllocGlobal + Print + Env, E: Write>(
     rt: &R,
@@ -41,7 +43,7 @@ pub fn encode<'a, R: Files + AllocGlobal + Print + Env, E: Write>(
         let ended = encode_bound(rt, &mut text, cost, profile);
         return Ok(tell_ended(messages, ended, request.text, text.first()));
     };
-    if !matches!(profile, Profile::Five) {
+    if !matches!(profile, Certifying::Formula(Profile::Five)) {
         let _ = writeln!(messages.below(), "{NO_CORES}");
         return Ok(2);
     }
@@ -74,7 +76,7 @@ fn encode_bound<'a, R: AllocGlobal + Print, T: Read>(
     rt: &R,
     text: &mut T,
     cost: u64,
-    profile: Profile,
+    profile: Certifying,
 ) -> Result<u8, Fault<'a>>
     requires { cost < NUMBER_LIMIT }
 {
@@ -88,15 +90,24 @@ fn write_bound<R: AllocGlobal, T: Read, W: Write>(
     rt: &R,
     text: &mut T,
     cost: u64,
-    profile: Profile,
+    profile: Certifying,
     out: &mut W,
 ) -> Result<u8, RunFault>
     requires { cost < NUMBER_LIMIT }
 {
     let instance = ManuallyDrop::new(read_from(rt.alloc(), text)?);
     let mut watched = WatchedWriter::new(out);
-    write_formula(&instance, cost, profile, &mut watched)?;
-    deliver(Ok(()), &mut watched)?;
+    let written = match profile {
+        Certifying::Formula(profile) => {
+            write_formula(&instance, cost, profile, &mut watched)?;
+            Ok(())
+        }
+        Certifying::Cuts => match weighted_formula(&instance) {
+            Ok(formula) => write_dimacs(&formula, &mut watched),
+            Err(_) => return Err(RunFault::Memory),
+        },
+    };
+    deliver(written, &mut watched)?;
     Ok(0)
 }
 

@@ -9,8 +9,20 @@ use std::io::Write;
 use std::rt::Env;
 use wmax_onlooker::standard_error::Messages;
 
+/// The name of the profile of forms and cuts.
+const CUTS: &str = "3";
+
 /// The variable of the environment that names the profile where no `--profile` does.
 const VARIABLE: &str = "WMAX_PROFILE";
+
+/// How a certificate shows that nothing is cheaper.
+#[derive(Clone, Copy, Drop)]
+pub enum Certifying {
+    /// It refutes the formula of this profile.
+    Formula(Profile),
+    /// By forms and cuts.
+    Cuts,
+}
 
 /// Why there is no profile.
 #[derive(Clone, Copy, Drop)]
@@ -29,21 +41,32 @@ pub enum NoProfile {
 pub fn choose_profile<R: Env + AllocGlobal>(
     rt: &R,
     named: Option<&str>,
-) -> Result<Profile, NoProfile> {
+) -> Result<Certifying, NoProfile> {
     match named {
-        Some(name) => pick_profile(name).ok_or(NoProfile::Named),
+        Some(name) => pick_certifying(name).ok_or(NoProfile::Named),
         None => usual_profile(rt),
     }
 }
 
 /// The profile of the environment; the first where the variable is not set, or empty.
-fn usual_profile<R: Env + AllocGlobal>(rt: &R) -> Result<Profile, NoProfile> {
+fn usual_profile<R: Env + AllocGlobal>(rt: &R) -> Result<Certifying, NoProfile> {
     match env::var(rt, VARIABLE) {
-        Ok(name) if name.is_empty() => Ok(Profile::One),
-        Ok(name) => pick_profile(name.as_str()).ok_or(NoProfile::Named),
-        Err(VarError::NotPresent) => Ok(Profile::One),
+        Ok(name) if name.is_empty() => Ok(Certifying::Formula(Profile::One)),
+        Ok(name) => pick_certifying(name.as_str()).ok_or(NoProfile::Named),
+        Err(VarError::NotPresent) => Ok(Certifying::Formula(Profile::One)),
         Err(VarError::NotUnicode) => Err(NoProfile::Named),
         Err(VarError::OutOfMemory) => Err(NoProfile::Memory),
+    }
+}
+
+/// The profile of this name, a digit from 1 to 5.
+fn pick_certifying(name: &str) -> Option<Certifying> {
+    if name == CUTS {
+        return Some(Certifying::Cuts);
+    }
+    match pick_profile(name) {
+        Some(profile) => Some(Certifying::Formula(profile)),
+        None => None,
     }
 }
 

@@ -2,7 +2,7 @@
 use crate::arguments::SolveRequest;
 use crate::faults::{Fault, end_output, open, tell_text_fault};
 use crate::inputs::{Inputs, Source, are_named, prepare};
-use crate::profiles::{choose_profile, refuse_profile};
+use crate::profiles::{Certifying, choose_profile, refuse_profile};
 use crate::refusals::{KeptFileFault, Refused, tell_refused};
 use adder::profiles::Profile;
 use cdcl::budget::Budget;
@@ -21,6 +21,9 @@ use wmax_onlooker::progress::Meter;
 use wmax_onlooker::standard_error::Messages;
 use wmax_onlooker::standard_output::standard_output;
 
+/// What is said of a profile that no search writes.
+const NO_CUTS: &str = "error: solve does not write certificates of profile 3";
+
 /// FILE is opened, then RESULT, if the search begins with one: that is judged by FILE, all of which
 /// is in memory then. Then the files of the best lower bound and of the best solution are looked
 /// at, and the search begins with what stands in that, if it is cheaper. Then the file of the
@@ -32,7 +35,11 @@ pub fn solve<'a, R: Files + AllocGlobal + Print + Env + Clock, E: Write>(
     request: &SolveRequest<'a>,
 ) -> Result<u8, Fault<'a>> {
     let profile = match choose_profile(rt, request.profile) {
-        Ok(profile) => profile,
+        Ok(Certifying::Formula(profile)) => profile,
+        Ok(Certifying::Cuts) => {
+            let _ = writeln!(messages.below(), "{NO_CUTS}");
+            return Ok(2);
+        }
         Err(why) => return refuse_profile(messages, why),
     };
     let file = open(rt, request.text)?;

@@ -48,23 +48,23 @@ add_tree-requires-clause-small c =
     let p = c.args.instance.now in
     let r = c.in_ok-relaxations.ensures in
     let same = tree_is (relaxed_as c.args.profile p) r.each r.fresh
-    ∙ is_tree c.args.profile p c.adding.result c.adding.ensures c.in-Tree.is in
+    ∙ is_tree c.args.profile p c.adding.result c.adding.ensures c.in-Sums.is in
     let law = adds_up c.args.profile p r.limits in
     rw same (omega (arith, law.small.0, r.fresh))
 
-pub returns-in-Tree-clause-cells : goal.returns-in-Tree-clause-cells
-returns-in-Tree-clause-cells c =
+pub returns-in-Sums-clause-cells : goal.returns-in-Sums-clause-cells
+returns-in-Sums-clause-cells c =
     let p = c.args.instance.now in
     let r = c.in_ok-relaxations.ensures in
     let same = tree_is (relaxed_as c.args.profile p) r.each r.fresh
-    ∙ is_tree c.args.profile p c.adding.result c.adding.ensures c.in-Tree.is in
+    ∙ is_tree c.args.profile p c.adding.result c.adding.ensures c.in-Sums.is in
     rw same at c.add_tree.ensures
 
-pub returns-in-Tree-clause-adds_up : goal.returns-in-Tree-clause-adds_up
-returns-in-Tree-clause-adds_up c =
+pub returns-in-Sums-clause-adds_up : goal.returns-in-Sums-clause-adds_up
+returns-in-Sums-clause-adds_up c =
     let p = c.args.instance.now in
     let r = c.in_ok-relaxations.ensures in
     let same = tree_is (relaxed_as c.args.profile p) r.each r.fresh
-    ∙ is_tree c.args.profile p c.adding.result c.adding.ensures c.in-Tree.is in
+    ∙ is_tree c.args.profile p c.adding.result c.adding.ensures c.in-Sums.is in
     if_ok_from _ c.add_tree.result (rw same at c.add_tree.ensures)
     (adds_up c.args.profile p r.limits)

@@ -2,7 +2,7 @@
 use Rattle.std.proofs.Common.{rules, ◌≡◌, ℕ, [], append-nil, arith, length-take}
 use Rattle.std.proofs.Common.{refl, sym}
 use Rattle.std.specs.Io.KnownBytes.{IsAtEnd}
-use Rattle.wcnf.proofs.Laws.{all_read}
+use Rattle.text.proofs.Laws.{read_nothing}
 use Rattle.lrat_check.specs.Heads.{head_reading}
 use Rattle.lrat_check.proofs.PieceLaws.{read_more}
 use Rattle.lrat_check.proofs.head_streams.read_head.Goals as goal
@@ -27,7 +27,7 @@ returns-in-Ok-eq0-clause-read g c =
     let end : IsAtEnd (g.R.Read.remaining c.read.new.self) = search rules in
     λ p h. record {
       bytes = i.0;
-      read = all_read (g.R.Read.remaining c.args.proof.now) (g.R.Read.remaining c.pieces.proof)
+      read = read_nothing (g.R.Read.remaining c.args.proof.now) (g.R.Read.remaining c.pieces.proof)
           (g.R.Read.remaining c.read.new.self) i.0 _ c.in-Ok-eq0.field-0 i.2
           c.in-Ok-eq0.ensures.bytes.0 zero;
       leaves = i.1 p h;

@@ -3,7 +3,7 @@ use Rattle.std.proofs.Common.{rules, ◌≡◌, ℕ, [], ◌++◌, append_assoc}
 use Rattle.std.proofs.Common.{append-nil, arith, inl, inr, length-take, refl, subst, sym}
 use Rattle.std.specs.Prelude.{None}
 use Rattle.std.specs.Io.KnownBytes.{IsAtEnd}
-use Rattle.wcnf.proofs.Laws.{all_read}
+use Rattle.text.proofs.Laws.{read_nothing}
 use Rattle.lrat_check.specs.Pieces.{HasJudged}
 use Rattle.lrat_check.proofs.PieceLaws.{read_more}
 use Rattle.lrat_check.proofs.Stops.{piece_on}
@@ -25,7 +25,7 @@ returns-in-Ok-eq0-clause-judges g c =
     record {
       bytes = i.bytes;
       read =
-          all_read (g.R.Read.remaining c.args.proof.now) (g.R.Read.remaining c.pieces.proof)
+          read_nothing (g.R.Read.remaining c.args.proof.now) (g.R.Read.remaining c.pieces.proof)
           (g.R.Read.remaining c.read.new.self) i.bytes _ c.in-Ok-eq0.field-0 i.read
           c.in-Ok-eq0.ensures.bytes.0 zero;
       judged = i.judged;

@@ -4,8 +4,9 @@ use Rattle.std.proofs.Common.{append-nil, arith, inl, inr, length-take, refl, su
 use Rattle.std.specs.Prelude.{None}
 use Rattle.std.specs.Io.KnownBytes.{IsAtEnd}
 use Rattle.std.proofs.KnownBytes.{Consumes-trans}
+use Rattle.text.proofs.Laws.{read_nothing}
 use Rattle.lrat_cuts.specs.Pieces.{HasJudged}
-use Rattle.lrat_cuts.proofs.EndedParts.{piece_on, read_nothing}
+use Rattle.lrat_cuts.proofs.EndedParts.{piece_on}
 use Rattle.lrat_cuts.proofs.streams.judge.Goals as goal
 
 pub pieces-init : goal.pieces-init

@@ -1,7 +1,6 @@
 use Rattle.std.proofs.Common.{◌≡◌, ◌≤◌, false, map, take}
 use Rattle.cnf.specs.Literal.{negation}
-use Rattle.cnf.specs.Clause.{has_repeat, is_tautology}
-use Rattle.lrat_machine.specs.Assumed.{AreWithin}
+use Rattle.cnf.specs.Clause.{has_repeat, is_tautology, IsClauseWithin}
 use Rattle.lrat_machine.proofs.additions.assume_negations.Given as goal
 
 abbrev pub invariant-loop-lit : goal.invariant-loop-lit
@@ -9,6 +8,6 @@ invariant-loop-lit l = record {
   negated : l.assumed.literals ≡ map negation (take l.lit-index l.clause);
   single : has_repeat (take l.lit-index l.clause) ≡ false;
   apart : is_tautology (take l.lit-index l.clause) ≡ false;
-  within : AreWithin l.assumed.variables (take l.lit-index l.clause);
+  within : IsClauseWithin l.assumed.variables (take l.lit-index l.clause);
   more : l.fn.assumed.variables ≤ l.assumed.variables;
 }

@@ -1,7 +1,7 @@
 use Rattle.std.proofs.Common.{◌+◌, ◌∙◌, ap, sym, subst}
 use Rattle.std.specs.Prelude.{IfSome}
 use Rattle.std.specs.Option.{option_copied}
-use Rattle.lrat_machine.specs.Assumed.{AreWithin}
+use Rattle.cnf.specs.Clause.{IsClauseWithin}
 use Rattle.lrat_machine.specs.Verdict.{walk, Fault}
 use Rattle.lrat_machine.specs.Steps.{EndAlike}
 use Rattle.lrat_machine.specs.declared.verdicts.Cause.TheVariants.{HintAfterConflict}
@@ -13,7 +13,7 @@ pub assume-requires-clause-within : goal.assume-requires-clause-within
 assume-requires-clause-within c =
     let n = c.args.assumed.now.variables in
     makes_within n c.args.assumed.now.literals c.in-Some.clause.now c.in-Makes.lit
-    (subst (λ o. IfSome (option_copied o) (λ k. AreWithin n k)) c.in-Some.is c.requires.within)
+    (subst (λ o. IfSome (option_copied o) (λ k. IsClauseWithin n k)) c.in-Some.is c.requires.within)
     (sym c.in-Makes.ensures)
 
 pub returns-in-Conflict-clause-followed : goal.returns-in-Conflict-clause-followed

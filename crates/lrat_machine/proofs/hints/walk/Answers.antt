@@ -1,7 +1,7 @@
 use Rattle.std.proofs.Common.{◌∙◌, ap, sym, subst}
 use Rattle.std.specs.Prelude.{All}
 use Rattle.lrat_live.specs.Listed.{listed_at}
-use Rattle.lrat_machine.specs.Assumed.{AreWithin}
+use Rattle.cnf.specs.Clause.{IsClauseWithin}
 use Rattle.lrat_machine.specs.Steps.{IsFollowed}
 use Rattle.lrat_machine.proofs.Alike.{EndAlike-step}
 use Rattle.lrat_machine.proofs.Effects.{id_here, found_within}
@@ -11,7 +11,7 @@ pub follow-requires-clause-within : goal.follow-requires-clause-within
 follow-requires-clause-within c =
     let es = c.args.live.now in
     let within =
-    subst (λ n. All (λ e. AreWithin n e.1) es) (sym c.loop-i.invariant.variables) c.requires in
+    subst (λ n. All (λ e. IsClauseWithin n e.1) es) (sym c.loop-i.invariant.variables) c.requires in
     found_within c.loop-i.assumed.variables es c.id.result _ within c.find-clause.ensures
 
 pub returns-in-Some-clause-walked : goal.returns-in-Some-clause-walked

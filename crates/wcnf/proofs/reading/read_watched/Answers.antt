@@ -2,7 +2,8 @@
 use Rattle.std.proofs.Common.{rules, ◌≡◌, ◌∙◌, [], arith, refl}
 use Rattle.std.specs.Io.KnownBytes.{IsAtEnd}
 use Rattle.std.proofs.KnownBytes.{Consumes-nil, Consumes-trans}
-use Rattle.wcnf.proofs.ParserLaws.{all_read, piece_refused, reader_read, reader_read_one}
+use Rattle.text.proofs.Laws.{read_nothing}
+use Rattle.wcnf.proofs.ParserLaws.{piece_refused, reader_read, reader_read_one}
 use Rattle.wcnf.proofs.ParserLaws.{reader_refused, told_at_end}
 use Rattle.wcnf.proofs.reading.read_watched.Goals as goal
 
@@ -18,7 +19,7 @@ returns-in-Ok-eq0-clause-instance g c =
     let zero : c.in-Ok-eq0.field-0 ≡ 0 = first_of (omega arith, search rules, cc) in
     let end : IsAtEnd (g.R.Read.remaining (c.read.new.self).reader.now) = search rules in
     reader_read _ _ i.0 c.pieces.parser c.finish.result
-    (all_read _ _ _ i.0 _ c.in-Ok-eq0.field-0 i.2 c.in-Ok-eq0.ensures.bytes.0 zero) end i.1
+    (read_nothing _ _ _ i.0 _ c.in-Ok-eq0.field-0 i.2 c.in-Ok-eq0.ensures.bytes.0 zero) end i.1
     c.finish.ensures.instance
 
 pub returns-in-Ok-eq0-clause-only_one : goal.returns-in-Ok-eq0-clause-only_one
@@ -27,7 +28,7 @@ returns-in-Ok-eq0-clause-only_one g c =
     let zero : c.in-Ok-eq0.field-0 ≡ 0 = first_of (omega arith, search rules, cc) in
     let end : IsAtEnd (g.R.Read.remaining (c.read.new.self).reader.now) = search rules in
     reader_read_one _ _ i.0 c.pieces.parser c.finish.result
-    (all_read _ _ _ i.0 _ c.in-Ok-eq0.field-0 i.2 c.in-Ok-eq0.ensures.bytes.0 zero) end i.1
+    (read_nothing _ _ _ i.0 _ c.in-Ok-eq0.field-0 i.2 c.in-Ok-eq0.ensures.bytes.0 zero) end i.1
     c.finish.ensures.instance
 
 pub returns-in-Ok-eq0-clause-fault : goal.returns-in-Ok-eq0-clause-fault
@@ -36,7 +37,7 @@ returns-in-Ok-eq0-clause-fault g c =
     let zero : c.in-Ok-eq0.field-0 ≡ 0 = first_of (omega arith, search rules, cc) in
     let end : IsAtEnd (g.R.Read.remaining (c.read.new.self).reader.now) = search rules in
     reader_refused _ _ _ i.0 c.pieces.parser c.finish.result
-    (all_read _ _ _ i.0 _ c.in-Ok-eq0.field-0 i.2 c.in-Ok-eq0.ensures.bytes.0 zero) end i.1
+    (read_nothing _ _ _ i.0 _ c.in-Ok-eq0.field-0 i.2 c.in-Ok-eq0.ensures.bytes.0 zero) end i.1
     c.finish.ensures.fault
 
 pub returns-in-Ok-eq0-clause-whole : goal.returns-in-Ok-eq0-clause-whole

@@ -6,7 +6,7 @@ use Rattle.std.proofs.lemmas.Result.{MatchResult-from_err}
 use Rattle.cnf.specs.Literal.{Literal}
 use Rattle.clauses.specs.Slots.{Slots}
 use Rattle.lrat_log.specs.Log.{LogLine}
-use Rattle.lrat_log.specs.Steps.{is_empty_clause}
+use Rattle.cnf.specs.Clause.{is_empty_clause}
 use Rattle.cnf.specs.Marks.{HasPlace}
 use Rattle.eliminate.specs.declared.simplifier.Simplifier.{Simplifier}
 use Rattle.eliminate_tables.specs.Rows.{with_clause_rows}

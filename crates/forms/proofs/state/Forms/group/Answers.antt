@@ -6,7 +6,8 @@ use Rattle.forms.specs.declared.numbered.Numbered.TheVariants.{Group as StampedG
 use Rattle.forms.specs.Forms.{are_known}
 use Rattle.forms.specs.Kept.{forms_in}
 use Rattle.forms.specs.Stamped.{IsStamped}
-use Rattle.forms.specs.Within.{AreWithin, IsWithin}
+use Rattle.cnf.specs.Clause.{IsClauseWithin}
+use Rattle.forms.specs.Within.{IsWithin}
 use Rattle.forms.proofs.Knowing.{each_below, known}
 use Rattle.forms.proofs.state.Forms.group.Goals as goal
 
@@ -20,12 +21,12 @@ invariant_of-self-2 g c =
     let same : forms_in f ≡ c.args.self.now = c.self.view_is ∙ c.are_known.ensures.unchanged in
     let h : are_known (forms_in f) lits ≡ true =
     ap (λ x. are_known x lits) same ∙ sym c.if-not-are_known.ensures.known in
-    let all : AreWithin f.variables lits =
+    let all : IsClauseWithin f.variables lits =
     All-from_recursion (λ l. l.variable ≤ f.variables) lits
     (each_below f.variables lits (known (forms_in f) lits h).below) in
     let within : IsWithin f.variables f.terms item =
     (omega (arith, c.if-lits-lt2.false, ap length c.in_ok-lits.ensures.items),
-    subst (AreWithin f.variables) (sym c.in_ok-lits.ensures.items) all) in
+    subst (IsClauseWithin f.variables) (sym c.in_ok-lits.ensures.items) all) in
     record {
       width = old.width;
       marks = old.marks;
