@@ -1,6 +1,7 @@
 -- What a line comes to, by what was read of it.
 use Rattle.std.proofs.Common.{◌≡◌, ℕ, ◌+◌, ◌<◌, ◌≤◌, Bool, true, false, List, [], ◌∷◌, Option, Some}
-use Rattle.std.proofs.Common.{None, inl, inr, refl, sym, ◌∙◌, ap, subst, arith, ◌||◌, ◌&&◌, Result, Err}
+use Rattle.std.proofs.Common.{None, inl, inr, refl, sym, ◌∙◌, ap, subst, arith, ◌||◌, ◌&&◌}
+use Rattle.std.proofs.Common.{Result, Err}
 use Rattle.std.specs.Prelude.{◌⊎◌, nat_le, not, if◌then◌else◌, max}
 use Rattle.std.proofs.lemmas.Bool.Decides.{nat_tests}
 use Rattle.cnf.specs.Literal.{Literal}

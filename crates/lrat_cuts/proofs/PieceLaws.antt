@@ -27,7 +27,8 @@ module _ (old new : ReadingState) (end line : List ℕ) (no_feed : IsNoFeed end)
   no_feeds : IsNoFeed (old.rest ++ end)
   no_feeds = All-append (λ b. (b == 10) ≡ false) old.rest end (o.cut).unfinished no_feed
 
-  regroup : (d r e more : List ℕ) → d ++ ((r ++ e) ++ 10 ∷ more) ≡ ((d ++ r) ++ (e ++ 10 ∷ [])) ++ more
+  regroup : (d r e more : List ℕ)
+      → d ++ ((r ++ e) ++ 10 ∷ more) ≡ ((d ++ r) ++ (e ++ 10 ∷ [])) ++ more
   regroup d r e more = simp append_assoc
 
   from_old : (more : List ℕ) → judged_after old.machine (tokens_of line ∷ token_lines more)

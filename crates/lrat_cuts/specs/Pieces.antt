@@ -56,7 +56,8 @@ pub record CheckerState : Type 0 where
   -- memory was refused
   pub failed : Bool
 
--- the checker has judged these bytes over an instance. Cuts have to hold for a cost, if there is one
+-- the checker has judged these bytes over an instance, where cuts have to hold for a cost, if
+-- there is one
 pub record HasJudged (c : CheckerState) (cost : Option ℕ) (p : Problem) (bytes : List ℕ) :
     Type 0 where
   pub fed : c.fed ≡ length bytes

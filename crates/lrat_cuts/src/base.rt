@@ -9,7 +9,8 @@ ghost use Rattle.lrat_live.specs.Listed.{listed_at};
 ghost use Rattle.lrat_read.specs.Form.{Addition, Deletion};
 ghost use Rattle.lrat_read.specs.Reader.{is_large_clause};
 ghost use Rattle.lrat_cuts.specs.Cuts.{cause_of, cuts_start, fact_of, judged_bound, judged_cut};
-ghost use Rattle.lrat_cuts.specs.Cuts.{judged_plain, on_clauses, on_forms, put, put_all, taken_worth};
+ghost use Rattle.lrat_cuts.specs.Cuts.{judged_plain, on_clauses, on_forms, put, put_all};
+ghost use Rattle.lrat_cuts.specs.Cuts.{taken_worth};
 ghost use Rattle.lrat_cuts.specs.Machine.{LeadsTo, Puts, heard_all, took};
 
 use crate::table::LiveTable;
@@ -285,7 +286,8 @@ impl CutsBase {
     /// if it has one.
     pub(crate) fn group(&mut self, lits: &[Lit], ids: &[u64]) -> Result<Option<Cause>, AllocError>
         ensures { IfOk result (λ fault. LeadsTo (on_forms self.old
-            (group_line (listed_at self.old.live) lits.now ids.now self.old.forms)) self.new fault) }
+            (group_line (listed_at self.old.live) lits.now ids.now self.old.forms)) self.new
+            fault) }
     {
         let table = LiveTable {
             clauses: &self.clauses,

@@ -1,5 +1,5 @@
 // The checker between lines.
-ghost use Rattle.std.specs.Prelude.{◌≡◌, ℕ, ◌+◌, ◌<◌, ◌≤◌, ◌^◌, List, [], Option, None, Some, IfOk, OnOk};
+ghost use Rattle.std.specs.Prelude.{◌≡◌, ℕ, ◌+◌, ◌<◌, ◌≤◌, ◌^◌, List, [], Option, None, Some, IfOk};
 ghost use Rattle.std.specs.Prelude.{OnErr};
 ghost use Rattle.cnf.specs.declared.limits.TheConstants.{NUMBER_LIMIT};
 ghost use Rattle.text.specs.Text.{tokens_of};
@@ -158,7 +158,8 @@ impl CutsMachine {
     /// is left beside.
     pub fn step(&mut self, line: &[u8]) -> Result<Option<Cause>, AllocError>
         requires room { self.old.lines + 1 < 2 ^ 64 }
-        ensures steps { IfOk result (λ fault. StepsTo self.old (tokens_of line.now) fault self.new) }
+        ensures steps { IfOk result
+            (λ fault. StepsTo self.old (tokens_of line.now) fault self.new) }
         ensures err { OnErr result (self.new.lines ≡ self.old.lines) }
     {
         self.made.clear();

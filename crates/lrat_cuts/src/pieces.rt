@@ -3,8 +3,8 @@
 //! Each line is judged once its line feed is there, and only what follows the last line feed is
 //! kept.
 ghost use Rattle.std.specs.Prelude.{◌≡◌, ℕ, ◌+◌, ◌<◌, ◌≤◌, ◌^◌, true, false, List, [], ◌∷◌, ◌++◌};
-ghost use Rattle.std.specs.Prelude.{length, None, Ok, Err, IfOk, OnOk, OnErr, Option, IfSome, IsErr};
-ghost use Rattle.std.specs.Prelude.{IsOk, IsSome, ◌↔◌};
+ghost use Rattle.std.specs.Prelude.{length, Option, None, Ok, Err, IfOk, OnOk, OnErr, IfSome};
+ghost use Rattle.std.specs.Prelude.{IsErr, IsOk, IsSome, ◌↔◌};
 ghost use Rattle.std.specs.Str.Lines.{strip_carriage_return};
 ghost use Rattle.cnf.specs.Problem.{Problem};
 ghost use Rattle.cnf.specs.declared.limits.TheConstants.{NUMBER_LIMIT};

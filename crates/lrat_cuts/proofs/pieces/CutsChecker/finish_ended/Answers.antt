@@ -15,4 +15,5 @@ returns-in-Some-clause-verdict c = λ p bytes s.
 pub returns-in-None-clause-verdict : goal.returns-in-None-clause-verdict
 returns-in-None-clause-verdict c = λ p bytes s.
     let inside = subst (λ (x : CheckerState). HasJudged x None p bytes) (sym c.self.view_is) s in
-    ap AtLeast c.proved.ensures.proved ∙ ap lower_of (sym (ended_open _ p bytes None inside.holds c.in-None.is))
+    ap AtLeast c.proved.ensures.proved
+    ∙ ap lower_of (sym (ended_open _ p bytes None inside.holds c.in-None.is))
