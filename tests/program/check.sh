@@ -176,7 +176,7 @@ expect 'profile 2' 0 YES ''
 call check --profile 1 text result proof
 expect 'a certificate of profile 2 in profile 1' 1 'NO IdOrder 1' ''
 call check --profile 3 text result proof
-expect 'a certificate of profile 2 in profile 3' 1 'NO IdOrder 1' ''
+expect 'a certificate of profile 2 in profile 3' 1 'NO DeadId 1' ''
 call check --profile 4 text result proof
 expect 'a certificate of profile 2 in profile 4' 1 'NO IdOrder 1' ''
 

@@ -49,7 +49,7 @@ for name in tea package_choice_60_1 diagnosis_100_1 random_30_1; do
     sed '1s/ 0$/ 0 0/' "$data/$name.lrat" > "$work/proof"
     judge "$name with a second 0" 'NO CoreForm 1' "$name" proof
     call check --profile 4 "$data/$name.wcnf" "$data/$name.result" "$data/$name.lrat"
-    expect "$name in profile 4" 1 'NO LineForm 1' ''
+    expect "$name in profile 4" 1 'NO LineForm 1' 'PROOF begins like a certificate of profile 5: try --profile 5'
 done
 
 mkfifo "$work/fifo"

@@ -39,18 +39,24 @@ formula_as 2 'no cells' 3 'p cnf 2 3' '1 2 0' '-2 0' '-1 0'
 lines text '3 1 0' '1 1 0'
 formula_as 2 'one literal in two columns' 1 'p cnf 5 15' '-1 -2 0' '1 -2 0' '-1 -3 0' '-1 -3 0' '1 3 0' '-1 3 -4 0' '-1 -3 4 0' \
     '1 3 4 0' '1 -3 -4 0' '-1 -5 0' '3 -5 0' '1 -3 5 0' '-5 0' '-4 0' '-2 0'
-lines text '1 1 0' '1 2 0' '1 3 0'
-formula_as 3 'three in pairs' 2 'p cnf 12 25' '1 4 0' '2 5 0' '3 6 0' '4 5 -7 0' '4 -5 7 0' '-4 5 7 0' '-4 -5 -7 0' '4 -8 0' '5 -8 0' \
-    '-4 -5 8 0' '7 6 -9 0' '7 -6 9 0' '-7 6 9 0' '-7 -6 -9 0' '7 -10 0' '6 -10 0' '-7 -6 10 0' '8 10 -11 0' '8 -10 11 0' \
-    '-8 10 11 0' '-8 -10 -11 0' '8 -12 0' '10 -12 0' '-8 -10 12 0' '-11 0'
+
+# Profile 3: the hard clauses, and the soft ones that are no unit, each with its relaxation variable last. COST says nothing.
 : > "$work/text"
-formula_as 3 'an empty text' 0 'p cnf 0 1' '0'
+formula_as 3 'an empty text' 0 'p cnf 0 0'
 lines text '5 0'
-formula_as 3 'an empty soft clause' 5 'p cnf 1 2' '1 0' '-1 0'
-# 2^60 + 1 and 2^60: 61 bits, of which the lighter one comes first, and so is the first literal of the cell
-lines text '1152921504606846977 1 0' '1152921504606846976 2 0'
-formula_as 3 'weights of 61 bits' 1 'p cnf 6 12' '1 3 0' '2 4 0' '4 3 -5 0' '4 -3 5 0' '-4 3 5 0' '-4 -3 -5 0' '4 -6 0' '3 -6 0' \
-    '-4 -3 6 0' '-6 0' '-5 0' '-3 0'
+formula_as 3 'an empty soft clause' 5 'p cnf 1 1' '1 0'
+lines text 'h 1 2 0' '3 -1 0' '4 -2 0'
+for cost in 0 3 4611686018427387903; do formula_as 3 "unit soft clauses, cost $cost" $cost 'p cnf 2 1' '1 2 0'; done
+lines text '3 1 0' '2 1 2 3 0'
+formula_as 3 'a soft clause that is no unit' 1 'p cnf 4 1' '1 2 3 4 0'
+lines text '5 1 -1 0' '2 1 2 0' '3 -1 -2 0' '4 1 0' '4 -1 0' 'h 1 2 0'
+formula_as 3 'opposite literals, whose variable stays' 4 'p cnf 5 3' '1 2 0' '1 2 4 0' '-1 -2 5 0'
+lines text 'h 1 -1 0' 'h 2 2 0' '2 1 1 0' '3 -2 1 -2 0' '2 0'
+formula_as 3 'repeated literals' 0 'p cnf 4 3' '2 0' '-2 1 3 0' '4 0'
+lines text 'h 0'
+formula_as 3 'an empty hard clause' 0 'p cnf 0 1' '0'
+lines text 'p wcnf 3 2 10' '10 1 2 0' '3 -1 2 0'
+formula_as 3 'the older form' 1 'p cnf 4 2' '1 2 0' '-1 2 4 0'
 
 # Profile 4: sums of weights, by whose variables 'at least so much' is said
 : > "$work/text"

@@ -1,5 +1,5 @@
 #!/usr/bin/env bash
-# `wmax encode` on random instances in each profile, against the least cost that a search over all assignments finds: the
+# `wmax encode` on random instances in profiles 1, 2 and 4, against the least cost that a search over all assignments finds: the
 # formula is unsatisfiable at that cost and satisfiable above it. `wmax solve` says so, of its clauses as hard ones.
 source "$(dirname "$0")/../lib"
 
@@ -10,7 +10,7 @@ answer() { # COST: the status line of solving the formula
 
 awk -v dir="$work" -v count=100 -f tests/program/random.awk > "$work/wanted"
 while read -r number wanted; do
-    for profile in 1 2 3 4; do
+    for profile in 1 2 4; do
         if [ "$wanted" = none ]; then
             ok "instance $number, profile $profile: no solution" [ "$(answer 4611686018427387903)" = 's UNSATISFIABLE' ]
         else

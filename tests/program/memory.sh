@@ -89,7 +89,6 @@ printf 'c x\r\n\r\nh -1 0\r\n7 1 0' > "$work/text"
 each 'CR LF' solve --proof proof text
 lines text '3 1 0' '1 1 0'
 each 'two weights of one literal' solve --proof proof text
-each 'two weights of one literal, profile 3' solve --profile 3 --proof proof text
 each 'two weights of one literal, profile 4' solve --profile 4 --proof proof text
 each 'encode: two weights of one literal' encode text 1
 each 'encode: two weights of one literal, profile 3' encode --profile 3 text 1
@@ -109,5 +108,9 @@ lines text 'h 1 2 0' 'h -1 2 0' 'h 1 -2 0' 'h -1 -2 0'
 lines given '5 2 0 1 2 0' '6 0 5 3 4 0'
 each 'check: RUP lines' check text result given
 each 'lower: no solution' lower text given
+lines text 'h -1 -2 0' 'h -1 -3 0' 'h -2 -3 0' '2 1 0' '2 2 0' '2 3 0' '3 1 2 0'
+lines result 'o 4' 's OPTIMUM FOUND' 'v 100'
+lines given 'group 1 2 3 0 1 2 3 0' 'count 1 -1 -2 -3 0' 'more 2 0' 'form 1 0' 'form + 2 -1 0' 'bound 4 0' 'cut 0'
+each 'check: forms and cuts' check --profile 3 text result given
 
 totals

@@ -16,7 +16,7 @@ with() {
     err=$(cat "$work/.err")
 }
 
-for profile in 1 2 3 4 5; do
+for profile in 1 2 4 5; do
     call solve --profile $profile --proof proof text
     solved=$out
     cp "$work/proof" "$work/wanted"
@@ -71,7 +71,7 @@ for profile in 0 6 05 any ''; do
 done
 
 # any: the certificates of each profile, of small instances and of the examples.
-for profile in 1 2 3 4 5; do
+for profile in 1 2 4 5; do
     for name in text plain; do
         call solve --profile $profile --proof proof $name
         printf '%s\n' "$out" > "$work/result"
