@@ -212,6 +212,30 @@ h 1 0\r|1
 p wcnf 1 1 5\n|1
 ROWS
 
+# A text that is packed.
+lines result 's UNKNOWN'
+printf '\037\213\010\000' > "$work/text"
+call check text result /dev/null
+expect 'a file of gzip' 1 'NO Text 1' "FILE is compressed: give it as '<(zcat FILE)'."
+call check --profile any text result result
+expect 'a file of gzip, in each profile' 1 'NO Text 1' "FILE is compressed: give it as '<(zcat FILE)'."
+call lower text /dev/null
+expect 'a file of gzip, lower' 1 'NO Text 1' "FILE is compressed: give it as '<(zcat FILE)'."
+printf '\375\067zXZ\000' > "$work/text"
+call check text result /dev/null
+expect 'a file of xz' 1 'NO Text 1' "FILE is compressed: give it as '<(xzcat FILE)'."
+call encode text 3
+expect 'a file of xz, encode' 2 '' $'error: line 1: FirstToken\nFILE is compressed: give it as \'<(xzcat FILE)\'.'
+call encode --profile 5 --proof result text 3
+expect 'a file of xz, encode --proof' 2 '' $'error: line 1: FirstToken\nFILE is compressed: give it as \'<(xzcat FILE)\'.'
+call solve --best best text
+expect 'a file of xz, solve --best' 2 '' $'error: line 1: FirstToken\nFILE is compressed: give it as \'<(xzcat FILE)\'.'
+call solve --from result text
+expect 'a file of xz, solve --from' 2 '' $'error: line 1: FirstToken\nFILE is compressed: give it as \'<(xzcat FILE)\'.'
+printf '\375\067zXZ1' > "$work/text"
+call check text result /dev/null
+expect 'no file of xz' 1 'NO Text 1' ''
+
 # What is not a file, and words that the command does not take.
 lines text 'h 1 0'
 call check missing result proof

@@ -136,7 +136,7 @@ count=0
 for seed in 1 2 3 4 5 6 7 8 9 10 11 12; do
     awk -v seed=$seed 'BEGIN {
         srand(seed)
-        for (i = 0; i < 60; i++) {
+        for (i = 0; i < 90; i++) {
             for (k = 0; k < 3; k++) clause[k] = int(rand() * 8) + 1
             printf "h"
             for (k = 0; k < 3; k++) printf " %d", (rand() < 0.5 ? -1 : 1) * clause[k]

@@ -66,7 +66,7 @@ left_well() { # DEVICE AT COMMAND: what stands after the failure, of which there
             [ "$err" = 'error: Output' ] && begins "$2" .out &&
                 { [ "$3" != solve ] || [ "$2" -le "$lines_end" ] || cmp -s "$work/proof" "$work/plain/proof"; } ;;
         proof) [ "$err" = 'error: ProofOutput' ] && begins "$2" proof && begins "$lines_end" .out ;;
-        text) [ "$err" = 'error: Read text' ] && begins 0 .out && begins 0 proof ;;
+        text) [[ $err =~ ^error:\ Read\ (text|result|given|cores)$ ]] && begins 0 .out && begins 0 proof ;;
     esac && [ "$status" = 3 ] && [ "$(stat -c %s "$work/mark")" = 1 ]
 }
 

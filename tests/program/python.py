@@ -20,6 +20,7 @@ import operator
 import os
 import pathlib
 import random
+import re
 import signal
 import subprocess
 import sys
@@ -416,7 +417,10 @@ def lies(program):
         path.write_text(PRETENDER.format(solve=solve, check=check, help=help))
         path.chmod(0o755)
         found = raised(lambda: instance.solve(program=str(path), **{"warm": False, **given}))
-        return (found.cost, found.is_optimum, found.status, found.true_names) if isinstance(found, wmax.Solution) else found
+        if isinstance(found, wmax.Solution):
+            return (found.cost, found.is_optimum, found.status, found.true_names)
+        # the folder of a run has another name each time
+        return tuple(re.sub(r" /\S*/(instance\.\w+)$", r" \1", word) if isinstance(word, str) else word for word in found)
 
     def printing(status, *said):
         return f"printf '%s\\n' {' '.join(repr(it) for it in said)}; exit {status}"
@@ -430,8 +434,9 @@ def lies(program):
         ("a fault for a verdict", told(plain, "echo error: Read >&2; exit 3"), ("CheckFailed", "the certificate does not check: error: Read")),
         ("YES and another status", told(plain, "echo YES; exit 1"), ("CheckFailed", "the certificate does not check: YES")),
         ("YES and more", told(plain, printing(0, "YES", "NO")), ("CheckFailed", "the certificate does not check: YES\nNO")),
-        ("no certificate", told(right), ("CheckFailed", "the certificate does not check: error: Read")),
-        ("an optimum that is none", told(printing(30, "o 4", "s OPTIMUM FOUND", "v 01")), ("CheckFailed", "the certificate does not check: error: Read")),
+        ("no certificate", told(right), ("CheckFailed", "the certificate does not check: error: Read instance.lrat")),
+        ("an optimum that is none", told(printing(30, "o 4", "s OPTIMUM FOUND", "v 01")),
+         ("CheckFailed", "the certificate does not check: error: Read instance.lrat")),
         ("a cost that both lie about", told(printing(30, "o 2", "s OPTIMUM FOUND", "v 10"), says_yes), ("CheckFailed", "the bits cost 3, and not 2")),
         ("no solution, about which both lie", told(printing(30, "o 0", "s OPTIMUM FOUND", "v 00"), says_yes),
          ("CheckFailed", "the bits break the hard clause tea or coffee")),
@@ -441,7 +446,8 @@ def lies(program):
         ("fewer bits, the others 0", told(printing(10, "o 3", "s SATISFIABLE", "v 1")), (3, False, 10, ["tea"])),
         ("a solution", told(printing(10, "o 7", "s SATISFIABLE", "v 11")), (7, False, 10, ["tea", "coffee"])),
         ("nothing", told(printing(0, "s UNKNOWN")), ("NoSolutionFound", "no solution was met by this effort")),
-        ("no solution, without a certificate", told(printing(20, "s UNSATISFIABLE")), ("CheckFailed", "the certificate does not check: error: Read")),
+        ("no solution, without a certificate", told(printing(20, "s UNSATISFIABLE")),
+         ("CheckFailed", "the certificate does not check: error: Read instance.lrat")),
         ("no solution", told(plain, instance=none), ("Unsatisfiable", "no assignment satisfies the hard clauses")),
         ("another status", told(printing(10, "o 3", "s OPTIMUM FOUND", "v 10")), ("ProgramFailed", "wmax solve said OPTIMUM FOUND, and ended with status 10")),
         ("no line s", told(printing(10, "o 3", "v 10"))[0], "ProgramFailed"),

@@ -80,5 +80,5 @@ ok 'a thousand units are enough' [ "$(sed -n 's/^s //p' "$work/result")" = 'OPTI
 # Solutions that the search for cores meets are told, and kept.
 call solve --profile 5 --best best --progress --proof proof text
 ok '--best has the result' [ "$(tail -n 3 <<< "$out")" = "$(cat "$work/best")" ]
-ok '--progress tells each cost' [ "$(sed -nE 's/.*, cost ([0-9]+),.*/o \1/p' <<< "$err" | uniq)" = "$(grep '^o' <<< "$out")" ]
+ok '--progress tells each cost' [ "$(sed -nE 's/.*, cost ([0-9]+) .*/o \1/p' <<< "$err" | uniq)" = "$(grep '^o' <<< "$out")" ]
 totals

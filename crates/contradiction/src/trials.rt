@@ -41,9 +41,9 @@ pub(crate) struct Effort {
 const LEARNED_OF_ALL: u64 = 300_000;
 
 /// How many clauses may be learned while clauses are left out, and by one run.
-const LEARNED: u64 = 100_000;
+const LEARNED: u64 = 200_000;
 
-const LEARNED_BY_ONE: u64 = 5_000;
+const LEARNED_BY_ONE: u64 = 20_000;
 
 /// How many literals and clauses may be read while clauses are left out.
 const LITERALS: u64 = 50_000_000;

@@ -1,5 +1,5 @@
-// Which lines of a text have its clauses, each with the comment that belongs to it. The text reads as an
-// instance: what is no clause there is blank, a comment, or the header of the older form.
+// Which lines of a text have its clauses, each with the comment that belongs to it. The text reads
+// as an instance: what is no clause there is blank, a comment, or the header of the older form.
 ghost use Rattle.std.specs.Prelude.{◌≡◌};
 
 use crate::names::is_name;

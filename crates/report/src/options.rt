@@ -139,8 +139,8 @@ clause that they break, and the names of the true variables. The soft clauses
 come heaviest first, each with its line, its comment and the sum so far. The
 comment of a clause is the last one between the clause before it and this one.
 If RESULT says UNSATISFIABLE: prints hard clauses that contradict each other.
-Each of them was left out in turn, within an effort that is the same on every
-machine, and stays if the others may then hold. So there may be fewer.
+They are made few by leaving out each in turn, within an effort that is the same
+on every machine. If that is not enough to find any, it says so.
 Without RESULT: prints how many variables, hard clauses and soft clauses FILE
 has, and the sum of the weights. If FILE is faulty: prints the faulty line and
 word, and how to correct it. With PROOF, if RESULT is correct: also prints what

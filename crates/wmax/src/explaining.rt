@@ -21,7 +21,7 @@ use std::alloc::Global;
 use std::io::{Read, Write};
 use std::rt::Files;
 use text::output::WriteFault;
-use wcnf::faults::ReadFault;
+use wcnf::faults::{FaultKind, ReadFault};
 use wcnf::reading::read;
 use wmax_onlooker::standard_error::Messages;
 use wmax_onlooker::standard_output::standard_output;
@@ -195,6 +195,7 @@ fn write_result<W: Write>(
 fn write_reason<W: Write>(alloc: Global, text: &[u8], out: &mut W) -> Result<bool, ExplainFault> {
     let instance = match read(alloc, text) {
         Ok(instance) => instance,
+        Err(fault) if fault.kind == FaultKind::Memory => return Err(ExplainFault::Memory),
         Err(fault) => return Err(ExplainFault::Text(fault)),
     };
     let Ok(found) = find_contradiction(&instance) else {

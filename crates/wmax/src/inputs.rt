@@ -208,8 +208,8 @@ fn read_left<'a, R: Files + AllocGlobal>(
         .map_err(|fault| Refused::of_file(fault, path))
 }
 
-/// Whether these paths are those of a file that is read, of one that one of these names means, or of
-/// what is no regular file.
+/// Whether these paths are those of a file that is read, of one that one of these names means, or
+/// of what is no regular file.
 pub(crate) fn are_named<R: Files>(
     rt: &R,
     paths: &WholePaths<'_>,

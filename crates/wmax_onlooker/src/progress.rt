@@ -161,16 +161,23 @@ impl<'a, R: Clock + Files + AllocGlobal> Meter<'a, R> {
     /// The line, between its edges.
     fn spell(&self, now: Instant, start: &str, end: &str) -> Result<String, AllocError> {
         let age = now.duration_since(self.start);
-        let report = &self.report;
         let cost = self.spell_cost()?;
         let pace = self.spell_pace(age)?;
         let memory = self.spell_memory()?;
         let spent = self.spell_spent()?;
+        let search = self.spell_search()?;
         format!(in self.rt.alloc();
-            "{start}{}.{} s, {cost}, {pace}, {memory}{spent}, {} propagations, {} learned clauses, \
-             {} restarts{end}",
+            "{start}{}.{} s, {cost}, {pace}, {memory}{spent}, {search}{end}",
             age.as_secs(),
-            age.subsec_millis() / 100,
+            age.subsec_millis() / 100
+        )
+    }
+
+    /// What is of interest to whoever works on the search.
+    fn spell_search(&self) -> Result<String, AllocError> {
+        let report = &self.report;
+        format!(in self.rt.alloc();
+            "{} propagations, {} learned clauses, {} restarts",
             self.propagations.saturating_add(report.propagations),
             report.learned,
             self.restarts.saturating_add(report.restarts)

@@ -45,8 +45,8 @@ impl<W: Write> Write for Output<W> {
 
     fn write(&mut self, buf: &[u8]) -> io::Result<usize>
         ensures bound { WritesAtMost result buf.now }
-        ensures bytes { WriteAppends (W.contents self.old.writer) (W.contents self.new.writer) result
-            buf.now }
+        ensures bytes { WriteAppends (W.contents self.old.writer) (W.contents self.new.writer)
+            result buf.now }
         ensures closed { self.new.is_closed ≡ (self.old.is_closed || is_for_closing result) }
     {
         let taken = self.writer.write(buf);

@@ -10,7 +10,7 @@ use crate::files::{UNREADABLE, read_file};
 use crate::standard_error::Messages;
 use explain::showing::Shown;
 use report::fault::RunFault;
-use std::alloc::{AllocError, Global};
+use std::alloc::AllocError;
 use std::fs::{self, File};
 use std::io::Write;
 use std::rt::Files;
