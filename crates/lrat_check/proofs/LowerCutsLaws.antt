@@ -1,8 +1,8 @@
 -- What certificates of forms and cuts show by themselves.
-use Rattle.std.proofs.Common.{◌≡◌, ℕ, ◌≤◌, Bool, true, false, List, [], ◌∷◌, ◌++◌, Option, Some}
+use Rattle.std.proofs.Common.{◌≡◌, ℕ, List, [], ◌∷◌, ◌++◌, Option, Some}
 use Rattle.std.proofs.Common.{None, refl, sym, ◌∙◌, ap, arith, append-nil, append_assoc, subst}
 use Rattle.std.proofs.Common.{inl, inr}
-use Rattle.std.specs.Prelude.{IfSome, Result, Ok, Err, nat_le}
+use Rattle.std.specs.Prelude.{IfSome, nat_le}
 use Rattle.std.specs.Io.KnownBytes.{Consumes, IsAtEnd}
 use Rattle.std.proofs.lemmas.Bool.{cases_Bool, leb-true}
 use Rattle.cnf.specs.Instance.{IsInstance}
@@ -11,7 +11,6 @@ use Rattle.cnf.specs.declared.limits.TheConstants.{NUMBER_LIMIT}
 use Rattle.text.specs.Pieces.{IsEnded}
 use Rattle.wcnf.specs.Wcnf.{Reads}
 use Rattle.wcnf.proofs.Laws.{reading_is_right, reads_one}
-use Rattle.wcnf.specs.Reading.{reading_of}
 use Rattle.lrat_machine.specs.declared.verdicts.Cause.{Cause}
 use Rattle.lrat_cuts.proofs.Laws.{lower_least}
 use Rattle.lrat_cuts.specs.Pieces.{CheckerState, HasJudged}
@@ -24,7 +23,6 @@ use Rattle.lrat_check.specs.Checks.{CostsAtLeast}
 use Rattle.lrat_check.specs.Lower.{IsTrueLower}
 use Rattle.lrat_check.specs.LowerCuts.{IsLowerByCuts, lower_by_cuts, shown_by_cuts}
 use Rattle.lrat_check.specs.declared.lower.LowerVerdict.{LowerVerdict}
-use Rattle.lrat_check.specs.declared.lower.LowerVerdict.TheVariants.{AtLeast, NoSolution}
 use Rattle.lrat_check.specs.declared.lower.LowerVerdict.TheVariants.{No as NotShown}
 use Rattle.lrat_check.proofs.CutsLaws.{none_by}
 use Rattle.lrat_check.proofs.LeftLaws.{if_some_more}
