@@ -1,28 +1,21 @@
 -- Results with certificates of forms and cuts: the verdict, and what a yes shows.
-use Rattle.std.proofs.Common.{◌≡◌, ℕ, ◌<◌, ◌≤◌, Bool, true, false, List, [], ◌++◌, Option, Some}
+use Rattle.std.proofs.Common.{◌≡◌, ℕ, List, [], ◌++◌, Option, Some}
 use Rattle.std.proofs.Common.{None, refl, sym, ◌∙◌, ap, arith, append-nil, append_assoc, subst}
-use Rattle.std.proofs.Common.{inl, inr}
-use Rattle.std.specs.Prelude.{IfSome, Result, Ok, Err, sum_by, if◌then◌else◌}
+use Rattle.std.specs.Prelude.{IfSome, Ok, Err}
 use Rattle.std.specs.Io.KnownBytes.{Consumes, IsAtEnd}
-use Rattle.std.proofs.lemmas.Bool.{cases_Bool}
-use Rattle.std.proofs.lemmas.List.Sums.{sum_by-le-sum_by}
-use Rattle.cnf.specs.Clause.{clause_value}
 use Rattle.cnf.specs.Instance.{IsInstance}
 use Rattle.bound.proofs.Laws.{solution_small}
-use Rattle.cnf.specs.Problem.{Problem, IsInconsistent, cost_of, cost_under}
+use Rattle.cnf.specs.Problem.{Problem, IsInconsistent}
 use Rattle.cnf.specs.declared.limits.TheConstants.{NUMBER_LIMIT}
-use Rattle.text.specs.Text.{token_lines}
 use Rattle.wcnf.specs.Wcnf.{Reads}
 use Rattle.wcnf.proofs.Laws.{reading_is_right}
 use Rattle.lrat_result.specs.Result.{Report, report_of}
 use Rattle.lrat_machine.specs.declared.verdicts.Cause.{Cause}
 use Rattle.lrat_machine.specs.declared.verdicts.Cause.TheVariants.{ResultForm}
 use Rattle.lrat_machine.specs.declared.verdicts.Verdict.{Verdict}
-use Rattle.lrat_machine.specs.declared.verdicts.Verdict.TheVariants.{Yes, No}
-use Rattle.lrat_cuts.specs.Cuts.{CutsState}
-use Rattle.lrat_cuts.specs.Law.{CutsAreSound, CutsProveTheCost}
+use Rattle.lrat_machine.specs.declared.verdicts.Verdict.TheVariants.{No}
 use Rattle.lrat_cuts.specs.Pieces.{CheckerState, HasJudged}
-use Rattle.lrat_cuts.specs.Verdict.{cuts_verdict, judged_text, verdict_of}
+use Rattle.lrat_cuts.specs.Verdict.{cuts_verdict, verdict_of}
 use Rattle.lrat_check.specs.Checks.{CostsAtLeast}
 use Rattle.lrat_check.specs.Cuts.{ShowsByCuts, said_cuts_verdict}
 use Rattle.lrat_check.specs.Cuts.{verdict_by_cuts}

@@ -12,3 +12,4 @@ pub mod LeftLaws
 pub mod Stops
 pub mod LowerLaws
 pub mod CutsLaws
+pub mod LowerCutsLaws

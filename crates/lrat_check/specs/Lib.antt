@@ -10,3 +10,4 @@ pub mod Left
 pub mod Stopping
 pub mod Lower
 pub mod Cuts
+pub mod LowerCuts

@@ -42,13 +42,17 @@ lower_at p (Behind some s first n lines) =
     if_yes (shown some s) (verdict_on (start_of (own_formula p some s).clauses) false n lines)
 lower_at p (Faulty cause line) = NotShown cause line
 
--- the verdict on a text with a certificate
-abbrev pub lower_verdict : List ℕ → List ℕ → LowerVerdict
-lower_verdict text proof = read (reading_of text)
+-- the verdict on a text, from that on its instance
+abbrev pub lower_read : List ℕ → (Problem → LowerVerdict) → LowerVerdict
+lower_read text shows = read (reading_of text)
   where
     read : Result Problem (FaultKind × ℕ) → LowerVerdict
     read (Err e) = NotShown Text e.1
-    read (Ok p) = lower_at p (end_of_head p proof)
+    read (Ok p) = shows p
+
+-- the verdict on a text with a certificate
+abbrev pub lower_verdict : List ℕ → List ℕ → LowerVerdict
+lower_verdict text proof = lower_read text (λ p. lower_at p (end_of_head p proof))
 
 -- core lines that are worth just this together, and lines that refute the formula with them. Such a
 -- certificate is one that profile 5 takes for an optimum of this cost

@@ -12,6 +12,7 @@ mod headed;
 mod heads;
 mod lines;
 pub mod lower;
+pub mod lower_cuts;
 pub mod pieces;
 mod streams;
 pub mod verdicts;
