@@ -73,13 +73,6 @@ impl CostBound {
         })
     }
 
-    /// The variables are below this.
-    pub fn width(&self) -> usize
-        ensures { result ≡ width_of self.now.form }
-    {
-        self.terms.len()
-    }
-
     /// How many times the cost is taken.
     pub fn scale(&self) -> u64
         ensures scale { result ≡ self.now.form.scale }

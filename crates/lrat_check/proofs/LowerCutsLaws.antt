@@ -12,7 +12,7 @@ use Rattle.text.specs.Pieces.{IsEnded}
 use Rattle.wcnf.specs.Wcnf.{Reads}
 use Rattle.wcnf.proofs.Laws.{reading_is_right, reads_one}
 use Rattle.lrat_machine.specs.declared.verdicts.Cause.{Cause}
-use Rattle.lrat_cuts.proofs.Laws.{lower_least}
+use Rattle.lrat_cuts.proofs.Laws.{ended_part-more, lower_least}
 use Rattle.lrat_cuts.specs.Pieces.{CheckerState, HasJudged}
 use Rattle.lrat_cuts.specs.Verdict.{cuts_lower, ended_part, ended_with, judged_text}
 use Rattle.lrat_cuts.specs.Verdict.{lower_of}
@@ -27,31 +27,6 @@ use Rattle.lrat_check.specs.declared.lower.LowerVerdict.TheVariants.{No as NotSh
 use Rattle.lrat_check.proofs.CutsLaws.{none_by}
 use Rattle.lrat_check.proofs.LeftLaws.{if_some_more}
 use Rattle.lrat_check.proofs.PieceLaws.{over_all, over_ended}
-
--- where a line feed stands, all before it is ended
-ended_feed : (bs : List ℕ) → ended_part (10 ∷ bs) ≡ 10 ∷ ended_part bs
-ended_feed bs =
-    elim (ended_part bs) as (λ e. ended_with 10 e ≡ 10 ∷ e) [
-      | [] ↦ refl
-      | ◌∷◌ c cs ↦ refl
-    ]
-
-ended_front : (front bs : List ℕ)
-    → ended_part (front ++ 10 ∷ bs) ≡ front ++ 10 ∷ ended_part bs
-ended_front [] bs = ended_feed bs
-ended_front (f ∷ []) bs = ap (ended_with f) (ended_feed bs)
-ended_front (f ∷ g ∷ front) bs = ap (ended_with f) (ended_front (g ∷ front) bs)
-
-ended_part-more : (done bs : List ℕ) → IsEnded done
-    → ended_part (done ++ bs) ≡ done ++ ended_part bs
-ended_part-more done bs (inl e) =
-    ap (λ x. ended_part (x ++ bs)) e ∙ ap (λ x. x ++ ended_part bs) (sym e)
-ended_part-more done bs (inr e) =
-    ap (λ x. ended_part (x ++ bs)) e.1
-    ∙ ap ended_part (append_assoc e.0 (10 ∷ []) bs)
-    ∙ ended_front e.0 bs
-    ∙ sym (append_assoc e.0 (10 ∷ []) (ended_part bs))
-    ∙ ap (λ x. x ++ ended_part bs) (sym e.1)
 
 -- the verdict on all bytes of the reader, where it was found over those that were read
 module _ (c : CheckerState) (p : Problem) (fed : List ℕ) (o n : Option (List ℕ))

@@ -161,8 +161,3 @@ module _ (p : Problem) (i : IsInstance p) (k v : ℕ) (f : CostForm) (ns : List 
   count_true t c =
       totalizer_true t outputs (v + 1) inputs
       (all_right (Means t) ns (Count inputs made.tree 0 ∷ []) (c.meant).counts).0
-
-pub last_push : (c : List Literal) (l : Literal) → last_of (c ++ l ∷ []) ≡ l ∷ []
-last_push [] l = refl
-last_push (m ∷ []) l = refl
-last_push (m ∷ n ∷ c) l = last_push (n ∷ c) l

@@ -25,7 +25,8 @@ use Rattle.linear.proofs.Laws.{widened_wide, widened_width}
 use Rattle.forms.specs.Forms.{Numbered, Count, last_of, plus}
 use Rattle.lrat_cuts.proofs.LawMeaning.{FormHolds, IsCheap, IsCountBelow, IsItemBelow, IsLow}
 use Rattle.lrat_cuts.proofs.LawMeaning.{IsMeant, Means, slack}
-use Rattle.lrat_cuts.proofs.LawCounts.{choice_kept, item_more, last_push}
+use Rattle.forms.proofs.Laws.{last_push}
+use Rattle.lrat_cuts.proofs.LawCounts.{choice_kept, item_more}
 use Rattle.lrat_cuts.proofs.LawCounts.{meant_kept, same_count}
 
 -- what holds of each element of a list in which one is changed

@@ -1,4 +1,5 @@
 -- The laws of this crate that other crates cite, from one place.
+pub use Rattle.lrat_cuts.proofs.EndedParts.{ended_part-more}
 pub use Rattle.lrat_cuts.proofs.LawSound.{cuts_sound}
 pub use Rattle.lrat_cuts.proofs.LawVerdicts.{accepted_least, accepted_none, lower_least}
 pub use Rattle.lrat_cuts.proofs.LawWorth.{cuts_prove}

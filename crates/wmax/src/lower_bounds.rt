@@ -3,11 +3,14 @@ ghost use Rattle.std.specs.Prelude.{IfOk};
 ghost use Rattle.lrat_check.specs.Lower.{IsTrueLower};
 
 use crate::arguments::LowerRequest;
+use crate::checking::{CertificateFault, later_of};
 use crate::faults::{Fault, end_output, open, read_whole, tell_packed};
 use lrat_check::lower::{LowerVerdict, check_lower_from};
+use lrat_check::lower_cuts::lower_cuts_from;
 use lrat_check::verdicts::{Cause, CheckFault};
 use report::fault::RunFault;
 use report::printing::{deliver, lower_code, print_lower};
+use std::fs;
 use std::io::{Read, Write};
 use std::rt::Files;
 use wmax_onlooker::files::UNREADABLE;
@@ -15,7 +18,8 @@ use wmax_onlooker::standard_error::Messages;
 use wmax_onlooker::standard_output::standard_output;
 
 /// Both files are opened before one is read. The certificate is judged while it is read, so none of
-/// it is kept but the clauses that are live.
+/// it is kept but the clauses that are live. Where it is refused as one with cores, it is read again
+/// as one of forms and cuts.
 pub fn lower<'a, R: Files + AllocGlobal + Print, E: Write>(
     rt: &R,
     messages: &mut Messages<'_, E>,
@@ -24,9 +28,45 @@ pub fn lower<'a, R: Files + AllocGlobal + Print, E: Write>(
     let mut text = open(rt, request.text)?;
     let mut proof = open(rt, request.proof)?;
     let text = read_whole(rt, &mut text, request.text)?;
-    match verdict_of(rt, &text, &mut proof) {
-        Ok(verdict) => show_lower(rt, messages, &text, &verdict),
-        Err(fault) => Err(Fault::of_file(fault, request.proof)),
+    let refused = match verdict_of(rt, &text, &mut proof) {
+        Ok(LowerVerdict::No(cause, line)) => CertificateFault { cause, line },
+        Ok(verdict) => return show_lower(rt, messages, &text, &verdict),
+        Err(fault) => return Err(Fault::of_file(fault, request.proof)),
+    };
+    let verdict = judge_again(rt, &text, refused, request.proof)?;
+    show_lower(rt, messages, &text, &verdict)
+}
+
+/// The verdict on a certificate of forms and cuts, where one with cores was refused for this. It is
+/// read anew, so the fault stands where that cannot be; of two faults the one further down is told.
+fn judge_again<'a, R: Files + AllocGlobal>(
+    rt: &R,
+    text: &[u8],
+    refused: CertificateFault,
+    path: &'a str,
+) -> Result<LowerVerdict, Fault<'a>>
+    ensures sound { IfOk result (λ v. IsTrueLower text.now v) }
+{
+    if !is_regular(rt, path) {
+        return Ok(LowerVerdict::No(refused.cause, refused.line));
+    }
+    let mut proof = open(rt, path)?;
+    match lower_cuts_from(rt.alloc(), text, &mut proof) {
+        Ok(LowerVerdict::No(cause, line)) => {
+            let last = later_of(Some(refused), CertificateFault { cause, line });
+            Ok(LowerVerdict::No(last.cause, last.line))
+        }
+        Ok(verdict) => Ok(verdict),
+        Err(CheckFault::Memory) => Err(Fault::Run(RunFault::Memory)),
+        Err(CheckFault::Read) => Err(Fault::Unreadable(path)),
+    }
+}
+
+/// Whether the file can be read more than once.
+fn is_regular<R: Files>(rt: &R, path: &str) -> bool {
+    match fs::metadata(rt, path) {
+        Ok(data) => data.is_file(),
+        Err(_) => false,
     }
 }
 
