@@ -1,9 +1,8 @@
 -- What a line feed ends of a text.
 use Rattle.std.proofs.Common.{◌≡◌, ℕ, Bool, false, List, [], ◌∷◌, ◌++◌, refl, sym, ◌∙◌, ap}
-use Rattle.std.proofs.Common.{subst, take, inl, inr, append_assoc, append-nil, if◌then◌else◌}
+use Rattle.std.proofs.Common.{subst, inl, inr, append_assoc, append-nil, if◌then◌else◌}
 use Rattle.std.specs.Prelude.{◌==◌, ◌≤◌, length, Option, None, Some, Ok, Err, IsOk}
 use Rattle.std.proofs.lemmas.List.Elements.{All-head, All-tail}
-use Rattle.std.specs.Io.KnownBytes.{Consumes}
 use Rattle.cnf.specs.Problem.{Problem}
 use Rattle.text.specs.declared.watched.TheConstants.{READ_SIZE}
 use Rattle.text.specs.Text.{IsNoFeed}

@@ -1,5 +1,5 @@
 -- A certificate in pieces: what holds after a line more, after a piece, and at the end.
-use Rattle.std.proofs.Common.{◌≡◌, ℕ, ◌<◌, Bool, true, false, List, [], ◌∷◌, ◌++◌, map, Option}
+use Rattle.std.proofs.Common.{◌≡◌, ℕ, ◌<◌, Bool, true, false, List, [], ◌∷◌, ◌++◌, Option}
 use Rattle.std.proofs.Common.{Some, None, refl, sym, ◌∙◌, ap, subst, length, append_assoc}
 use Rattle.std.specs.Prelude.{◌==◌, not, is_some, IfSome, Ok, Err}
 use Rattle.std.specs.Str.Lines.{strip_carriage_return}

@@ -1,6 +1,6 @@
 -- Certificates of forms and cuts: LRAT whose additions are RUP alone, with lines that bring linear
 -- lower bounds of the cost and the clauses that follow from them. The first fault decides.
-use Rattle.std.specs.Prelude.{ℕ, zero, suc, ◌+◌, min, max, Bool, true, false, List, []}
+use Rattle.std.specs.Prelude.{ℕ, zero, suc, ◌+◌, min, max, Bool, false, List, []}
 use Rattle.std.specs.Prelude.{◌∷◌, ◌++◌, map, Option, Some, None, Result, Ok, Err}
 use Rattle.std.specs.Prelude.{nat_le, if◌then◌else◌}
 use Rattle.cnf.specs.Literal.{Literal}
