@@ -26,10 +26,6 @@ use Rattle.lrat_result.specs.declared.report.Cost.{Cost}
 
 -- a text and a result
 module _ (text answer proof : List ℕ) (p : Problem) (reads : Reads text p) where
-  pub form_by_cuts : (line : ℕ) → report_of answer ≡ Err line
-      → No ResultForm line ≡ verdict_by_cuts text answer proof
-  form_by_cuts line e = let u = (reading_is_right text p).0 reads in rw (u, e) refl
-
   pub said_by_cuts : (r : Report) → report_of answer ≡ Ok r
       → said_cuts_verdict p r proof ≡ verdict_by_cuts text answer proof
   said_by_cuts r e = let u = (reading_is_right text p).0 reads in rw (u, e) refl
