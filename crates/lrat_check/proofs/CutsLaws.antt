@@ -1,7 +1,7 @@
 -- Results with certificates of forms and cuts: the verdict, and what a yes shows.
 use Rattle.std.proofs.Common.{◌≡◌, ℕ, List, [], ◌++◌, Option, Some}
 use Rattle.std.proofs.Common.{None, refl, sym, ◌∙◌, ap, arith, append-nil, append_assoc, subst}
-use Rattle.std.specs.Prelude.{IfSome, Ok, Err}
+use Rattle.std.specs.Prelude.{IfSome, Ok}
 use Rattle.std.specs.Io.KnownBytes.{Consumes, IsAtEnd}
 use Rattle.cnf.specs.Instance.{IsInstance}
 use Rattle.bound.proofs.Laws.{solution_small}
@@ -11,7 +11,6 @@ use Rattle.wcnf.specs.Wcnf.{Reads}
 use Rattle.wcnf.proofs.Laws.{reading_is_right}
 use Rattle.lrat_result.specs.Result.{Report, report_of}
 use Rattle.lrat_machine.specs.declared.verdicts.Cause.{Cause}
-use Rattle.lrat_machine.specs.declared.verdicts.Cause.TheVariants.{ResultForm}
 use Rattle.lrat_machine.specs.declared.verdicts.Verdict.{Verdict}
 use Rattle.lrat_machine.specs.declared.verdicts.Verdict.TheVariants.{No}
 use Rattle.lrat_cuts.specs.Pieces.{CheckerState, HasJudged}
@@ -26,10 +25,6 @@ use Rattle.lrat_result.specs.declared.report.Cost.{Cost}
 
 -- a text and a result
 module _ (text answer proof : List ℕ) (p : Problem) (reads : Reads text p) where
-  pub form_by_cuts : (line : ℕ) → report_of answer ≡ Err line
-      → No ResultForm line ≡ verdict_by_cuts text answer proof
-  form_by_cuts line e = let u = (reading_is_right text p).0 reads in rw (u, e) refl
-
   pub said_by_cuts : (r : Report) → report_of answer ≡ Ok r
       → said_cuts_verdict p r proof ≡ verdict_by_cuts text answer proof
   said_by_cuts r e = let u = (reading_is_right text p).0 reads in rw (u, e) refl

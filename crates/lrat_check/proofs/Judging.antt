@@ -20,8 +20,8 @@ use Rattle.lrat_result.specs.Result.{Report, OptimumFound, report_of}
 use Rattle.lrat_result.specs.Report.{reported}
 use Rattle.lrat_check.specs.Checks.{CostsAtLeast, HasCost, IsTrueOf, IsTrueResult, takes_cores}
 use Rattle.lrat_check.specs.Verdict.{bound_verdict, headed_verdict, proof_verdict, said_verdict}
-use Rattle.lrat_check.specs.Verdict.{bits_fault, verdict_as}
-use Rattle.lrat_check.proofs.Checked.{optimum_goes, no_report, on_report}
+use Rattle.lrat_check.specs.Verdict.{bits_fault, verdict_as, verdict_read}
+use Rattle.lrat_check.proofs.Checked.{optimum_goes, on_report}
 use Rattle.lrat_check.proofs.TrueResults.{optimal_by, optimal_least, inconsistent_by, true_by}
 
 module _ (profile : Profile) (p : Problem) (a : ReadReport) (proof : List ℕ) where
@@ -94,12 +94,13 @@ module _ (profile : Profile) (p : Problem) (a : ReadReport) (proof : List ℕ) w
       (λ v w yes. rw e (inconsistent_by p same
       (subst (λ g. IsUnsatisfiable g.clauses) is (w yes)))) h
 
-module _ (profile : Profile) (text answer proof : List ℕ) (p : Problem) (reads : Reads text p) where
-  pub form_verdict : (line : ℕ) → report_of answer ≡ Err line
-      → No ResultForm line ≡ verdict_as profile text answer proof
-  form_verdict line e =
-      sym (no_report profile text answer proof p line ((reading_is_right text p).0 reads) e)
+pub form_verdict : (text answer : List ℕ) (p : Problem) → Reads text p → (line : ℕ)
+    → report_of answer ≡ Err line → (said : Problem → Report → Verdict)
+    → No ResultForm line ≡ verdict_read text answer said
+form_verdict text answer p reads line e said =
+    let u = (reading_is_right text p).0 reads in rw (u, e) refl
 
+module _ (profile : Profile) (text answer proof : List ℕ) (p : Problem) (reads : Reads text p) where
   pub reported_verdict : (a : ReadReport) → report_of answer ≡ Ok (reported a)
       → {E : Type 0} (result : Result Verdict E)
       → IfOk result (λ v. v ≡ said_verdict profile p (reported a) proof)

@@ -6,7 +6,7 @@ ghost use Rattle.lrat_result.specs.Result.{Report as Reported};
 ghost use Rattle.lrat_result.specs.Report.{reported};
 ghost use Rattle.lrat_check.specs.Checks.{ChecksAs, IsTrueResult, IsTrueOf, HasCost, takes_cores};
 ghost use Rattle.lrat_check.specs.Verdict.{verdict_as, said_verdict, bits_fault};
-ghost use Rattle.lrat_check.specs.Left.{verdict_left, Shows};
+ghost use Rattle.lrat_check.specs.Left.{AreRead, verdict_left, Shows};
 ghost use Rattle.lrat_check.specs.Stopping.{StopsInTime};
 
 use crate::headed::check_headed_stream;
@@ -21,6 +21,15 @@ use std::alloc::{AllocError, Global};
 use std::io::Read;
 use wcnf::faults::FaultKind;
 use wcnf::reading::read;
+
+// The texts but the proof.
+#[derive(Drop)]
+pub(crate) enum Texts {
+    // The first fault, whatever the proof is.
+    Refused(Verdict),
+    // What they read as.
+    Read(Instance, Report),
+}
 
 // What is left to check once the texts but the proof were read.
 #[derive(Drop)]
@@ -138,7 +147,7 @@ pub fn check_from_as<R: Read>(
         (R.remaining proof.old) (R.remaining proof.new)) }
     ensures sound { IfOk result (λ v. v ≡ Verdict.Yes → IsTrueResult text.now answer.now) }
 {
-    let left = read_texts(alloc, text, answer, profile)?;
+    let left = read_left(alloc, text, answer, profile)?;
     match left {
         Left::Nothing(verdict) => Ok(verdict),
         Left::Proof(formula) => check_stream(formula, proof),
@@ -147,7 +156,7 @@ pub fn check_from_as<R: Read>(
 }
 
 // What is left to check of the texts, before a byte of the proof is read.
-fn read_texts(
+fn read_left(
     alloc: Global,
     text: &[u8],
     answer: &[u8],
@@ -157,14 +166,25 @@ fn read_texts(
         → verdict_left left proof ≡ verdict_as profile text.now answer.now proof) }
     ensures sound { IfOk result (λ left. Shows left (IsTrueResult text.now answer.now)) }
 {
+    let texts = read_texts(alloc, text, answer)?;
+    match texts {
+        Texts::Refused(verdict) => Ok(Left::Nothing(verdict)),
+        Texts::Read(instance, report) => read_claim(instance, &report, profile),
+    }
+}
+
+// The texts as they read, or the first fault of theirs.
+pub(crate) fn read_texts(alloc: Global, text: &[u8], answer: &[u8]) -> Result<Texts, AllocError>
+    ensures { IfOk result (λ texts. AreRead text.now answer.now texts) }
+{
     let instance = match read(alloc, text) {
         Ok(instance) => instance,
         Err(fault) if fault.kind == FaultKind::Memory => return Err(AllocError),
-        Err(fault) => return Ok(Left::Nothing(Verdict::No(Cause::Text, fault.line))),
+        Err(fault) => return Ok(Texts::Refused(Verdict::No(Cause::Text, fault.line))),
     };
     match read_report(alloc, answer) {
-        Ok(report) => read_claim(instance, &report, profile),
-        Err(ReportFault::Form(line)) => Ok(Left::Nothing(Verdict::No(Cause::ResultForm, line))),
+        Ok(report) => Ok(Texts::Read(instance, report)),
+        Err(ReportFault::Form(line)) => Ok(Texts::Refused(Verdict::No(Cause::ResultForm, line))),
         Err(ReportFault::Memory) => Err(AllocError),
     }
 }

@@ -9,18 +9,15 @@ ghost use Rattle.lrat_check.specs.Checks.{CostsAtLeast, IsTrueOf, IsTrueResult};
 ghost use Rattle.lrat_check.specs.Cuts.{IsJudgedByCuts, ShowsByCuts, cuts_verdict_left};
 ghost use Rattle.lrat_check.specs.Cuts.{said_cuts_verdict, verdict_by_cuts};
 
-use crate::checking::{refuse_status, solution_fault};
-use crate::verdicts::{Cause, CheckFault, Verdict};
+use crate::checking::{Texts, read_texts, refuse_status, solution_fault};
+use crate::verdicts::{CheckFault, Verdict};
 use cnf::limits::NUMBER_LIMIT;
 use cnf::types::Instance;
 use lrat_cuts::pieces::CutsChecker;
 use lrat_cuts::streams::judge;
-use lrat_result::report::{Cost, Report, ReportFault, Said};
-use lrat_result::result::read_report;
+use lrat_result::report::{Cost, Report, Said};
 use std::alloc::{AllocError, Global};
 use std::io::Read;
-use wcnf::faults::FaultKind;
-use wcnf::reading::read;
 
 // What is left to check once the texts but the proof were read.
 #[derive(Drop)]
@@ -53,7 +50,7 @@ pub fn check_cuts_from<R: Read>(
         (λ bytes. v ≡ verdict_by_cuts text.now answer.now bytes)) }
     ensures sound { IfOk result (λ v. v ≡ Verdict.Yes → IsTrueResult text.now answer.now) }
 {
-    let left = read_texts(alloc, text, answer)?;
+    let left = read_left(alloc, text, answer)?;
     match left {
         CutsLeft::Nothing(verdict) => Ok(verdict),
         CutsLeft::Bound(instance, cost) => check_stream(&instance, cost.cost, proof),
@@ -62,22 +59,15 @@ pub fn check_cuts_from<R: Read>(
 }
 
 // What is left to check of the texts, before a byte of the proof is read.
-fn read_texts(alloc: Global, text: &[u8], answer: &[u8]) -> Result<CutsLeft, AllocError>
+fn read_left(alloc: Global, text: &[u8], answer: &[u8]) -> Result<CutsLeft, AllocError>
     ensures verdict { IfOk result (λ left. (proof : List ℕ)
         → cuts_verdict_left left proof ≡ verdict_by_cuts text.now answer.now proof) }
     ensures sound { IfOk result (λ left. ShowsByCuts left (IsTrueResult text.now answer.now)) }
 {
-    let instance = match read(alloc, text) {
-        Ok(instance) => instance,
-        Err(fault) if fault.kind == FaultKind::Memory => return Err(AllocError),
-        Err(fault) => return Ok(CutsLeft::Nothing(Verdict::No(Cause::Text, fault.line))),
-    };
-    match read_report(alloc, answer) {
-        Ok(report) => Ok(read_claim(instance, &report)),
-        Err(ReportFault::Form(line)) => {
-            Ok(CutsLeft::Nothing(Verdict::No(Cause::ResultForm, line)))
-        }
-        Err(ReportFault::Memory) => Err(AllocError),
+    let texts = read_texts(alloc, text, answer)?;
+    match texts {
+        Texts::Refused(verdict) => Ok(CutsLeft::Nothing(verdict)),
+        Texts::Read(instance, report) => Ok(read_claim(instance, &report)),
     }
 }
 
