@@ -391,4 +391,114 @@ with lower tea.wcnf tea.lrat
 said=$out
 call lower tea.wcnf tea.lrat
 expect 'lower does not look at the profile' "$status" "$said" ''
+
+# Certificates that are made to be slow or to overflow: each gets its verdict. `many` has 2^16 soft units, one of which is false.
+python3 - "$work" << 'PY'
+import sys
+work = sys.argv[1]
+size = 2 ** 16
+large = 2 ** 62 - 1
+
+
+def write(name, *rows):
+    with open(f"{work}/{name}", "w") as file:
+        for row in rows:
+            print(*row, file=file)
+
+
+def at_least_one(variables, first):
+    """The hints by which the first output of a count is true: its clauses from the root down, by the ids of their nodes."""
+    made, inner = 0, []
+
+    def tree(lowest, count):
+        nonlocal made
+        if count == 1:
+            return
+        tree(lowest, count // 2)
+        tree(lowest + count // 2, count - count // 2)
+        inner.append(first + made)
+        made += 2
+
+    tree(1, variables)
+    return [number for node in reversed(inner) for number in (node, node + 1)]
+
+
+inputs = list(range(1, size + 1))
+write("many.wcnf", ["h", *inputs, 0], *([1, -it, 0] for it in inputs))
+write("many.result", ["o 1"], ["s OPTIMUM FOUND"], ["v", "1" + "0" * (size - 1)])
+hints = at_least_one(size, 2)
+root, last = 2 * size - 1, 2 * size - 1
+count = ["count", 1, *inputs, 0]
+end = [["form 1 1 -1 0"], ["cut 0"]]
+write("count", count, [last + 1, root, 0, *hints, 1, 0], *end)
+write("count.open", count, *end)
+write("count.hint", count, [last + 1, root, 0, *hints[:-1], 1, 0], *end)
+write("count.large", ["count", size, *inputs, 0])
+write("count.all", ["count", large, *inputs, 0])
+write("count.twice", ["count", 1, *inputs, -size, 0])
+write("more", count, *[["more 1 0"]] * 100)
+write("terms", ["form", 1, *[1, 1] * (size + 1), 0])
+write("bounds", ["form 1 1 1 0"], *[["bound 1 0"]] * 200, ["cut 0"])
+
+few = list(range(1, 2 ** 10 + 1))
+write("few.wcnf", ["h", *few, 0], *([1, -it, 0] for it in few))
+write("few.result", ["o 1"], ["s OPTIMUM FOUND"], ["v", "1" + "0" * 1023])
+write("forms", *[["form 1 1 1 0"], ["bound 1 0"]] * 10 ** 4, ["cut 0"])
+write("forms.worth", *[["form 1 1 1 0"], ["bound 1 0"]] * 10 ** 4, ["form 1 2 1 0"], ["cut 0"])
+write("further", ["form 1 0"], *[["form + 1 1 0"]] * 10 ** 4, ["cut 0"])
+cuts = [["cut", 1 + at % 1024, -1 - (at + 1) % 1024, 0] for at in range(10 ** 5)]
+write("cuts", ["form 1 1 1 0"], *cuts, ["cut 0"])
+write("cuts.worth", ["form 1 1 1 0"], *cuts, ["form 2 2 1 0"], *cuts, ["form 1 2 1 0"], ["cut 0"])
+write("wide", ["form 1 1 1 0"], *[["cut", *few, 0]] * 1000, ["cut 0"])
+write("deleted", ["form 1 1 1 0"], *cuts, [10 ** 6, "d", *range(1, 10 ** 5 + 2), 0], ["cut 0"])
+write("facts", ["form", large, *[large, 1] * 1000, 0], ["cut 0"])
+
+members = list(range(1, 301))
+pairs = [(other, it) for it in members for other in range(1, it)]
+write("clique.wcnf", *(["h", -other, -it, 0] for other, it in pairs), *([1, it, 0] for it in members))
+write("clique.result", ["o 299"], ["s OPTIMUM FOUND"], ["v", "1" + "0" * 299])
+ids = list(range(1, len(pairs) + 1))
+end = [["form 1 1 -1 0"], ["cut 0"]]
+write("group", ["group", *members, 0, *ids, 0], *end)
+write("group.order", ["group", *members, 0, *ids[:-2], ids[-1], ids[-2], 0], *end)
+write("group.short", ["group", *members, 0, *ids[:-1], 0], *end)
+write("groups", *[["group", *members, 0, *ids, 0]] * 20, *end)
+
+# 2^64 + 3 times the clause, and 3 times if what is above 64 bits were lost
+write("wrap", ["form", 1, *[large, 1] * 4, 7, 1, 0], ["cut 0"])
+write("scale", ["form", large, *[large, 1] * 3, 0], ["bound 3 0"], ["cut 0"])
+write("scale.worth", ["form", large, *[large, 1] * 3, 0], ["bound 4 0"], ["cut 0"])
+write("long", ["cut", *range(1, 10 ** 6)])
+write("blank", *[[]] * 3 * 10 ** 6, ["cut 0"])
+PY
+while read -r instance proof wanted; do
+    judge "$proof" "$wanted" "$instance" "$proof"
+done <<'ROWS'
+many count YES
+many count.open NO CutWorth 3
+many count.hint NO NoConflict 2
+many count.large NO LineLimit 1
+many count.all NO LineName 1
+many count.twice NO LineName 1
+many more NO LineLimit 52
+many terms NO LineLimit 1
+many bounds YES
+few forms YES
+few forms.worth NO CutWorth 20002
+few further NO CutWorth 10002
+few cuts YES
+few cuts.worth NO CutWorth 200004
+few wide YES
+few deleted YES
+few facts NO CutWorth 2
+clique group YES
+clique group.order NO LineName 1
+clique group.short NO LineName 1
+clique groups YES
+tea wrap NO CutWorth 2
+tea scale YES
+tea scale.worth NO CutWorth 2
+tea long NO LineForm 1
+tea blank NO LineName 3000001
+ROWS
 totals
