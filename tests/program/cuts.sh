@@ -273,7 +273,8 @@ group|count 1 5 0|NO LineName 1
 group|form 1 0\ncut 5 0|NO LineName 2
 ROWS
 
-# One change in each line and each word of a certificate: LINE|PLACE|NEW|VERDICT, where place 0 is the whole line.
+# One change in each line and each word of a certificate, with the verdict that another reader gave: LINE|PLACE|NEW|VERDICT,
+# where place 0 is the whole line.
 wrong=0
 while IFS='|' read -r line place new wanted; do
     awk -v line="$line" -v place="$place" -v new="$new" 'NR == line { $place = new } { print }' "$work/package_choice_60_1.lrat" > "$work/proof"
@@ -283,7 +284,7 @@ while IFS='|' read -r line place new wanted; do
     echo "line $line, place $place, [$new]: wanted $wanted, got $out $err"
 done < "$work/package_choice_60_1.spoiled"
 ok 'one change in each line and each word' [ $wrong = 0 ]
-# Lines are all that is left of a certificate.
+# Cut off behind each of its lines, and others at each byte.
 wrong=0
 for count in $(seq 0 76); do
     head -n "$count" "$work/package_choice_60_1.lrat" > "$work/proof"
@@ -351,7 +352,6 @@ for line in '2 1 0 1 0' 'formula 1 0' 'cuts 0' 'x'; do
     call check tea.wcnf tea.result proof
     ok "$line: no profile is named" [ "$status$err" = 1 -a "${out%% *}" = NO ]
 done
-cp "$work/tea.lrat" "$work/proof"
 cp "$work/tea.wcnf" "$work/other.wcnf"
 lines other.result 'o 2' 's OPTIMUM FOUND' 'v 10'
 call check other.wcnf other.result tea.lrat
