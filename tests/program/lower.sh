@@ -85,11 +85,12 @@ core 3 1 3 4 0\n7 0 6 4 5 2 3 1 0\ncore 1 1 4 0|NO TrailingLine 3
 core 3 1 3 4 0\n6 0 6 4 5 2 3 1 0|NO IdOrder 2
 core 3 1 3 4 0\n7 0 6 4 5 2 3 0|NO NoConflict 2
 core 3 1 3 4 0\n7 0 6 4 5 2 3 1 1 0|NO HintAfterConflict 2
-\n\n|NO NoEmptyClause 0
-12 0 9 4 10 5 2 3 1 0|NO DeadId 1
+\n\n|at least 0
 ROWS
+lines proof '12 0 9 4 10 5 2 3 1 0'
+told 'an id that is not there' 'NO DeadId 1' "$data/tea.wcnf" proof
 : > "$work/proof"
-told 'an empty certificate' 'NO NoEmptyClause 0' "$data/tea.wcnf" proof
+told 'an empty certificate' 'at least 0' "$data/tea.wcnf" proof
 
 # Without core lines the hard clauses have to be refuted.
 lines text 'h 1 2 0' 'h -1 2 0' 'h 1 -2 0' 'h -1 -2 0' '7 3 0'
@@ -98,7 +99,7 @@ told 'no solution' 'no solution' text proof
 lines proof '' '5 2 0 1 2 0' ' ' '6 0 5 3 4 0' ''
 told 'no solution, lines without a token' 'no solution' text proof
 lines proof '5 2 0 1 2 0'
-told 'it ends too soon' 'NO NoEmptyClause 0' text proof
+told 'it proves nothing yet' 'at least 0' text proof
 lines proof '5 2 0 1 3 0' '6 0 5 3 4 0'
 told 'a hint that does not serve' 'NO HintNotUnit 1' text proof
 lines proof 'core 7 1 4 0' '8 2 0 1 2 0' '9 0 8 3 4 0'

@@ -151,7 +151,10 @@ pub(crate) struct CertificateFault {
 }
 
 /// The fault that stands further down; the first where neither does.
-pub(crate) fn later_of(first: Option<CertificateFault>, second: CertificateFault) -> CertificateFault
+pub(crate) fn later_of(
+    first: Option<CertificateFault>,
+    second: CertificateFault,
+) -> CertificateFault
     ensures { result ≡ later first second }
 {
     match first {

@@ -13,32 +13,37 @@ use report::printing::{deliver, lower_code, print_lower};
 use std::fs;
 use std::io::{Read, Write};
 use std::rt::Files;
+use wmax_onlooker::beginning::Beginning;
 use wmax_onlooker::files::UNREADABLE;
 use wmax_onlooker::standard_error::Messages;
 use wmax_onlooker::standard_output::standard_output;
 
 /// Both files are opened before one is read. The certificate is judged while it is read, so none of
-/// it is kept but the clauses that are live. Where it is refused as one with cores, it is read again
-/// as one of forms and cuts.
+/// it is kept but the clauses that are live. Where it is refused and begins with no core, it is
+/// read again as one of forms and cuts, if it is a regular file.
 pub fn lower<'a, R: Files + AllocGlobal + Print, E: Write>(
     rt: &R,
     messages: &mut Messages<'_, E>,
     request: &LowerRequest<'a>,
 ) -> Result<u8, Fault<'a>> {
     let mut text = open(rt, request.text)?;
-    let mut proof = open(rt, request.proof)?;
+    let mut proof = Beginning::new(open(rt, request.proof)?);
     let text = read_whole(rt, &mut text, request.text)?;
     let refused = match verdict_of(rt, &text, &mut proof) {
         Ok(LowerVerdict::No(cause, line)) => CertificateFault { cause, line },
         Ok(verdict) => return show_lower(rt, messages, &text, &verdict),
         Err(fault) => return Err(Fault::of_file(fault, request.proof)),
     };
-    let verdict = judge_again(rt, &text, refused, request.proof)?;
+    let verdict = if begins_with_core(proof.first()) || !is_regular(rt, request.proof) {
+        LowerVerdict::No(refused.cause, refused.line)
+    } else {
+        judge_again(rt, &text, refused, request.proof)?
+    };
     show_lower(rt, messages, &text, &verdict)
 }
 
-/// The verdict on a certificate of forms and cuts, where one with cores was refused for this. It is
-/// read anew, so the fault stands where that cannot be; of two faults the one further down is told.
+/// The verdict on a certificate of forms and cuts, which is read anew, where one with cores was
+/// refused for this. Of two faults the one further down is told.
 fn judge_again<'a, R: Files + AllocGlobal>(
     rt: &R,
     text: &[u8],
@@ -47,9 +52,6 @@ fn judge_again<'a, R: Files + AllocGlobal>(
 ) -> Result<LowerVerdict, Fault<'a>>
     ensures sound { IfOk result (λ v. IsTrueLower text.now v) }
 {
-    if !is_regular(rt, path) {
-        return Ok(LowerVerdict::No(refused.cause, refused.line));
-    }
     let mut proof = open(rt, path)?;
     match lower_cuts_from(rt.alloc(), text, &mut proof) {
         Ok(LowerVerdict::No(cause, line)) => {
@@ -60,6 +62,11 @@ fn judge_again<'a, R: Files + AllocGlobal>(
         Err(CheckFault::Memory) => Err(Fault::Run(RunFault::Memory)),
         Err(CheckFault::Read) => Err(Fault::Unreadable(path)),
     }
+}
+
+/// Whether the first word of a certificate with these first bytes is that of core lines.
+fn begins_with_core(first: &[u8]) -> bool {
+    first.trim_ascii_start().starts_with(b"core")
 }
 
 /// Whether the file can be read more than once.
