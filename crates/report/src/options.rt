@@ -111,8 +111,10 @@ Prints 'at least L' if PROOF begins with core lines and is correct: no solution
 of FILE costs less than L, which is what the cores are worth together. So the
 certificate of an optimum proved by cores gives that optimum. Prints 'no
 solution' if PROOF has no core lines and refutes the hard clauses, like the
-certificate of an UNSATISFIABLE result. Any other certificate proves nothing
-without its RESULT: then NO, the first fault and its line are printed.
+certificate of an UNSATISFIABLE result. If it is neither and PROOF is a file
+and no pipe, it is read again as one of profile 3: each beginning of that proves
+a bound, which may be 0. Any other certificate proves nothing without its
+RESULT: then NO, the first fault and its line are printed.
 
 Statuses:
    0  at least L, or no solution
