@@ -74,3 +74,13 @@ pub record EliminationLeaves (frozen : List Bool) (before : List (List Literal))
   pub back : ExtendsBack stack before (live_clauses slots)
   -- if hints refute what was given, the empty clause is left
   pub refuted : IsRefutedByHints before → Contains (live_clauses slots) []
+
+-- what is left of a formula of which nothing is eliminated: this stack, and the clauses of this store
+pub record IsWhole (variables : ℕ) (clauses : List (List Literal)) (slots : Slots)
+    (stack : StackState) : Type 0 where
+  pub together : slots ≡ map Some clauses
+  -- each clause is live under its number, and nothing else is
+  pub live : (base : ℕ) → IsBaseOf (given_of clauses) base
+      → HoldsWhatIsLive slots stack.names base (log_live (given_of clauses) base [])
+  pub variables_are : stack.variables ≡ variables
+  pub none_removed : stack.removed ≡ []

@@ -12,13 +12,14 @@ ghost use Rattle.eliminate.specs.Simplifier.{IsSimplified};
 ghost use Rattle.eliminate.specs.Variables.{IsOpenOver, LeavesLogOver};
 ghost use Rattle.eliminate.specs.Ending.{IsResult};
 ghost use Rattle.eliminate.specs.Elimination.{extended, is_eliminated, EliminationLeaves};
+ghost use Rattle.eliminate.specs.Elimination.{IsWhole};
 
 use crate::ending::define_where_open;
 use crate::rounds::simplify;
 use crate::simplifier::Simplifier;
 use crate::units::propagate_units;
 use clauses::store::Store;
-use eliminate_names::names::move_together;
+use eliminate_names::names::{Names, move_together};
 use eliminate_tables::stack::Removals;
 use lrat_log::packed_name::PackedName;
 use lrat_log::sink::Sink;
@@ -124,6 +125,26 @@ pub fn eliminate<S: Sink>(
         vars,
         removed: simplifier.removals,
         names,
+    })
+}
+
+/// Eliminates nothing: what is left is the formula itself, with room for variables up to this one.
+/// Its clauses are moved together as `eliminate` does it.
+///
+/// # Errors
+///
+/// `AllocError` where memory was refused. Then nothing is known of the store.
+pub fn keep_whole(store: &mut Store, variables: u32) -> Result<Stack, AllocError>
+    ensures { IfOk result (IsWhole variables (live_clauses store.old.slots) store.new.slots) }
+{
+    let alloc = store.allocator();
+    let mut names = Names::of(alloc, store)?;
+    move_together(store, &mut names);
+    let packed = names.into_packed()?;
+    Ok(Stack {
+        vars: variables,
+        removed: Removals::new(alloc),
+        names: packed,
     })
 }
 
