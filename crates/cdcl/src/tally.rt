@@ -35,6 +35,10 @@ impl<S: Sink> Sink for Tally<S> {
         Ok(())
     }
 
+    fn cut(&mut self, _lits: &[Lit]) -> Result<bool, AllocError> {
+        Ok(false)
+    }
+
     fn is_short(&self) {
         self.sink.is_short();
     }

@@ -15,7 +15,8 @@ use Rattle.analyze.specs.Analyzer.{IsFixpoint}
 use Rattle.lrat_log.specs.declared.lines.Name.{Name}
 use Rattle.lrat_log.specs.declared.lines.Name.TheVariants.{Formula, Added}
 use Rattle.lrat_log.specs.Log.{LogLine, Given, id_of, number_in}
-use Rattle.lrat_log.specs.Steps.{StaysLogOver, AddsNoEmptyClause, IsBaseOf, log_live, added_count}
+use Rattle.lrat_log.specs.Steps.{AddsNoEmptyClause, IsBaseOf, log_live, added_count}
+use Rattle.lrat_log.specs.Axioms.{StaysOpenLogOver}
 use Rattle.eliminate.specs.Elimination.{StackState, extended, IsFree}
 
 -- what a solver keeps beside its store and engine
@@ -35,10 +36,11 @@ name_at names r = slice_index_or names r (Formula 0)
 
 -- The log.
 
--- it stays a log over what is given, the empty clause was not added, and its additions are counted
+-- it stays a log over what is given, with clauses from outside, the empty clause was not added, and
+-- its additions are counted
 pub record IsOpenLog (variables : ℕ) (given : Given) (ls : List LogLine)
     (additions : ℕ) : Type 0 where
-  pub stays : StaysLogOver variables given ls
+  pub stays : StaysOpenLogOver variables given ls
   pub unrefuted : AddsNoEmptyClause ls
   pub counted : additions ≡ added_count ls
 

@@ -3,6 +3,8 @@ pub mod Invariant
 pub mod Hinting
 pub mod Running
 pub mod Giving
+pub mod Levelling
+pub mod Axioms
 pub mod Starts
 pub mod Moves
 pub mod Cores

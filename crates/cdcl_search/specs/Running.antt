@@ -12,8 +12,9 @@ use Rattle.lrat_log.specs.declared.lines.Name.{Name}
 use Rattle.lrat_log.specs.declared.lines.Name.TheVariants.{Added}
 use Rattle.lrat_log.specs.declared.log.TheConstants.{LINE_LIMIT}
 use Rattle.lrat_log.specs.Log.{LogLine, Given}
-use Rattle.lrat_log.specs.Steps.{StaysLogOver, AddsNoEmptyClause, IsBaseOf, given_of, learned_count}
+use Rattle.lrat_log.specs.Steps.{AddsNoEmptyClause, IsBaseOf, given_of, learned_count}
 use Rattle.lrat_log.specs.Steps.{IsLearnedOrShort, LearnsNew, nothing_exempt, adds_empty_clause}
+use Rattle.lrat_log.specs.Axioms.{StaysOpenLogOver, TakesNoAxiom, FollowByRup}
 use Rattle.cdcl_search.specs.declared.input.Input.{Input}
 use Rattle.cdcl_search.specs.declared.search.Search.{Search}
 use Rattle.cdcl_search.specs.Invariant.{Tables, Searches, IsRunning, zero_of}
@@ -119,13 +120,16 @@ pub record LogsLine (old new : Search) (before after : List LogLine) (l : LogLin
   pub few : new.additions < LINE_LIMIT
   pub lines : after ≡ before ++ l ∷ []
 
--- what was written between two moments: the lines after `before`, of which so many were learned
+-- what was written between two moments: the lines after `before`, of which so many were learned,
+-- and none came from outside
 pub record Writes (given : Given) (before after : List LogLine) (learned : ℕ) : Type 0 where
   pub more : List LogLine
   pub grows : after ≡ before ++ more
   pub short : All IsLearnedOrShort more
   pub learned_is : learned_count more ≡ learned
   pub new : (base : ℕ) → IsBaseOf given base → LearnsNew nothing_exempt given base before more
+  pub own : TakesNoAxiom more
+  pub follows : (base : ℕ) → IsBaseOf given base → FollowByRup given base before more
 
 -- the empty clause was added
 abbrev pub is_refuted : List LogLine → Bool
@@ -133,10 +137,10 @@ is_refuted ls = list_any adds_empty_clause ls
 
 -- a log to which lines may be added, now and after further clauses are given
 pub record StaysOpen (p : Input) (ls : List LogLine) : Type 0 where
-  pub stays : StaysLogOver (length (p.frozen).items) p.given ls
+  pub stays : StaysOpenLogOver (length (p.frozen).items) p.given ls
   pub unrefuted : AddsNoEmptyClause ls
 
 -- a log that ends in the empty clause
 pub record IsEnded (p : Input) (ls : List LogLine) : Type 0 where
-  pub stays : StaysLogOver (length (p.frozen).items) p.given ls
+  pub stays : StaysOpenLogOver (length (p.frozen).items) p.given ls
   pub refuted : is_refuted ls ≡ true

@@ -3,6 +3,7 @@
 //! clash. Each move keeps the log right. What to do next is up to `cdcl`.
 #![tactic(auto)]
 
+pub mod axioms;
 mod compacting;
 pub mod cores;
 pub mod given;
@@ -10,6 +11,7 @@ pub mod giving;
 mod hints;
 pub mod input;
 pub mod learning;
+mod levelling;
 pub mod noting;
 pub mod reducing;
 pub mod search;

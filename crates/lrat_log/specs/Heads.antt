@@ -9,7 +9,7 @@ use Rattle.lrat_log.specs.declared.heads.TheConstants.{WORD, BLOCK, NEAR_LITS_UN
 use Rattle.lrat_log.specs.declared.heads.TheConstants.{FAR_LITS_UNIT, HINTS_UNIT}
 use Rattle.lrat_log.specs.declared.lines.Kind.{Kind}
 use Rattle.lrat_log.specs.declared.lines.Kind.TheVariants.{Learned, Unit, Resolvent, Definition}
-use Rattle.lrat_log.specs.declared.lines.Kind.TheVariants.{Weaker, Delete, Empty}
+use Rattle.lrat_log.specs.declared.lines.Kind.TheVariants.{Weaker, Delete, Empty, Axiom}
 
 -- a kind by its number
 abbrev pub kind_at : ℕ → Kind
@@ -20,7 +20,8 @@ kind_at n =
     else if n == 3 then Definition
     else if n == 4 then Weaker
     else if n == 5 then Delete
-    else Empty
+    else if n == 6 then Empty
+    else Axiom
 
 -- the number of a kind
 abbrev pub number_of : Kind → ℕ
@@ -31,6 +32,7 @@ number_of Definition = 3
 number_of Weaker = 4
 number_of Delete = 5
 number_of Empty = 6
+number_of Axiom = 7
 
 -- where the literals and the hints of a line end
 pub record Ends : Type 0 where

@@ -5,5 +5,6 @@ pub mod Heads
 pub mod Flat
 pub mod Texts
 pub mod Steps
+pub mod Axioms
 pub mod Rebase
 pub mod Vectors

@@ -14,7 +14,7 @@ use Rattle.lrat_log.specs.declared.lines.Name.TheVariants.{Formula, Added}
 use Rattle.lrat_log.specs.declared.lines.Hint.{Hint}
 use Rattle.lrat_log.specs.declared.lines.Hint.TheVariants.{Plain, Group}
 use Rattle.lrat_log.specs.declared.lines.Kind.{Kind}
-use Rattle.lrat_log.specs.declared.lines.Kind.TheVariants.{Learned, Delete, Empty}
+use Rattle.lrat_log.specs.declared.lines.Kind.TheVariants.{Learned, Delete, Empty, Axiom}
 
 pub record LogLine : Type 0 where
   pub kind : Kind
@@ -28,6 +28,14 @@ is_delete other = false
 abbrev pub is_learned : Kind → Bool
 is_learned Learned = true
 is_learned other = false
+
+abbrev pub is_axiom : Kind → Bool
+is_axiom Axiom = true
+is_axiom other = false
+
+-- the line of a clause from outside
+abbrev pub axiom_line : List Literal → LogLine
+axiom_line c = record { kind = Axiom; clause = c; hints = [] }
 
 abbrev pub IsPlain : Hint → Type 0
 IsPlain (Plain n) = ⊤

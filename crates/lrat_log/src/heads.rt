@@ -61,7 +61,7 @@ pub struct HeadList {
     // For each 32 of the near words.
     bases: Vec<BlockEnds>,
     // The first lines, in a word each. From the top: how many literals behind its base the line
-    // ends, below 2^14; how many hints, below 2^15; and the number of its kind, from 0 to 6, in
+    // ends, below 2^14; how many hints, below 2^15; and the number of its kind, from 0 to 7, in
     // three bits.
     near: Vec<u32>,
     // All lines from the first one on that is no near one.
@@ -164,7 +164,7 @@ struct FarHead {
     // The place behind its last hint, without its 2^32s.
     hints_low: u32,
     // From the top: the 2^32s of the place behind its last literal, below 2^15; those of the place
-    // behind its last hint, below 2^14; and the number of its kind, from 0 to 6, in three bits.
+    // behind its last hint, below 2^14; and the number of its kind, from 0 to 7, in three bits.
     tops: u32,
 }
 
@@ -272,7 +272,7 @@ fn read_near(base: BlockEnds, word: u32) -> LineHead
     }
 }
 
-/// The number of the kind, from 0 to 6.
+/// The number of the kind, from 0 to 7.
 fn number(kind: Kind) -> u64
     ensures number { result ≡ number_of kind }
     ensures small { result < 8 }
@@ -285,6 +285,7 @@ fn number(kind: Kind) -> u64
         Kind::Weaker => 4,
         Kind::Delete => 5,
         Kind::Empty => 6,
+        Kind::Axiom => 7,
     }
 }
 
@@ -299,6 +300,7 @@ fn kind(number: u64) -> Kind
         3 => Kind::Definition,
         4 => Kind::Weaker,
         5 => Kind::Delete,
-        _ => Kind::Empty,
+        6 => Kind::Empty,
+        _ => Kind::Axiom,
     }
 }

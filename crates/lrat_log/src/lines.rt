@@ -84,6 +84,8 @@ pub enum Kind {
     Delete,
     /// Adds the empty clause.
     Empty,
+    /// Adds a clause from outside the log, which has no hints.
+    Axiom,
 }
 
 impl Kind {
@@ -100,7 +102,8 @@ impl Kind {
             | Kind::Resolvent
             | Kind::Definition
             | Kind::Weaker
-            | Kind::Empty => false,
+            | Kind::Empty
+            | Kind::Axiom => false,
         }
     }
 }

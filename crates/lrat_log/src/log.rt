@@ -213,6 +213,10 @@ impl Sink for Log {
         }
     }
 
+    fn cut(&mut self, _lits: &[Lit]) -> Result<bool, AllocError> {
+        Ok(false)
+    }
+
     fn is_short(&self) {
         let _ = &self.heads;
     }

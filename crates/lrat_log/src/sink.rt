@@ -1,7 +1,9 @@
 // What takes the lines of a solver: a log in memory, or a writer that passes them on.
-ghost use Rattle.std.specs.Prelude.{◌≡◌, ◌<◌, List, [], ◌∷◌, ◌++◌, length, OnOk, OnErr};
+ghost use Rattle.std.specs.Prelude.{◌≡◌, ◌<◌, true, false, List, [], ◌∷◌, ◌++◌, length};
+ghost use Rattle.std.specs.Prelude.{IfOk, OnOk, OnErr};
 ghost use Rattle.lrat_log.specs.declared.log.TheConstants.{LINE_LIMIT};
-ghost use Rattle.lrat_log.specs.Log.{LogLine, IsLine};
+ghost use Rattle.lrat_log.specs.Log.{LogLine, IsLine, axiom_line};
+ghost use Rattle.lrat_log.specs.Axioms.{IsNewClause};
 
 use crate::lines::{Hint, Kind};
 use cnf::types::Lit;
@@ -27,6 +29,20 @@ pub trait Sink: Drop {
           clause = lits.now;
           hints = hints.now;
         } ∷ []) }
+        ensures err { OnErr result (lines self.new ≡ lines self.old) };
+
+    /// Brings a clause from outside, if it may, and answers whether it did: then its line is the
+    /// last one. A log in memory takes none.
+    ///
+    /// # Errors
+    ///
+    /// `AllocError` where memory was refused, or the line would be the 2^61st. The lines stay as
+    /// they were.
+    fn cut(&mut self, lits: &[Lit]) -> Result<bool, AllocError>
+        requires new { IsNewClause lits.now }
+        ensures taken { IfOk result (λ taken. taken ≡ true
+            → lines self.new ≡ lines self.old ++ axiom_line lits.now ∷ []) }
+        ensures refused { IfOk result (λ taken. taken ≡ false → lines self.new ≡ lines self.old) }
         ensures err { OnErr result (lines self.new ≡ lines self.old) };
 
     /// Says that it has fewer than 2^61 lines; it does nothing. It is a call and no law of the
