@@ -6,7 +6,7 @@ use Rattle.std.specs.Prelude.{All, Contains, nat_eq}
 use Rattle.std.specs.List.{IsDistinct, list_any, enumerate_from}
 use Rattle.std.proofs.lemmas.Map.Keys.{IsDistinct-head, IsDistinct-tail}
 use Rattle.std.proofs.lemmas.Bool.{cases_lt, le-leb, or_parts, both_ways, eq-eqb, cases_eq}
-use Rattle.std.proofs.lemmas.Option.{slice_get-get_or}
+use Rattle.std.proofs.lemmas.Option.{none-some, slice_get-get_or}
 use Rattle.std.proofs.lemmas.List.{length-map, get_or-map, length-replicate, take_all}
 use Rattle.std.proofs.lemmas.List.{get_or_default}
 use Rattle.std.proofs.lemmas.List.Elements.{All-nil, All-cons, All-head, All-tail}
@@ -16,9 +16,9 @@ use Rattle.cnf.specs.Clause.{Satisfies}
 use Rattle.cnf.specs.Lrat.{IsId}
 use Rattle.cnf.specs.Refute.{IsRefutedByHints}
 use Rattle.cnf.specs.Bits.{assignment_of}
-use Rattle.cnf.specs.Formula.{Cnf, IsFormula, IsFormulaClause}
+use Rattle.cnf.specs.Formula.{Cnf, IsFormula, IsFormulaClause, numbered}
 use Rattle.clauses.specs.Slots.{Slots, clause_at, IsLive, live_places, live_clauses, places_from}
-use Rattle.clauses.proofs.Laws.{all_live, live_all}
+use Rattle.clauses.proofs.Laws.{all_live, live_all, live_map}
 use Rattle.propagate.specs.Trail.{depth_of}
 use Rattle.propagate.specs.Watches.{is_attached}
 use Rattle.lrat_log.specs.declared.lines.Name.{Name}
@@ -27,16 +27,17 @@ use Rattle.lrat_log.specs.Log.{LogLine, id_of, number_in}
 use Rattle.lrat_log.specs.Steps.{StaysLogOver, IsBaseOf, log_live, given_of, AddsNoEmptyClause}
 use Rattle.lrat_log.specs.Steps.{adds_empty_clause, added_count}
 use Rattle.eliminate.specs.Elimination.{StackState, HoldsWhatIsLive, ExtendsBack, IsFree, extended}
+use Rattle.eliminate.specs.Elimination.{IsWhole}
 use Rattle.cdcl_search.specs.declared.search.Search.{Search}
 use Rattle.cdcl_search.specs.declared.input.Input.{Input}
 use Rattle.cdcl_search.specs.Running.{is_refuted, Runs, IsInput, tables_of}
 use Rattle.cdcl_search.specs.Invariant.{name_at, is_kept_name, NamesStore, NotesUnits, zero_of}
-use Rattle.cdcl_search.specs.Invariant.{IsRunning}
+use Rattle.cdcl_search.specs.Invariant.{IsRunning, KeepsPlain}
 use Rattle.cdcl_search.specs.Starts.{IsLiveWithin, IsStarted}
 use Rattle.clauses.proofs.Laws.{stands}
 use Rattle.cdcl_search.proofs.Laws.{live_below}
 use Rattle.cdcl.proofs.FirstNames.{names_start}
-use Rattle.lrat_log.proofs.Laws.{base_of, clauses_given}
+use Rattle.lrat_log.proofs.Laws.{base_of, clauses_given, stays_open}
 
 -- Lists of places.
 
@@ -237,32 +238,27 @@ empty_refutes cs w = (
   },
 )
 
-pub first_runs : (s : Search) (p : Input) (ls : List LogLine) (cs : List (List Literal))
+-- the search, whatever propagation refutes
+pub plain_runs : (s : Search) (p : Input) (ls : List LogLine) (cs : List (List Literal))
     (slots : Slots) (additions : ℕ) (n : StackState) → p.stack ≡ record n { names = [] }
     → IsStarted slots n additions s → IsLeft cs slots n ls
-    → p.given ≡ given_of cs → p.first ≡ length p.given
+    → p.given ≡ given_of cs
     → StaysLogOver (length (p.frozen).items) (given_of cs) ls → is_refuted ls ≡ false
     → additions ≡ added_count ls → additions < 2 ^ 61
     → All (λ r. IsFree (p.frozen).items r.variable) n.removed
-    → ExtendsBack n cs (live_clauses slots)
-    → (IsRefutedByHints cs → Contains (live_clauses slots) []) → Runs s p ls
-first_runs s p ls cs slots additions n unnamed t h given firsts stays open_log counted few
-    not_frozen back plain =
+    → ExtendsBack n cs (live_clauses slots) → KeepsPlain slots p.first p.given → Runs s p ls
+plain_runs s p ls cs slots additions n unnamed t h given stays open_log counted few not_frozen
+    back plain =
     let m : StackState = record n { names = [] } in
     let named = first_names cs slots n ls h (s.names).items t.named t.long in
-    let all : map (λ g. g.1) (take p.first p.given) ≡ cs =
-    ap (λ x. map (λ g. g.1) x) (take_all p.first p.given (omega arith) ∙ given)
-    ∙ clauses_given cs in
-    let whole : map (λ g. g.1) p.given ≡ cs =
-    ap (map (λ g. g.1)) given ∙ clauses_given cs in
     let kept : additions ≡ s.kept = sym t.kept in
     let run : IsRunning s.engine slots m (tables_of s) (p.frozen).items p.first p.given ls =
     record {
       recorded = record {
         log =
             record {
-              stays = subst (λ x. StaysLogOver (length (p.frozen).items) x ls)
-                  (sym given) stays;
+              stays = stays_open (length (p.frozen).items) p.given ls
+                  (subst (λ x. StaysLogOver (length (p.frozen).items) x ls) (sym given) stays);
               unrefuted = unrefuted ls open_log;
               counted = t.counted ∙ counted;
             };
@@ -281,10 +277,7 @@ first_runs s p ls cs slots additions n unnamed t h given firsts stays open_log c
             (sym (t.kept ∙ counted))
             (all_kept cs slots n ls h (s.names).items t.named r c e)))))
             );
-        plain = λ w. (let found = plain (elim w [
-          | inl a ↦ subst IsRefutedByHints all a
-          | inr b ↦ empty_refutes cs (subst (λ x. Contains x []) whole b)
-        ]) in live_found slots found.0 [] found.1 found.2);
+        plain = plain;
       };
       searches = record {
         works = t.works;
@@ -310,6 +303,48 @@ first_runs s p ls cs slots additions n unnamed t h given firsts stays open_log c
       past = t.past;
       few = subst (λ k. k < 2 ^ 61) (sym t.counted) few;
     }
+
+pub first_runs : (s : Search) (p : Input) (ls : List LogLine) (cs : List (List Literal))
+    (slots : Slots) (additions : ℕ) (n : StackState) → p.stack ≡ record n { names = [] }
+    → IsStarted slots n additions s → IsLeft cs slots n ls
+    → p.given ≡ given_of cs → p.first ≡ length p.given
+    → StaysLogOver (length (p.frozen).items) (given_of cs) ls → is_refuted ls ≡ false
+    → additions ≡ added_count ls → additions < 2 ^ 61
+    → All (λ r. IsFree (p.frozen).items r.variable) n.removed
+    → ExtendsBack n cs (live_clauses slots)
+    → (IsRefutedByHints cs → Contains (live_clauses slots) []) → Runs s p ls
+first_runs s p ls cs slots additions n unnamed t h given firsts stays open_log counted few
+    not_frozen back plain =
+    let all : map (λ g. g.1) (take p.first p.given) ≡ cs =
+    ap (λ x. map (λ g. g.1) x) (take_all p.first p.given (omega arith) ∙ given)
+    ∙ clauses_given cs in
+    let whole : map (λ g. g.1) p.given ≡ cs =
+    ap (map (λ g. g.1)) given ∙ clauses_given cs in
+    plain_runs s p ls cs slots additions n unnamed t h given stays open_log counted few not_frozen
+    back (λ w. (let found = plain (elim w [
+      | inl a ↦ subst IsRefutedByHints all a
+      | inr b ↦ empty_refutes cs (subst (λ x. Contains x []) whole b)
+    ]) in live_found slots found.0 [] found.1 found.2))
+
+-- no hints refute a formula without clauses
+none_numbered : (i : ℕ) → numbered [] i ≡ None
+none_numbered zero = refl
+none_numbered (suc i) = refl
+
+none_refuted : IsRefutedByHints [] → ⊥
+none_refuted w = none-some w.1.clause (sym (none_numbered w.1.final) ∙ w.1.live)
+
+-- where the formula is left as it is, its empty clause is there
+pub whole_plain : (p : Input) (cs : List (List Literal)) (slots : Slots) → p.first ≡ 0
+    → p.given ≡ given_of cs → live_clauses slots ≡ cs → KeepsPlain slots p.first p.given
+whole_plain p cs slots none given left w = elim w [
+  | inl a ↦ absurd (none_refuted
+      (subst (λ n. IsRefutedByHints (map (λ g. g.1) (take n p.given))) none a))
+  | inr b ↦
+      let found : Contains (live_clauses slots) [] =
+      subst (λ x. Contains x []) (ap (map (λ g. g.1)) given ∙ clauses_given cs ∙ sym left) b in
+      live_found slots found.0 [] found.1 found.2
+]
 
 -- What a new solver is made of.
 
@@ -340,18 +375,17 @@ first_clauses p cs given firsts =
     ap (λ x. map (λ g. g.1) x) (take_all p.first p.given (omega arith) ∙ given)
     ∙ clauses_given cs
 
-pub new_input : (f : Cnf) (p : Input) (cs : List (List Literal)) → IsFormula f → cs ≡ f.clauses
+input_of : (f : Cnf) (p : Input) (cs : List (List Literal)) → IsFormula f → cs ≡ f.clauses
     → length (p.frozen).items ≡ f.variables → p.given ≡ given_of cs
-    → p.first ≡ length p.given
-    → length (p.frozen).items ≤ (p.stack).variables
+    → given_of (map (λ g. g.1) (take p.first p.given)) ≡ take p.first p.given
+    → p.first ≤ length p.given → length (p.frozen).items ≤ (p.stack).variables
     → (p.stack).variables ≤ length (p.frozen).items + 2 ^ 20 → IsInput p
-new_input f p cs h same wide given firsts low high =
+input_of f p cs h same wide given numbered within low high =
     let few : length (p.frozen).items < 2 ^ 26 = subst (λ x. x < 2 ^ 26) (sym wide) h.few in
     let bound : (p.stack).variables < 2 ^ 27 = omega arith in
     record {
-      numbered = ap given_of (first_clauses p cs given firsts) ∙ sym
-          (take_all p.first p.given (omega arith) ∙ given);
-      first_within = omega arith;
+      numbered = numbered;
+      first_within = within;
       based = (length cs, subst (λ g. IsBaseOf g (length cs)) (sym given) (based_first cs));
       few_given = few;
       few = bound;
@@ -361,3 +395,45 @@ new_input f p cs h same wide given firsts low high =
           (subst (λ n. All (IsFormulaClause n) cs) (sym wide)
           (subst (All (IsFormulaClause f.variables)) (sym same) h.clauses)));
     }
+
+pub new_input : (f : Cnf) (p : Input) (cs : List (List Literal)) → IsFormula f → cs ≡ f.clauses
+    → length (p.frozen).items ≡ f.variables → p.given ≡ given_of cs
+    → p.first ≡ length p.given
+    → length (p.frozen).items ≤ (p.stack).variables
+    → (p.stack).variables ≤ length (p.frozen).items + 2 ^ 20 → IsInput p
+new_input f p cs h same wide given firsts low high =
+    input_of f p cs h same wide given
+    (ap given_of (first_clauses p cs given firsts) ∙ sym
+    (take_all p.first p.given (omega arith) ∙ given)) (omega arith) low high
+
+-- what is given to a search over a formula that is left as it is
+pub whole_input : (f : Cnf) (p : Input) (cs : List (List Literal)) → IsFormula f → cs ≡ f.clauses
+    → length (p.frozen).items ≡ f.variables → p.given ≡ given_of cs → p.first ≡ 0
+    → length (p.frozen).items ≤ (p.stack).variables
+    → (p.stack).variables ≤ length (p.frozen).items + 2 ^ 20 → IsInput p
+whole_input f p cs h same wide given none low high =
+    input_of f p cs h same wide given
+    (subst (λ n. given_of (map (λ g. g.1) (take n p.given)) ≡ take n p.given) (sym none) refl)
+    (omega arith) low high
+
+-- with room for more variables
+wider_clause : (n m : ℕ) (c : List Literal) → n ≤ m → IsFormulaClause n c → IsFormulaClause m c
+wider_clause n m c le f = record {
+  no_repeat = f.no_repeat;
+  no_tautology = f.no_tautology;
+  from_one = f.from_one;
+  small = (let s = f.small in omega arith);
+}
+
+-- what is left of a formula that is left as it is
+pub whole_left : (f : Cnf) (cs : List (List Literal)) (slots : Slots) (stack : StackState) (n : ℕ)
+    → IsFormula f → cs ≡ f.clauses → f.variables ≤ n → IsWhole n cs slots stack
+    → IsLeft cs slots stack []
+whole_left f cs slots stack n h same le w = record {
+  live = w.live;
+  left =
+      subst (All (IsFormulaClause stack.variables)) (sym (ap live_clauses w.together ∙ live_map cs))
+      (λ i d lt. wider_clause f.variables stack.variables (get_or cs i d)
+      (subst (λ m. f.variables ≤ m) (sym w.variables_are) le)
+      (subst (All (IsFormulaClause f.variables)) (sym same) h.clauses i d lt));
+}

@@ -10,3 +10,4 @@ pub mod outcome;
 mod searching;
 pub mod solver;
 mod tally;
+pub mod whole;
