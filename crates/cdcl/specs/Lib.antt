@@ -4,3 +4,4 @@ pub mod Turns
 pub mod Outcomes
 pub mod Halting
 pub mod Answering
+pub mod Guiding

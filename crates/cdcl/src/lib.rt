@@ -4,8 +4,11 @@
 pub use cdcl_order::{budget, watch};
 pub use cdcl_search::given;
 
-mod answers;
+pub mod answers;
 mod assuming;
+pub mod assumptions;
+pub mod guide;
+pub mod guided;
 pub mod outcome;
 mod searching;
 pub mod solver;
