@@ -4,6 +4,7 @@ mod FirstRun
 mod Answered
 mod GivenClause
 mod Rounds
+mod Guiding
 mod Halts
 mod Assumed
 mod Frozen
