@@ -30,7 +30,7 @@ none_outside : (ls : List LogLine) → TakesNoAxiom ls → axiom_count ls ≡ 0
 none_outside [] own = refl
 none_outside (l ∷ ls) own =
     let one = sum_by-cons (λ (k : LogLine). cond (is_axiom k.kind) 1 0) l ls in
-    let zero : cond (is_axiom l.kind) 1 0 ≡ 0 = ap (λ b. cond b 1 0) own.0 in
+    let zero : ◌≡◌ {A = ℕ} (cond (is_axiom l.kind) 1 0) 0 = ap (λ b. cond b 1 0) own.0 in
     let rest = none_outside ls own.1 in
     one ∙ omega (arith, zero, rest)
 

@@ -5,6 +5,7 @@ mod Answered
 mod GivenClause
 mod Rounds
 mod Guiding
+mod Apart
 mod Halts
 mod Assumed
 mod Frozen

@@ -3,6 +3,8 @@
 // takes them. Each of them costs a unit of the budget, as a learned one does. So a search is bounded
 // by its budget and the variables without a value, whatever the guide says.
 ghost use Rattle.std.specs.Prelude.{◌≡◌, ◌+◌, ◌*◌, ◌<◌, ◌≤◌, true, false, length, OnOk};
+ghost use Rattle.cnf.specs.Literal.{negation};
+ghost use Rattle.cnf.specs.Marks.{mark_of, HasPlace};
 ghost use Rattle.cnf.specs.declared.limits.TheConstants.{VARIABLE_LIMIT};
 ghost use Rattle.propagate.specs.Trail.{literals_of};
 ghost use Rattle.propagate.specs.Fits.{IsFalseClause, IsWithin};
@@ -184,7 +186,8 @@ fn go_on<S: Sink, G: Guide>(
         (S.lines sink.new) budget.old budget.new }
     ensures follows { (first : G) → G.follows first guide.old → G.follows first guide.new }
 {
-    match ask(search, guide)? {
+    let advice = ask(search, guide)?;
+    match advice {
         Advice::Decide(lit) => decide(search, input, sink, guide, budget, lit),
         Advice::Cut(lbd) => cut(search, input, sink, guide, budget, marks, lbd),
         Advice::Explain(_) | Advice::Free => branch(search, input, sink, guide, budget),
@@ -407,10 +410,19 @@ fn are_apart(marks: &mut Marks, variables: u32, lits: &[Lit]) -> bool
         if lit.variable() > variables {
             return false;
         }
-        if marks.is_marked(*lit) || marks.is_marked(lit.negation()) {
+        if is_met(marks, *lit) {
             return false;
         }
         marks.mark(*lit);
     }
     true
+}
+
+/// Whether the literal or its negation is marked.
+fn is_met(marks: &Marks, lit: Lit) -> bool
+    requires { HasPlace (length marks.now) lit }
+    ensures own { result ≡ false → mark_of marks.now lit ≡ false }
+    ensures negated { result ≡ false → mark_of marks.now (negation lit) ≡ false }
+{
+    marks.is_marked(lit) || marks.is_marked(lit.negation())
 }

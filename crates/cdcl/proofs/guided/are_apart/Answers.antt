@@ -1,0 +1,39 @@
+use Rattle.std.proofs.Common.{◌≡◌, ◌∙◌, ◌≤◌, ◌<◌, ap, arith, length, length-set, set, subst, sym}
+use Rattle.std.proofs.Common.{take, true, false}
+use Rattle.std.specs.Prelude.{All}
+use Rattle.std.proofs.lemmas.List.{length-replicate, take_all}
+use Rattle.std.proofs.lemmas.List.Elements.{All-push}
+use Rattle.cnf.specs.Literal.{Literal, index_of}
+use Rattle.cnf.specs.Marks.{IsMarked, HasPlace}
+use Rattle.cdcl.proofs.Apart.{step, so_far, greatest_low}
+use Rattle.cdcl.proofs.guided.are_apart.Goals as goal
+
+pub loop-lit-preserved : goal.loop-lit-preserved
+loop-lit-preserved c =
+    let l = c.lit-item.result in
+    let marks = c.loop-lit.marks in
+    let lits = c.args.lits.now in
+    let i = c.loop-lit.lit-index in
+    let inv = c.loop-lit.invariant in
+    let lt = c.loop-lit-test.true in
+    let n = length c.args.marks.now in
+    let now : c.mark.new.self ≡ set marks (index_of l) true = c.mark.ensures in
+    let same : length marks ≡ n =
+    omega (arith, inv.long, ap length c.clear.ensures, length-replicate n false) in
+    let low : l.variable ≤ c.args.variables = omega arith in
+    let some : 0 < l.variable = omega arith in
+    let place : HasPlace (length marks) l = (some, omega (arith, c.requires.room)) in
+    let next =
+    step marks lits i l lt c.lit-item.is place inv.marked inv.once inv.apart
+    (c.is_met.ensures.own c.if-is_met.false) (c.is_met.ensures.negated c.if-is_met.false) in
+    let more = so_far lits i l lt c.lit-item.is in
+    record {
+      long = ap length now ∙ length-set marks (index_of l) true ∙ inv.long;
+      marked = subst (λ m. IsMarked m (take (i + 1) lits)) (sym now) next.0;
+      once = next.1;
+      apart = next.2;
+      from_one = subst (All (λ (k : Literal). 0 < k.variable)) (sym more)
+          (All-push (λ (k : Literal). 0 < k.variable) (take i lits) l inv.from_one some);
+      low = subst (All (λ (k : Literal). k.variable ≤ c.args.variables)) (sym more)
+          (All-push (λ (k : Literal). k.variable ≤ c.args.variables) (take i lits) l inv.low low);
+    }
