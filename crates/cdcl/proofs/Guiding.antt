@@ -21,7 +21,9 @@ use Rattle.cdcl_search.proofs.Laws.{learns_join, writes_none}
 use Rattle.cdcl.specs.declared.guided.GuidedEnd.{GuidedEnd}
 use Rattle.cdcl.specs.Turns.{GoesOn}
 use Rattle.cdcl.specs.Guiding.{axiom_count, IsGuidedLine, WritesOpen, PaysOpen, IsGuidedEnd}
-use Rattle.cdcl.specs.Guiding.{GuidedEnds, GuidedTurns}
+use Rattle.cdcl.specs.declared.guided.Taking.{Taking}
+use Rattle.cdcl.specs.declared.guided.Taking.TheVariants.{Refused}
+use Rattle.cdcl.specs.Guiding.{GuidedEnds, GuidedTurns, IsTaking, TakesCut}
 use Rattle.cdcl.proofs.Rounds.{fewer_before}
 
 -- What is written.
@@ -170,3 +172,28 @@ guided_after result old mid new p before between after had left variables policy
           (paid_none p.given before between had w) t.pays;
       err = t.err;
     }
+
+-- What became of a clause from outside.
+
+pub cut_refused : {E : Type 0} (s : Search) (p : Input) (ls more : List LogLine) (b : BudgetState)
+    → more ≡ ls → TakesCut {E = E} (Ok Refused) s s p ls more b b
+cut_refused s p ls more b same = record {
+  takes = (refl, same, refl);
+  pays = subst (λ x. PaysOpen p.given ls x b b) (sym same) (paid_nothing p.given ls b);
+  err = tt;
+}
+
+pub cut_fails : {E : Type 0} (result : Result Taking E) (old new : Search) (p : Input)
+    (before after : List LogLine) (had left : BudgetState) → IsErr result → StaysOpen p after
+    → PaysOpen p.given before after had left → TakesCut result old new p before after had left
+cut_fails result old new p before after had left fails log pays = record {
+  takes = IfOk-from_err result (IsTaking old new p before after had left) fails;
+  pays = pays;
+  err = when_err result log;
+}
+
+-- the line of one, for which a unit was paid
+pub paid_axiom : (given : Given) (a b : List LogLine) (c : List Literal) (s t : BudgetState)
+    → b ≡ a ++ axiom_line c ∷ [] → t ≡ record s { learned = s.learned + 1 } → PaysOpen given a b s t
+paid_axiom given a b c s t lines paid =
+    (1, subst (λ x. WritesOpen given a x 1) (sym lines) (open_axiom given a c), paid)

@@ -341,7 +341,8 @@ fn cut<S: Sink, G: Guide>(
         (S.lines sink.new) budget.old budget.new }
     ensures follows { (first : G) → G.follows first guide.old → G.follows first guide.new }
 {
-    match take_cut(search, input, sink, budget, marks, guide.cut(), lbd)? {
+    let taking = take_cut(search, input, sink, budget, marks, guide.cut(), lbd)?;
+    match taking {
         Taking::Refused => {
             guide.refused();
             branch(search, input, sink, guide, budget)
@@ -375,7 +376,8 @@ fn take_cut<S: Sink>(
     if !are_apart(marks, variables, lits) {
         return Ok(Taking::Refused);
     }
-    if !sink.cut(lits)? {
+    let taken = sink.cut(lits)?;
+    if !taken {
         return Ok(Taking::Refused);
     }
     budget.count_learned();

@@ -1,9 +1,10 @@
-use Rattle.std.proofs.Common.{◌≡◌, ◌∙◌, ◌≤◌, ◌<◌, ap, arith, length, length-set, set, subst, sym}
+use Rattle.std.proofs.Common.{◌≡◌, ◌+◌, ◌∙◌, ◌≤◌, ◌<◌, ap, arith, length, length-set, set, subst, sym}
 use Rattle.std.proofs.Common.{take, true, false}
 use Rattle.std.specs.Prelude.{All}
 use Rattle.std.proofs.lemmas.List.{length-replicate, take_all}
 use Rattle.std.proofs.lemmas.List.Elements.{All-push}
 use Rattle.cnf.specs.Literal.{Literal, index_of}
+use Rattle.cnf.specs.Clause.{has_repeat, is_tautology}
 use Rattle.cnf.specs.Marks.{IsMarked, HasPlace}
 use Rattle.cdcl.proofs.Apart.{step, so_far, greatest_low}
 use Rattle.cdcl.proofs.guided.are_apart.Goals as goal
@@ -37,3 +38,28 @@ loop-lit-preserved c =
       low = subst (All (λ (k : Literal). k.variable ≤ c.args.variables)) (sym more)
           (All-push (λ (k : Literal). k.variable ≤ c.args.variables) (take i lits) l inv.low low);
     }
+
+pub returns-clause-new : goal.returns-clause-new
+returns-clause-new c = λ apart.
+    let lits = c.args.lits.now in
+    let inv = c.loop-lit.invariant in
+    let whole : take c.loop-lit.lit-index lits ≡ lits =
+    take_all c.loop-lit.lit-index lits (omega (arith, c.loop-lit-test.false)) in
+    let low = greatest_low c.args.variables lits
+    (subst (All (λ (k : Literal). k.variable ≤ c.args.variables)) whole inv.low) in
+    record {
+      no_repeat = subst (λ x. has_repeat x ≡ false) whole inv.once;
+      no_tautology = subst (λ x. is_tautology x ≡ false) whole inv.apart;
+      small = omega (arith, c.requires.few);
+    }
+
+pub returns-clause-within : goal.returns-clause-within
+returns-clause-within c = λ apart.
+    let lits = c.args.lits.now in
+    let inv = c.loop-lit.invariant in
+    let whole : take c.loop-lit.lit-index lits ≡ lits =
+    take_all c.loop-lit.lit-index lits (omega (arith, c.loop-lit-test.false)) in (
+      subst (All (λ (k : Literal). 0 < k.variable)) whole inv.from_one,
+      greatest_low c.args.variables lits
+          (subst (All (λ (k : Literal). k.variable ≤ c.args.variables)) whole inv.low),
+    )

@@ -1,4 +1,7 @@
 use Rattle.std.proofs.Common.{subst, sym}
+use Rattle.propagate.specs.Trail.{literals_of}
+use Rattle.analyze.specs.Analyzer.{IsFixpoint}
+use Rattle.cdcl_search.specs.declared.search.Search.{Search}
 use Rattle.cdcl.specs.Guiding.{IsStopped}
 use Rattle.cdcl.specs.declared.guided.GuidedEnd.TheVariants.{Stopped}
 use Rattle.cdcl.proofs.Rounds.{open_log}
@@ -28,3 +31,18 @@ returns-in-Stop-clause-turns g c =
       noted = c.requires.noted;
       left = c.requires.left;
     })) (paid_nothing p.given ls b)
+
+pub decide-requires-clause-fixpoint : goal.decide-requires-clause-fixpoint
+decide-requires-clause-fixpoint g c =
+    subst (λ (s : Search). IsFixpoint s.store.slots (literals_of s.engine.trail))
+    (sym c.ask.ensures.unchanged) c.requires.fixpoint
+
+pub cut-requires-clause-fixpoint : goal.cut-requires-clause-fixpoint
+cut-requires-clause-fixpoint g c =
+    subst (λ (s : Search). IsFixpoint s.store.slots (literals_of s.engine.trail))
+    (sym c.ask.ensures.unchanged) c.requires.fixpoint
+
+pub branch-search-requires-clause-fixpoint : goal.branch-search-requires-clause-fixpoint
+branch-search-requires-clause-fixpoint g c =
+    subst (λ (s : Search). IsFixpoint s.store.slots (literals_of s.engine.trail))
+    (sym c.ask.ensures.unchanged) c.requires.fixpoint
