@@ -1,11 +1,10 @@
 -- Logs that take clauses from outside, beside those that take none.
-use Rattle.std.proofs.Common.{◌≡◌, ℕ, ◌+◌, Bool, true, false, List, [], ◌∷◌, ◌++◌, Some, inl, inr}
+use Rattle.std.proofs.Common.{◌≡◌, ℕ, ◌+◌, true, false, List, [], ◌∷◌, ◌++◌, Some, inl, inr}
 use Rattle.std.proofs.Common.{refl, sym, ◌∙◌, ap, subst, arith, append_assoc, append-nil}
-use Rattle.std.specs.Prelude.{nat_eq, if◌then◌else◌, map, All}
+use Rattle.std.specs.Prelude.{nat_eq, map}
 use Rattle.std.specs.List.{AllByRecursion, IsDistinct}
 use Rattle.std.proofs.lemmas.Bool.{both_ways, cond-false, false≢true}
 use Rattle.cnf.specs.Literal.{Literal}
-use Rattle.cnf.specs.Clause.{greatest_variable}
 use Rattle.cnf.specs.Lrat.{ProofLine, Addition, Deletion, Live, Step, Chain, IsAddable, with_clause}
 use Rattle.cnf.specs.Lrat.{without_ids}
 use Rattle.lrat_log.specs.declared.lines.Kind.{Kind}
@@ -13,8 +12,8 @@ use Rattle.lrat_log.specs.declared.lines.Kind.TheVariants.{Learned, Unit, Resolv
 use Rattle.lrat_log.specs.declared.lines.Kind.TheVariants.{Weaker, Delete, Empty, Axiom}
 use Rattle.lrat_log.specs.Log.{LogLine, Given, start_over, is_delete, is_axiom, id_of, name_of}
 use Rattle.lrat_log.specs.Log.{leading_ids, group_ids, numbered_line, numbered_on, numbered_lines}
-use Rattle.lrat_log.specs.Steps.{live_after, IsBaseOf, IsLogOver, StaysLogOver, added_count}
-use Rattle.lrat_log.specs.Axioms.{AddsAxiom, IsOpenStep, OpenChain, IsOpenLogOver, StaysOpenLogOver}
+use Rattle.lrat_log.specs.Steps.{live_after, IsLogOver, StaysLogOver, added_count}
+use Rattle.lrat_log.specs.Axioms.{IsOpenStep, OpenChain, IsOpenLogOver, StaysOpenLogOver}
 use Rattle.lrat_log.specs.Axioms.{TakesNoAxiom, FollowByRup}
 use Rattle.lrat_log.proofs.Additions.{after_line, count_step, numbered_on-append}
 use Rattle.lrat_log.proofs.Growing.{chain_join}
