@@ -1,12 +1,12 @@
-use Rattle.std.proofs.Common.{◌≡◌, ◌+◌, ◌∙◌, ◌≤◌, ◌<◌, ap, arith, length, length-set, set, subst, sym}
-use Rattle.std.proofs.Common.{take, true, false}
+use Rattle.std.proofs.Common.{◌≡◌, ◌+◌, ◌∙◌, ◌≤◌, ◌<◌, [], ◌∷◌, ◌++◌, ap, arith, length, length-set, set}
+use Rattle.std.proofs.Common.{subst, sym, take, true, false}
 use Rattle.std.specs.Prelude.{All}
-use Rattle.std.proofs.lemmas.List.{length-replicate, take_all}
+use Rattle.std.proofs.lemmas.List.{at_drop_all, at_drop_more, length-replicate, take_all, take_more}
 use Rattle.std.proofs.lemmas.List.Elements.{All-push}
 use Rattle.cnf.specs.Literal.{Literal, index_of}
-use Rattle.cnf.specs.Clause.{has_repeat, is_tautology}
+use Rattle.cnf.specs.Clause.{greatest_variable, has_repeat, is_tautology}
 use Rattle.cnf.specs.Marks.{IsMarked, HasPlace}
-use Rattle.cdcl.proofs.Apart.{step, so_far, greatest_low}
+use Rattle.cdcl.proofs.Apart.{step}
 use Rattle.cdcl.proofs.guided.are_apart.Goals as goal
 
 pub loop-lit-preserved : goal.loop-lit-preserved
@@ -27,7 +27,10 @@ loop-lit-preserved c =
     let next =
     step marks lits i l lt c.lit-item.is place inv.marked inv.once inv.apart
     (c.is_met.ensures.own c.if-is_met.false) (c.is_met.ensures.negated c.if-is_met.false) in
-    let more = so_far lits i l lt c.lit-item.is in
+    let more : take (i + 1) lits ≡ take i lits ++ l ∷ [] =
+    take_more lits i l lt ∙ ap (λ x. take i lits ++ x ∷ []) (sym c.lit-item.is) in
+    let named = ap (λ (k : Literal). k.variable) c.lit-item.is in
+    let first = at_drop_more greatest_variable lits i l lt in
     record {
       long = ap length now ∙ length-set marks (index_of l) true ∙ inv.long;
       marked = subst (λ m. IsMarked m (take (i + 1) lits)) (sym now) next.0;
@@ -35,31 +38,29 @@ loop-lit-preserved c =
       apart = next.2;
       from_one = subst (All (λ (k : Literal). 0 < k.variable)) (sym more)
           (All-push (λ (k : Literal). 0 < k.variable) (take i lits) l inv.from_one some);
-      low = subst (All (λ (k : Literal). k.variable ≤ c.args.variables)) (sym more)
-          (All-push (λ (k : Literal). k.variable ≤ c.args.variables) (take i lits) l inv.low low);
+      low = λ rest. inv.low (omega (arith, first, named, rest, low));
     }
 
 pub returns-clause-new : goal.returns-clause-new
 returns-clause-new c = λ apart.
     let lits = c.args.lits.now in
+    let i = c.loop-lit.lit-index in
     let inv = c.loop-lit.invariant in
-    let whole : take c.loop-lit.lit-index lits ≡ lits =
-    take_all c.loop-lit.lit-index lits (omega (arith, c.loop-lit-test.false)) in
-    let low = greatest_low c.args.variables lits
-    (subst (All (λ (k : Literal). k.variable ≤ c.args.variables)) whole inv.low) in
+    let past : length lits ≤ i = omega (arith, c.loop-lit-test.false) in
+    let whole : take i lits ≡ lits = take_all i lits past in
+    let low = inv.low (omega (arith, at_drop_all greatest_variable lits i past)) in
     record {
       no_repeat = subst (λ x. has_repeat x ≡ false) whole inv.once;
       no_tautology = subst (λ x. is_tautology x ≡ false) whole inv.apart;
-      small = omega (arith, c.requires.few);
+      small = omega (arith, low, c.requires.few);
     }
 
 pub returns-clause-within : goal.returns-clause-within
 returns-clause-within c = λ apart.
     let lits = c.args.lits.now in
+    let i = c.loop-lit.lit-index in
     let inv = c.loop-lit.invariant in
-    let whole : take c.loop-lit.lit-index lits ≡ lits =
-    take_all c.loop-lit.lit-index lits (omega (arith, c.loop-lit-test.false)) in (
-      subst (All (λ (k : Literal). 0 < k.variable)) whole inv.from_one,
-      greatest_low c.args.variables lits
-          (subst (All (λ (k : Literal). k.variable ≤ c.args.variables)) whole inv.low),
+    let past : length lits ≤ i = omega (arith, c.loop-lit-test.false) in (
+      subst (All (λ (k : Literal). 0 < k.variable)) (take_all i lits past) inv.from_one,
+      inv.low (omega (arith, at_drop_all greatest_variable lits i past)),
     )
