@@ -16,6 +16,9 @@ use Rattle.lrat_log.proofs.Laws.{when_err, follow_append}
 use Rattle.cdcl_order.specs.Budgets.{BudgetState}
 use Rattle.cdcl_search.specs.declared.input.Input.{Input}
 use Rattle.cdcl_search.specs.declared.search.Search.{Search}
+use Rattle.std.specs.declared.vec.Vec.{Vec}
+use Rattle.std.specs.declared.alloc.Global.{Global}
+use Rattle.cdcl_search.specs.Cores.{IsShown}
 use Rattle.cdcl_search.specs.Running.{Runs, Writes, StaysOpen}
 use Rattle.cdcl_search.proofs.Laws.{learns_join, writes_none}
 use Rattle.cdcl.specs.declared.guided.GuidedEnd.{GuidedEnd}
@@ -23,7 +26,7 @@ use Rattle.cdcl.specs.Turns.{GoesOn}
 use Rattle.cdcl.specs.Guiding.{axiom_count, IsGuidedLine, WritesOpen, PaysOpen, IsGuidedEnd}
 use Rattle.cdcl.specs.declared.guided.Taking.{Taking}
 use Rattle.cdcl.specs.declared.guided.Taking.TheVariants.{Refused}
-use Rattle.cdcl.specs.Guiding.{GuidedEnds, GuidedTurns, IsTaking, TakesCut}
+use Rattle.cdcl.specs.Guiding.{GuidedEnds, GuidedTurns, IsTaking, TakesCut, FindsCore}
 use Rattle.cdcl.proofs.Rounds.{fewer_before}
 
 -- What is written.
@@ -197,3 +200,28 @@ pub paid_axiom : (given : Given) (a b : List LogLine) (c : List Literal) (s t : 
     → b ≡ a ++ axiom_line c ∷ [] → t ≡ record s { learned = s.learned + 1 } → PaysOpen given a b s t
 paid_axiom given a b c s t lines paid =
     (1, subst (λ x. WritesOpen given a x 1) (sym lines) (open_axiom given a c), paid)
+
+-- Which assumptions cannot hold together.
+
+pub finds_none : {E : Type 0} (old new : Search) (p : Input) (asked : List Literal)
+    (ls : List LogLine) (b : BudgetState) → Runs old p ls → new ≡ old
+    → FindsCore {E = E} (Ok None) new p asked ls ls b b
+finds_none old new p asked ls b r same = record {
+  runs = subst (λ (s : Search). Runs s p ls) (sym same) r;
+  shown = tt;
+  pays = paid_nothing p.given ls b;
+  err = tt;
+}
+
+pub finds_fails : {E : Type 0} (result : Result (Option (Vec Literal Global)) E) (new : Search)
+    (p : Input) (asked : List Literal) (before after : List LogLine) (had left : BudgetState)
+    → IsErr result → StaysOpen p after → PaysOpen p.given before after had left
+    → FindsCore result new p asked before after had left
+finds_fails result new p asked before after had left fails log pays = record {
+  runs = IfOk-from_err result (λ found. Runs new p after) fails;
+  shown =
+      IfOk-from_err result
+      (λ found. IfSome found (λ core. IsShown (new.store).slots asked core.items)) fails;
+  pays = pays;
+  err = when_err result log;
+}
