@@ -16,13 +16,13 @@ use propagate::engine::Engine;
 use std::alloc::AllocError;
 
 /// The core that an assumption gives which is false: some of the assumptions, which cannot hold
-/// together. Its clause is learned at level 0, for a unit of the budget, unless some live clause has
-/// no literals but its. None where the literal is no assumption that is false, and where it rests
-/// on more than assumptions.
+/// together. Its clause is learned at level 0, for a unit of the budget, unless some live clause
+/// has no literals but its. None where the literal is no assumption that is false, and where it
+/// rests on more than assumptions.
 ///
 /// # Errors
 ///
-/// `AllocError` where memory was refused: the search cannot go on. The lines are steps also then.
+/// `AllocError` where memory was refused: the search cannot go on. The log stays open.
 pub fn find_core<S: Sink>(
     search: &mut Search,
     input: &Input,

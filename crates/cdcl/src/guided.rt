@@ -1,7 +1,7 @@
 // The loop of a search that a guide leads: propagate, then learn from a conflict or ask the guide.
 // Clauses may come from outside the log while it runs, as the guide hands them out and the sink
-// takes them. Each of them costs a unit of the budget, as a learned one does. So a search is bounded
-// by its budget and the variables without a value, whatever the guide says.
+// takes them. Each of them costs a unit of the budget, as a learned one does. So a search is
+// bounded by its budget and the variables without a value, whatever the guide says.
 ghost use Rattle.std.specs.Prelude.{◌≡◌, ◌+◌, ◌*◌, ◌<◌, ◌≤◌, true, false, length, OnOk};
 ghost use Rattle.cnf.specs.Literal.{negation};
 ghost use Rattle.cnf.specs.Marks.{mark_of, HasPlace};
@@ -60,8 +60,8 @@ pub(crate) enum Taking {
 ///
 /// # Errors
 ///
-/// `AllocError` where memory was refused, here or by the guide or the sink. The lines are steps also
-/// then.
+/// `AllocError` where memory was refused, here or by the guide or the sink: the search cannot go
+/// on. The log stays open.
 pub fn search_guided<S: Sink, G: Guide, W: SearchWatch>(
     search: &mut Search,
     input: &Input,

@@ -1,5 +1,5 @@
-use Rattle.std.proofs.Common.{◌≡◌, ◌+◌, ◌∙◌, ◌≤◌, ◌<◌, [], ◌∷◌, ◌++◌, ap, arith, length, length-set, set}
-use Rattle.std.proofs.Common.{subst, sym, take, true, false}
+use Rattle.std.proofs.Common.{◌≡◌, ◌+◌, ◌∙◌, ◌≤◌, ◌<◌, [], ◌∷◌, ◌++◌, ap, arith, length, length-set}
+use Rattle.std.proofs.Common.{set, subst, sym, take, true, false}
 use Rattle.std.specs.Prelude.{All}
 use Rattle.std.proofs.lemmas.List.{at_drop_all, at_drop_more, length-replicate, take_all, take_more}
 use Rattle.std.proofs.lemmas.List.Elements.{All-push}
