@@ -1,21 +1,24 @@
 -- The two highest levels of a clause's literals, and the level at which it may be attached.
 use Rattle.std.proofs.Common.{◌≡◌, ◌≢◌, ℕ, ◌<◌, ◌≤◌, true, false, List, [], ◌∷◌, ◌++◌, Option, Some}
-use Rattle.std.proofs.Common.{◌⊎◌, None, Bool, if◌then◌else◌, length, take, get_or, refl, sym, ap, subst, ◌∙◌, arith, inl, inr, zero, suc}
+use Rattle.std.proofs.Common.{None, Bool, if◌then◌else◌, length, take, get_or, refl, sym, ap, subst}
+use Rattle.std.proofs.Common.{◌∙◌, arith, inl, inr, zero, suc}
 use mathlib.Core.Bool.{beq, not}
 use Rattle.std.specs.Option.{option_eq}
 use Rattle.std.proofs.lemmas.Bool.{false≢true, both_ways, cases_Bool, or_from, or_parts}
-use Rattle.std.proofs.lemmas.Option.{none-some, same_Some}
+use Rattle.std.proofs.lemmas.Option.{same_Some}
 use Rattle.cnf.specs.Literal.{Literal, negation, literal_eq}
 use Rattle.cnf.specs.Clause.{contains_literal, has_repeat}
 use Rattle.cnf.specs.Refute.{IsUnit, IsFalseUnder}
-use Rattle.cnf.proofs.Laws.{all_at, contains_front, member_pushed, literal_eq_ne}
-use Rattle.propagate.specs.Trail.{Assigned, literals_of, kept_to, depth_of, level_in, level_of, value_in}
-use Rattle.propagate.proofs.Laws.{kept_low, kept_kept, kept_prefix, literals-append, contains_at, level_from-le}
-use Rattle.analyze.proofs.Laws.{level_is, open_below}
+use Rattle.cnf.proofs.Laws.{contains_front, member_pushed, literal_eq_ne}
+use Rattle.propagate.specs.Trail.{Assigned, literals_of, kept_to, depth_of, level_in, level_of}
+use Rattle.propagate.specs.Trail.{value_in}
+use Rattle.propagate.proofs.Laws.{kept_low, kept_kept, kept_prefix, literals-append, contains_at}
+use Rattle.propagate.proofs.Laws.{level_from-le}
+use Rattle.analyze.proofs.Laws.{level_is, open_below, two_open}
 use Rattle.cdcl_search.specs.Levelling.{IsOpenBelow, IsPlaceable, HasOpen, HasTwoOpen, Ranks}
 
 -- a literal that is not false
-pub never_false : (T : List Assigned) (l : Literal) (m : ℕ)
+never_false : (T : List Assigned) (l : Literal) (m : ℕ)
     → contains_literal (negation l) (literals_of T) ≡ false → IsOpenBelow T l m
 never_false T l m h = λ k lt.
     let w = kept_prefix k T in
@@ -30,33 +33,46 @@ never_false T l m h = λ k lt.
       | inr n ↦ n
     ])
 
-pub not_true_value : (T : List Assigned) (l : Literal) → (value_in T l ≡ Some true → ⊥)
-    → contains_literal l (literals_of T) ≡ false
-not_true_value T l ne = elim (cases_Bool (contains_literal l (literals_of T))) [
-  | inl t ↦ absurd (ne (rw t refl))
-  | inr n ↦ n
-]
+-- what a test of a value says of the trail
+said_true : (a b : Bool) → false ≡ not (option_eq beq (if a then Some true
+    else if b then Some false else None) (Some true)) → a ≡ true
+said_true true b e = refl
+said_true false true e = absurd (false≢true e)
+said_true false false e = absurd (false≢true e)
 
-true_of : (a b : Bool)
-    → ◌≡◌ {A = Option Bool} (if a then Some true else if b then Some false else None) (Some true)
-    → a ≡ true
-true_of true b e = refl
-true_of false true e = same_Some false true e
-true_of false false e = absurd (none-some true e)
-
-pub true_value : (T : List Assigned) (l : Literal) → value_in T l ≡ Some true
-    → contains_literal l (literals_of T) ≡ true
-true_value T l e =
-    true_of (contains_literal l (literals_of T)) (contains_literal (negation l) (literals_of T)) e
+said_other : (a b : Bool) → true ≡ not (option_eq beq (if a then Some true
+    else if b then Some false else None) (Some true)) → a ≡ false
+said_other true b e = absurd (false≢true (sym e))
+said_other false true e = refl
+said_other false false e = refl
 
 -- one that became false at a level
-pub false_at : (T : List Assigned) (l : Literal) (m : ℕ)
+false_at : (T : List Assigned) (l : Literal) (m : ℕ)
     → contains_literal (negation l) (literals_of T) ≡ true → level_in T l.variable ≡ Some m
     → IsOpenBelow T l m × (m ≤ depth_of T)
 false_at T l m h e =
     let f : Some m ≡ Some (level_of T l) = sym e ∙ level_is T l h in
     let same : m ≡ level_of T l = same_Some m (level_of T l) f in
     (λ k lt. (open_below T l k h (omega arith)).1, omega (arith, level_from-le 0 T l.variable m e))
+
+-- literals of which it was asked whether their negations are true
+pub open_asked : (T : List Assigned) (l : Literal) (v : Option Bool) (m : ℕ)
+    → v ≡ value_in T (negation l) → true ≡ not (option_eq beq v (Some true))
+    → IsOpenBelow T l m
+open_asked T l v m asked other =
+    let A = literals_of T in
+    never_false T l m
+    (said_other (contains_literal (negation l) A) (contains_literal (negation (negation l)) A)
+    (other ∙ ap (λ x. not (option_eq beq x (Some true))) asked))
+
+pub false_asked : (T : List Assigned) (l : Literal) (v : Option Bool) (m : ℕ)
+    → v ≡ value_in T (negation l) → false ≡ not (option_eq beq v (Some true))
+    → level_in T l.variable ≡ Some m → IsOpenBelow T l m × (m ≤ depth_of T)
+false_asked T l v m asked is =
+    let A = literals_of T in
+    false_at T l m
+    (said_true (contains_literal (negation l) A) (contains_literal (negation (negation l)) A)
+    (is ∙ ap (λ x. not (option_eq beq x (Some true))) asked))
 
 lower : (T : List Assigned) (l : Literal) (m n : ℕ) → IsOpenBelow T l m → n ≤ m → IsOpenBelow T l n
 lower T l m n h le = λ k lt. h k (omega arith)
@@ -79,14 +95,6 @@ another T c l m n h new le opened = record {
   other_stands = member_pushed l c;
   one_open = lower T h.literal m n h.open_below le;
   other_open = opened;
-}
-
-pub ranks_none : (T : List Assigned) → Ranks T [] 0 0
-ranks_none T = record {
-  low = omega arith;
-  deep = omega arith;
-  first = λ some. absurd (omega arith);
-  both = λ some. absurd (omega arith);
 }
 
 pub ranks_above : (T : List Assigned) (c : List Literal) (l : Literal) (m h s : ℕ) → Ranks T c h s
@@ -140,21 +148,6 @@ once_at (k ∷ c) (suc i) d h lt =
     (λ e. both_ways _ p.0 (ap (λ x. contains_literal x c) (sym e) ∙ contains_at c i d low)))
     (once_at c i d p.1 low)
 
--- a clause with two open literals is neither false nor unit
-two_open : (c A : List Literal) (k l : Literal) → k ≢ l → contains_literal k c ≡ true
-    → contains_literal l c ≡ true → contains_literal (negation k) A ≡ false
-    → contains_literal (negation l) A ≡ false
-    → (IsFalseUnder c A → ⊥) × ((m : Literal) → IsUnit c A m → ⊥)
-two_open c A k l ne kc lc ko lo = (
-  λ f. both_ways _ ko (all_at (λ x. contains_literal (negation x) A ≡ true) c k f kc),
-  λ m u.
-      let at : (x : Literal) → contains_literal x c ≡ true → contains_literal (negation x) A ≡ false
-      → x ≡ m = λ x xc xo.
-      (elim (all_at (λ y. (y ≡ m) ⊎ (contains_literal (negation y) A ≡ true)) c x u.others xc)
-      as (λ _. x ≡ m) [ inl s ↦ s | inr f ↦ absurd (both_ways _ xo f) ]) in
-      ne (at k kc ko ∙ sym (at l lc lo)),
-)
-
 pub ranks_place : (T : List Assigned) (c : List Literal) (h s : ℕ) → Ranks T c h s
     → IsPlaceable T c s
 ranks_place T c h s r = λ k lt.
@@ -171,14 +164,3 @@ placeable_kept T c level h = λ k lt.
     subst (λ X. (IsFalseUnder c (literals_of X) → ⊥)
     × ((l : Literal) → IsUnit c (literals_of X) l → ⊥)) (sym (kept_kept k level T (omega arith)))
     (h k below)
-
--- what a test of a value says
-pub is_no : (v : Option Bool) → true ≡ not (option_eq beq v (Some true)) → v ≡ Some true → ⊥
-is_no None e f = none-some true f
-is_no (Some true) e f = false≢true (sym e)
-is_no (Some false) e f = false≢true (same_Some false true f)
-
-pub is_yes : (v : Option Bool) → false ≡ not (option_eq beq v (Some true)) → v ≡ Some true
-is_yes None e = absurd (false≢true e)
-is_yes (Some true) e = refl
-is_yes (Some false) e = absurd (false≢true e)
