@@ -4,3 +4,5 @@ pub mod Turns
 pub mod Outcomes
 pub mod Halting
 pub mod Answering
+pub mod Guiding
+mod Vectors

@@ -20,7 +20,7 @@ use std::alloc::AllocError;
 
 /// The values of the formula's variables: those of the trail, with the eliminated ones set by
 /// reconstruction.
-pub(crate) fn bits(search: &Search, input: &Input) -> Result<Vec<bool>, AllocError>
+pub fn bits(search: &Search, input: &Input) -> Result<Vec<bool>, AllocError>
     requires runs { (ls : List LogLine) × Runs search.now input.now ls }
     requires input { IsInput input.now }
     requires fixpoint { IsFixpoint search.now.store.slots (literals_of search.now.engine.trail) }

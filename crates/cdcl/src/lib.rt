@@ -4,8 +4,12 @@
 pub use cdcl_order::{budget, watch};
 pub use cdcl_search::given;
 
-mod answers;
+pub mod answers;
 mod assuming;
+pub mod assumptions;
+pub mod core_finding;
+pub mod guide;
+pub mod guided;
 pub mod outcome;
 mod searching;
 pub mod solver;

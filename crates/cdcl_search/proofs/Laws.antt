@@ -5,4 +5,4 @@ pub use Rattle.cdcl_search.proofs.MoreGiven.{based_given, log_given}
 pub use Rattle.cdcl_search.proofs.MoreMoves.{extended_frozen, value_agrees}
 pub use Rattle.cdcl_search.proofs.Named.{live_below}
 pub use Rattle.cdcl_search.proofs.Placing.{added_few}
-pub use Rattle.cdcl_search.proofs.Written.{stays_written, writes_join, writes_none}
+pub use Rattle.cdcl_search.proofs.Written.{learns_join, stays_written, writes_join, writes_none}

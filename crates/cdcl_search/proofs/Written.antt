@@ -30,7 +30,7 @@ writes_none given ls =
       follows = λ base above. tt;
     }
 
-learns_join : (given : Given) (base : ℕ) (before ls ms : List LogLine)
+pub learns_join : (given : Given) (base : ℕ) (before ls ms : List LogLine)
     → LearnsNew nothing_exempt given base before ls
     → LearnsNew nothing_exempt given base (before ++ ls) ms
     → LearnsNew nothing_exempt given base before (ls ++ ms)

@@ -1,4 +1,5 @@
 use Rattle.std.proofs.Common.{length, sym, ◌∙◌, subst}
+use Rattle.std.proofs.lemmas.Bool.{true≢false}
 use Rattle.cdcl_search.proofs.Laws.{stays_written}
 use Rattle.cdcl.specs.Outcomes.{IsAnswer}
 use Rattle.cdcl.proofs.Answered.{solver_runs, solver_fails}
@@ -68,6 +69,23 @@ invariant_of-self-in-Ok-Limit g c =
     (stays_written (length (p.frozen).items) p.given (g.S.Sink.lines c.self.inside.sink) ls
     c.in-Ok-Limit.ensures.pays.0 c.self.invariant.lines c.in-Ok-Limit.ensures.pays.1
     a.runs.running.recorded.log.stays) a.runs c.if-self-2.false
+
+pub invariant_of-self-in-Ok-Unsat : goal.invariant_of-self-in-Ok-Unsat
+invariant_of-self-in-Ok-Unsat g c =
+    let p = c.self.inside.input in
+    let ls = g.S.Sink.lines c.answer.new.sink in
+    let a =
+    subst (IsAnswer c.answer.new.search p ls c.answer.new.budget) c.in-Ok-Unsat.field-0-is
+    c.in-Ok-Unsat.ensures.answers in
+    record {
+      input = c.self.invariant.input;
+      lines =
+          stays_written (length (p.frozen).items) p.given (g.S.Sink.lines c.self.inside.sink) ls
+          c.in-Ok-Unsat.ensures.pays.0 c.self.invariant.lines c.in-Ok-Unsat.ensures.pays.1
+          a.stays;
+      refuted_is = sym a.refuted;
+      running = λ f u. absurd (true≢false u);
+    }
 
 pub invariant_of-self-in-Err : goal.invariant_of-self-in-Err
 invariant_of-self-in-Err g c =
