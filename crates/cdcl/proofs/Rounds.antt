@@ -22,13 +22,16 @@ use Rattle.cdcl_search.proofs.Laws.{writes_none, writes_join}
 pub pays_none : (given : Given) (a b : List LogLine) (s : BudgetState) → Writes given a b 0
     → Pays given a b s s
 pays_none given a b s w =
-    let e : s.learned ≡ s.learned + 0 = omega arith in
-    (0, w, λ i. record {
-      limit = s.limit;
-      learned = e i;
-      answers = s.answers;
-      waived = s.waived;
-    })
+    let e : s.learned ≡ s.learned + 0 = omega arith in (
+      0,
+      w,
+      λ i. record {
+        limit = s.limit;
+        learned = e i;
+        answers = s.answers;
+        waived = s.waived;
+      },
+    )
 
 pub pays_nothing : (given : Given) (a : List LogLine) (s : BudgetState) → Pays given a a s s
 pays_nothing given a s = pays_none given a a s (writes_none given a)
@@ -36,13 +39,16 @@ pays_nothing given a s = pays_none given a a s (writes_none given a)
 pub pays_waived : (given : Given) (a : List LogLine) (s t : BudgetState)
     → t ≡ record s { waived = t.waived } → Pays given a a s t
 pays_waived given a s t same =
-    let e : s.learned ≡ s.learned + 0 = omega arith in
-    (0, writes_none given a, same ∙ (λ i. record {
-      limit = s.limit;
-      learned = e i;
-      answers = s.answers;
-      waived = t.waived;
-    }))
+    let e : s.learned ≡ s.learned + 0 = omega arith in (
+      0,
+      writes_none given a,
+      same ∙ (λ i. record {
+        limit = s.limit;
+        learned = e i;
+        answers = s.answers;
+        waived = t.waived;
+      }),
+    )
 
 pub pays_join : (given : Given) (a b c : List LogLine) (s t u : BudgetState) → Pays given a b s t
     → Pays given b c t u → Pays given a c s u

@@ -155,8 +155,8 @@ fn on_conflict<S: Sink, W: SearchWatch>(
 pub(crate) fn pay_learned<W: SearchWatch>(search: &Search, budget: &mut Budget, watch: &mut W)
     requires { 0 < left_of budget.old }
     ensures pays { budget.new ≡ record budget.old {
-        learned = budget.old.learned + 1;
-        waived = budget.new.waived;
+      learned = budget.old.learned + 1;
+      waived = budget.new.waived;
     } }
     ensures more { budget.old.waived ≤ budget.new.waived }
     ensures same_seen { W.seen watch.new ≡ W.seen watch.old }
