@@ -25,10 +25,10 @@ work, draw = sys.argv[1], random.Random(3)
 def clause(n):
     return " ".join(str(v * draw.choice((1, -1))) for v in draw.sample(range(1, n + 1), 3))
 with open(f"{work}/hard", "w") as text:
-    for _ in range(150):
-        print(f"h {clause(90)} 0", file=text)
-    for _ in range(1100):
-        print(f"{draw.randint(1, 9)} {clause(90)} 0", file=text)
+    for _ in range(100):
+        print(f"h {clause(70)} 0", file=text)
+    for _ in range(420):
+        print(f"{draw.randint(1, 2)} {clause(70)} 0", file=text)
 with open(f"{work}/pigeons", "w") as text:
     holes = range(12)
     for pigeon in range(13):
@@ -52,10 +52,11 @@ ends() { # NAME WORD..: the search ends with a solution, and no certificate
 for profile in 1 2 4 5; do
     ends "profile $profile" --profile $profile --time-limit 0.7
 done
-ends 'at the first look' --time-limit 1e-9
 ends 'with less effort than time' --time-limit 1000 --conflicts 50
 cp "$work/result" "$work/worse"
 ends 'from a solution' --time-limit .3 --from worse
+call solve --time-limit 1e-9 --proof proof hard
+expect 'at the first look' 0 's UNKNOWN' ''
 call solve --time-limit 0.5 pigeons
 expect 'no solution in time' 0 's UNKNOWN' ''
 call solve --time-limit 0.5 --profile 5 --progress pigeons
