@@ -249,7 +249,7 @@ class Solution:
     cost: int  # the weights of the soft clauses that are given up, together
     is_optimum: bool  # nothing is cheaper: the certificate of an optimum, or of a bound as great, was checked
     lower: Optional[int]  # nothing costs less, which was checked; None where nothing is proved
-    status: Optional[int]  # the exit status of `wmax solve`; None where the time limit or Ctrl-C stopped it
+    status: Optional[int]  # the exit status of `wmax solve`; None where it was stopped, as by Ctrl-C
     is_interrupted: bool  # whether Ctrl-C stopped it
     true_names: List[str]  # the names of the variables that are true, in the order of their making
     given_up: List[GivenUp]  # the soft clauses that do not hold, in the order of their making
@@ -527,7 +527,7 @@ class Instance:
               progress: Union[bool, Callable[[Step], Any], None] = None) -> Solution:
         """A solution of least cost, whose certificate `wmax check` has said YES to.
 
-        time_limit  seconds, after which `wmax solve` is stopped. What it has found by then is given,
+        time_limit  seconds, after which `wmax solve` ends. What it has found by then is given,
                     with `is_optimum` False. The check of an optimum comes on top. Ctrl-C does the same.
         conflicts   the effort of `wmax solve --conflicts`: the same number, the same answer, if the run
                     begins with the same solution
@@ -1209,6 +1209,9 @@ class _Run:
 
     STATUSES = {30: "OPTIMUM FOUND", 20: "UNSATISFIABLE", 10: "SATISFIABLE", 0: "UNKNOWN"}
 
+    # So many seconds a program has that ends itself in time.
+    GRACE = 1.0
+
     # How a line of --progress begins.
     PROGRESS = re.compile(r"^[0-9]+\.[0-9] s, .*$", re.MULTILINE)
 
@@ -1289,6 +1292,8 @@ class _Run:
         """ProgramFailed: the program ended with a fault, or gave no result."""
         words = ["solve", *self._profile, "--proof", str(self.proof), "--best", str(self.best)]
         words += [] if ask.conflicts is None else ["--conflicts", str(ask.conflicts)]
+        ends_itself = ask.time_limit is not None and ask.time_limit >= 0.001 and "--time-limit" in self._help
+        words += ["--time-limit", f"{ask.time_limit:.3f}"] if ends_itself else []
         words += ["--lower", str(self.bound_proof)] if ask.lower and "--lower" in self._help else []
         words += ["--progress"] if "--progress" in self._help else []
         self._start = time.monotonic()
@@ -1296,7 +1301,7 @@ class _Run:
         said = message = ""
         try:
             with self._child(*words, str(self.instance)) as (child, out, err):
-                self._follow(child, out, err, ask)
+                self._follow(child, out, err, ask, self.GRACE if ends_itself else 0.0)
                 self.status = child.returncode
                 said, message = _text(out), self.PROGRESS.sub("", _text(err)).strip()
         except KeyboardInterrupt:
@@ -1316,6 +1321,8 @@ class _Run:
         if self.said.status != self.STATUSES[self.status]:
             raise ProgramFailed(f"wmax solve said {self.said.status}, and ended with status {self.status}")
         if self.said.status == "UNKNOWN":
+            if ask.time_limit is not None and time.monotonic() >= self._start + ask.time_limit:
+                self.stopped = "time"
             self._take_kept()
 
     def _take_kept(self) -> None:
@@ -1327,10 +1334,10 @@ class _Run:
         if self.best.exists():
             self.result.write_bytes(self.best.read_bytes())
 
-    def _follow(self, child: "subprocess.Popen[bytes]", out: int, err: int, ask: _Request) -> None:
-        """Waits for the end or the time limit, and notes what the program says meanwhile."""
+    def _follow(self, child: "subprocess.Popen[bytes]", out: int, err: int, ask: _Request, grace: float) -> None:
+        """Waits for the end, or so long after the time limit, and notes what the program says meanwhile."""
         costs, bounds = _Tail(out, rb"^o ([0-9]{1,19})$"), _Tail(err, rb"\bat least ([0-9]{1,19})\b")
-        end = math.inf if ask.time_limit is None else self._start + ask.time_limit
+        end = math.inf if ask.time_limit is None else self._start + ask.time_limit + grace
         told = -math.inf
         while True:
             with contextlib.suppress(subprocess.TimeoutExpired):

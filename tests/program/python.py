@@ -472,6 +472,10 @@ def lies(program):
         expect(f"the profile: {help} {given}", found[:3], ["solve", "--profile", wanted] if wanted else ["solve", "--proof", found[2]])
     told(words, conflicts=77)
     expect("the effort", "--conflicts 77" in (folder / "words").read_text(), True)
+    told(words, help="  --time-limit <S>", time_limit=2.5)
+    expect("the time", "--time-limit 2.500" in (folder / "words").read_text(), True)
+    told(words, time_limit=2.5)
+    expect("the time, of a program that knows of none", "--time-limit" in (folder / "words").read_text(), False)
     expect("no program", raised(lambda: shop.solve(program=str(folder / "missing")))[0], "ProgramFailed")
     expect("no effort", raised(lambda: shop.solve(program=program, conflicts=0, warm=False))[0], "NoSolutionFound")
     # A machine that is busy meets its first solution late.
@@ -479,7 +483,8 @@ def lies(program):
         found = raised(lambda: pigeons(12).solve(program=program, time_limit=limit))
         if isinstance(found, wmax.Solution):
             break
-    expect("a time limit that is met", (found.is_optimum, found.status) if isinstance(found, wmax.Solution) else found, (False, None))
+    # On a busy machine it may be stopped before it ends itself.
+    expect("a time limit that is met", isinstance(found, wmax.Solution) and not found.is_optimum and found.status in (10, None), True)
     shop.solve(program=program, profile=4, folder=folder / "new" / "files")
     files = [str(folder / "new" / "files" / f"instance.{end}") for end in ("wcnf", "result", "lrat")]
     ran = subprocess.run([program, "check", "--profile", "4", *files], stdout=subprocess.PIPE, text=True)

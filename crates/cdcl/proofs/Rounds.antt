@@ -22,11 +22,33 @@ use Rattle.cdcl_search.proofs.Laws.{writes_none, writes_join}
 pub pays_none : (given : Given) (a b : List LogLine) (s : BudgetState) → Writes given a b 0
     → Pays given a b s s
 pays_none given a b s w =
-    let e : s.learned ≡ s.learned + 0 = omega arith in
-    (0, w, λ i. record { limit = s.limit; learned = e i; answers = s.answers })
+    let e : s.learned ≡ s.learned + 0 = omega arith in (
+      0,
+      w,
+      λ i. record {
+        limit = s.limit;
+        learned = e i;
+        answers = s.answers;
+        waived = s.waived;
+      },
+    )
 
 pub pays_nothing : (given : Given) (a : List LogLine) (s : BudgetState) → Pays given a a s s
 pays_nothing given a s = pays_none given a a s (writes_none given a)
+
+pub pays_waived : (given : Given) (a : List LogLine) (s t : BudgetState)
+    → t ≡ record s { waived = t.waived } → Pays given a a s t
+pays_waived given a s t same =
+    let e : s.learned ≡ s.learned + 0 = omega arith in (
+      0,
+      writes_none given a,
+      same ∙ (λ i. record {
+        limit = s.limit;
+        learned = e i;
+        answers = s.answers;
+        waived = t.waived;
+      }),
+    )
 
 pub pays_join : (given : Given) (a b c : List LogLine) (s t u : BudgetState) → Pays given a b s t
     → Pays given b c t u → Pays given a c s u
@@ -38,8 +60,14 @@ pays_join given a b c s t u v w =
         limit = x.limit;
         learned = x.learned + w.0;
         answers = x.answers;
+        waived = u.waived;
       }) v.2
-          ∙ (λ i. record { limit = s.limit; learned = e i; answers = s.answers }),
+          ∙ (λ i. record {
+            limit = s.limit;
+            learned = e i;
+            answers = s.answers;
+            waived = u.waived;
+          }),
     )
 
 -- What is left.
@@ -67,13 +95,13 @@ falls_first old new before after same less =
 -- a unit was paid
 pub goes_learned : (old new : Search) (p : Input) (ls : List LogLine) (before after : BudgetState)
     → Runs new p ls → (new.engine).variables ≡ (old.engine).variables
-    → after ≡ record before { learned = before.learned + 1 } → 0 < left_of before
-    → GoesOn old new p ls before after
-goes_learned old new p ls before after r same paid some = record {
+    → after ≡ record before { learned = before.learned + 1; waived = after.waived }
+    → before.waived ≤ after.waived → 0 < left_of before → GoesOn old new p ls before after
+goes_learned old new p ls before after r same paid more some = record {
   runs = r;
   fewer = falls_first old new before after same
-      (let e : left_of after ≡ before.limit - (before.learned + 1 + before.answers)
-      = ap left_of paid in
+      (let e : left_of after
+      ≡ before.limit - after.waived - (before.learned + 1 + before.answers) = ap left_of paid in
       let low = one_if_le (new.policy).has_learned in omega arith);
 }
 

@@ -48,4 +48,8 @@ IsAnswer s p ls b Limit = IsSpent s p ls b
 abbrev pub PaysFor : {E : Type 0} → Result Outcome E → Given → List LogLine → List LogLine
     → BudgetState → BudgetState → Type 0
 PaysFor answer given before after old new = (n : ℕ) × Writes given before after n
-    × (new ≡ record old { learned = old.learned + n; answers = old.answers + answer_count answer })
+    × (new ≡ record old {
+      learned = old.learned + n;
+      answers = old.answers + answer_count answer;
+      waived = new.waived;
+    })

@@ -19,7 +19,7 @@ use Rattle.cdcl.specs.Solving.{IsLiveRefuted}
 -- what was written, and that a unit was paid for each learned line
 abbrev pub Pays : Given → List LogLine → List LogLine → BudgetState → BudgetState → Type 0
 Pays given before after old new = (n : ℕ) × Writes given before after n
-    × (new ≡ record old { learned = old.learned + n })
+    × (new ≡ record old { learned = old.learned + n; waived = new.waived })
 
 -- each variable has a value, no clause is false, and the answer can be paid for
 pub record IsSatisfied (s : Search) (p : Input) (ls : List LogLine)

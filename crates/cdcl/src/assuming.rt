@@ -12,7 +12,7 @@ ghost use Rattle.std.specs.Prelude.{Some, None, false};
 ghost use Rattle.propagate.specs.Trail.{literals_of, value_in};
 ghost use Rattle.propagate.specs.Fits.{IsFalseClause};
 ghost use Rattle.analyze.specs.Analyzer.{IsFixpoint};
-ghost use Rattle.cdcl_order.specs.Budgets.{left_of};
+ghost use Rattle.cdcl_order.specs.Budgets.{WaivesAs, left_of};
 ghost use Rattle.cdcl_search.specs.Invariant.{zero_of};
 ghost use Rattle.cdcl.specs.Solving.{IsLiveRefuted};
 ghost use Rattle.cdcl.specs.Turns.{IsPlain};
@@ -24,8 +24,8 @@ ghost use Rattle.cdcl.specs.declared.assuming.SearchEnd.TheVariants.{Refuted};
 
 use crate::budget::Budget;
 use crate::outcome::{Passed, Share};
-use crate::searching::refutes_at_once;
-use crate::watch::SearchWatch;
+use crate::searching::{pay_learned, refutes_at_once};
+use crate::watch::{SearchWatch, heed};
 use cdcl_search::cores::{Refusal, learn_core};
 use cdcl_search::input::Input;
 use cdcl_search::learning::learn;
@@ -192,6 +192,7 @@ pub(crate) fn run_assuming<S: Sink, W: SearchWatch>(
         → halt ≡ Refuted) }
     ensures plain { IfOk result (λ halt. IsPlain input.now → halt ≡ Refuted) }
     ensures same_seen { W.seen watch.new ≡ W.seen watch.old }
+    ensures waives { WaivesAs budget.old budget.new (W.waived watch.old) (W.waived watch.new) }
 {
     if refutes_at_once(search, input, sink)? {
         return Ok(SearchEnd::Refuted);
@@ -224,9 +225,11 @@ fn descend_assuming<S: Sink, W: SearchWatch>(
     ensures search { Halts result search.new input.now assumptions.now (S.lines sink.old)
         (S.lines sink.new) budget.old budget.new }
     ensures same_seen { W.seen watch.new ≡ W.seen watch.old }
+    ensures waives { WaivesAs budget.old budget.new (W.waived watch.old) (W.waived watch.new) }
 {
     let alloc = search.store.allocator();
     let mut progress = AssumptionProgress::new(alloc, assumptions.len(), share, passed)?;
+    heed(budget, watch);
     'rounds: loop {
         match round_assuming(
             search,
@@ -260,6 +263,7 @@ fn round_assuming<S: Sink, W: SearchWatch>(
     ensures turns { TurnsOrHalts result search.old search.new input.now assumptions.now
         (S.lines sink.old) (S.lines sink.new) budget.old budget.new }
     ensures same_seen { W.seen watch.new ≡ W.seen watch.old }
+    ensures waives { WaivesAs budget.old budget.new (W.waived watch.old) (W.waived watch.new) }
 {
     match search.propagate()? {
         Some(conflict) => learn_assuming(
@@ -295,6 +299,7 @@ fn learn_assuming<S: Sink, W: SearchWatch>(
     ensures turns { TurnsOrHalts result search.old search.new input.now assumptions.now
         (S.lines sink.old) (S.lines sink.new) budget.old budget.new }
     ensures same_seen { W.seen watch.new ≡ W.seen watch.old }
+    ensures waives { WaivesAs budget.old budget.new (W.waived watch.old) (W.waived watch.new) }
 {
     if search.engine.depth() == 0 {
         refute(search, input, sink, conflict)?;
@@ -307,8 +312,7 @@ fn learn_assuming<S: Sink, W: SearchWatch>(
         return Ok(Some(SearchEnd::Open));
     }
     learn(search, input, sink, conflict)?;
-    budget.count_learned();
-    watch.learned(&search.policy.report(budget));
+    pay_learned(search, budget, watch);
     progress.learned -= 1;
     progress.note_backtrack(search.engine.depth(), share);
     Ok(None)
@@ -327,8 +331,9 @@ fn decide_assuming<S: Sink>(
     requires runs { Runs search.old input.now (S.lines sink.old) }
     requires fixpoint { IsFixpoint search.old.store.slots (literals_of search.old.engine.trail) }
     requires known { AreKnown input.now.stack.variables assumptions.now }
-    ensures { TurnsOrHalts result search.old search.new input.now assumptions.now (S.lines sink.old)
-        (S.lines sink.new) budget.old budget.new }
+    ensures turns { TurnsOrHalts result search.old search.new input.now assumptions.now
+        (S.lines sink.old) (S.lines sink.new) budget.old budget.new }
+    ensures same_waived { budget.new.waived ≡ budget.old.waived }
 {
     if budget.left() == 0 {
         return Ok(Some(SearchEnd::Spent));
@@ -356,8 +361,9 @@ fn pass_and_choose<S: Sink>(
     requires noted { length (zero_of search.old.engine.trail) ≤ search.old.noted }
     requires known { AreKnown input.now.stack.variables assumptions.now }
     requires left { 0 < left_of budget.old }
-    ensures { TurnsOrHalts result search.old search.new input.now assumptions.now (S.lines sink.old)
-        (S.lines sink.new) budget.old budget.new }
+    ensures turns { TurnsOrHalts result search.old search.new input.now assumptions.now
+        (S.lines sink.old) (S.lines sink.new) budget.old budget.new }
+    ensures same_waived { budget.new.waived ≡ budget.old.waived }
 {
     pass_false(search, assumptions, progress)?;
     choose(search, input, sink, budget, assumptions, progress)
@@ -377,8 +383,9 @@ fn choose<S: Sink>(
     requires noted { length (zero_of search.old.engine.trail) ≤ search.old.noted }
     requires known { AreKnown input.now.stack.variables assumptions.now }
     requires left { 0 < left_of budget.old }
-    ensures { TurnsOrHalts result search.old search.new input.now assumptions.now (S.lines sink.old)
-        (S.lines sink.new) budget.old budget.new }
+    ensures turns { TurnsOrHalts result search.old search.new input.now assumptions.now
+        (S.lines sink.old) (S.lines sink.new) budget.old budget.new }
+    ensures same_waived { budget.new.waived ≡ budget.old.waived }
 {
     match decide_next(search, assumptions, progress) {
         Choice::Decided => {
@@ -503,8 +510,9 @@ fn halt_at<S: Sink>(
     requires small { falsified.variable ≤ search.old.engine.variables }
     requires falsified { value_in search.old.engine.trail falsified ≡ Some false }
     requires left { 0 < left_of budget.old }
-    ensures { Halts result search.new input.now assumptions.now (S.lines sink.old)
+    ensures halts { Halts result search.new input.now assumptions.now (S.lines sink.old)
         (S.lines sink.new) budget.old budget.new }
+    ensures same_waived { budget.new.waived ≡ budget.old.waived }
 {
     match search.refuse(assumptions, falsified)? {
         Refusal::Shown(core) => Ok(SearchEnd::Core(core)),

@@ -2,17 +2,18 @@
 // propagate, then learn from a conflict or decide. It restarts where its policy says so, which is
 // only after a clause was learned since it last did; so a search is bounded by its budget and the
 // variables without a value.
-ghost use Rattle.std.specs.Prelude.{◌≡◌, IfOk};
+ghost use Rattle.std.specs.Prelude.{◌≡◌, ◌+◌, ◌<◌, ◌≤◌, IfOk};
 ghost use Rattle.propagate.specs.Trail.{literals_of};
 ghost use Rattle.propagate.specs.Fits.{IsFalseClause};
 ghost use Rattle.analyze.specs.Analyzer.{IsFixpoint};
+ghost use Rattle.cdcl_order.specs.Budgets.{WaivesAs, left_of};
 ghost use Rattle.cdcl.specs.Solving.{IsLiveRefuted};
 ghost use Rattle.cdcl_search.specs.Running.{Runs};
 ghost use Rattle.cdcl.specs.Turns.{Ends, Turns, Opens};
 ghost use Rattle.cdcl.specs.declared.searching.End.TheVariants.{Refuted};
 
 use crate::budget::Budget;
-use crate::watch::SearchWatch;
+use crate::watch::{SearchWatch, heed};
 use cdcl_search::input::Input;
 use cdcl_search::learning::learn;
 use cdcl_search::noting::{note_level, refute};
@@ -49,6 +50,7 @@ pub(crate) fn run<S: Sink, W: SearchWatch>(
         (λ end. IsLiveRefuted input.now.given (S.lines sink.old)
         → end ≡ Refuted) }
     ensures same_seen { W.seen watch.new ≡ W.seen watch.old }
+    ensures waives { WaivesAs budget.old budget.new (W.waived watch.old) (W.waived watch.new) }
 {
     if refutes_at_once(search, input, sink)? {
         return Ok(End::Refuted);
@@ -89,7 +91,9 @@ fn descend<S: Sink, W: SearchWatch>(
     ensures search { Ends result search.new input.now (S.lines sink.old) (S.lines sink.new)
         budget.old budget.new }
     ensures same_seen { W.seen watch.new ≡ W.seen watch.old }
+    ensures waives { WaivesAs budget.old budget.new (W.waived watch.old) (W.waived watch.new) }
 {
+    heed(budget, watch);
     'rounds: loop {
         match round(search, input, sink, budget, watch)? {
             Some(end) => return Ok(end),
@@ -110,6 +114,7 @@ fn round<S: Sink, W: SearchWatch>(
     ensures turns { Turns result search.old search.new input.now (S.lines sink.old)
         (S.lines sink.new) budget.old budget.new }
     ensures same_seen { W.seen watch.new ≡ W.seen watch.old }
+    ensures waives { WaivesAs budget.old budget.new (W.waived watch.old) (W.waived watch.new) }
 {
     match search.propagate()? {
         Some(conflict) => on_conflict(search, input, sink, budget, watch, conflict),
@@ -131,6 +136,7 @@ fn on_conflict<S: Sink, W: SearchWatch>(
     ensures turns { Turns result search.old search.new input.now (S.lines sink.old)
         (S.lines sink.new) budget.old budget.new }
     ensures same_seen { W.seen watch.new ≡ W.seen watch.old }
+    ensures waives { WaivesAs budget.old budget.new (W.waived watch.old) (W.waived watch.new) }
 {
     if search.engine.depth() == 0 {
         refute(search, input, sink, conflict)?;
@@ -140,9 +146,25 @@ fn on_conflict<S: Sink, W: SearchWatch>(
         return Ok(Some(End::Spent));
     }
     learn(search, input, sink, conflict)?;
+    pay_learned(search, budget, watch);
+    Ok(None)
+}
+
+/// Counts a clause that was learned, shows the watch how far the search has come, and takes from
+/// the budget what it waives.
+pub(crate) fn pay_learned<W: SearchWatch>(search: &Search, budget: &mut Budget, watch: &mut W)
+    requires { 0 < left_of budget.old }
+    ensures pays { budget.new ≡ record budget.old {
+      learned = budget.old.learned + 1;
+      waived = budget.new.waived;
+    } }
+    ensures more { budget.old.waived ≤ budget.new.waived }
+    ensures same_seen { W.seen watch.new ≡ W.seen watch.old }
+    ensures waives { WaivesAs budget.old budget.new (W.waived watch.old) (W.waived watch.new) }
+{
     budget.count_learned();
     watch.learned(&search.policy.report(budget));
-    Ok(None)
+    heed(budget, watch);
 }
 
 /// Restarts or decides, if something is left of the budget. Clauses are deleted after a
@@ -151,12 +173,12 @@ fn on_fixpoint<S: Sink>(
     search: &mut Search,
     input: &Input,
     sink: &mut S,
-    budget: &mut Budget,
+    budget: &Budget,
 ) -> Result<Option<End>, AllocError>
     requires runs { Runs search.old input.now (S.lines sink.old) }
     requires fixpoint { IsFixpoint search.old.store.slots (literals_of search.old.engine.trail) }
     ensures { Turns result search.old search.new input.now (S.lines sink.old) (S.lines sink.new)
-        budget.old budget.new }
+        budget.now budget.now }
 {
     if budget.left() == 0 {
         return Ok(Some(End::Spent));

@@ -3,6 +3,7 @@ ghost use Rattle.std.specs.Prelude.{◌≡◌, true, false, [], ◌++◌, length
 ghost use Rattle.std.specs.Prelude.{OnErr, IsErr, ◌↔◌, ◌⊎◌, ◌<◌};
 ghost use Rattle.cnf.specs.Clause.{has_repeat, is_tautology};
 ghost use Rattle.lrat_log.specs.Steps.{IsLogOver, learned_count, IsShortLine};
+ghost use Rattle.cdcl_order.specs.Budgets.{WaivesAs};
 ghost use Rattle.cdcl.specs.declared.outcome.Outcome.TheVariants.{Unsat};
 ghost use Rattle.cdcl_search.specs.Running.{Runs, IsInput, StaysOpen};
 ghost use Rattle.cdcl.specs.Outcomes.{IsAnswer, PaysFor};
@@ -271,14 +272,15 @@ impl<S: Sink> Solver<S> {
     ///
     /// `Memory` where memory was refused: the lines are steps also then. `Failed` after that.
     pub fn solve(&mut self, budget: &mut Budget) -> Result<Outcome, SolveFault>
-        ensures { Solves result self.old self.new (S.lines self.old.sink) (S.lines self.new.sink)
-            budget.old budget.new }
+        ensures solves { Solves result self.old self.new (S.lines self.old.sink)
+            (S.lines self.new.sink) budget.old budget.new }
+        ensures same_waived { budget.new.waived ≡ budget.old.waived }
     {
         self.solve_watched(budget, &mut Unwatched)
     }
 
     /// As `solve`. The watch is told how far the search has come, each time that it has learned a
-    /// clause.
+    /// clause. The search ends also where it waives what is left of the budget.
     ///
     /// # Errors
     ///
@@ -291,6 +293,8 @@ impl<S: Sink> Solver<S> {
         ensures solves { Solves result self.old self.new (S.lines self.old.sink)
             (S.lines self.new.sink) budget.old budget.new }
         ensures same_seen { W.seen watch.new ≡ W.seen watch.old }
+        ensures waives { WaivesAs budget.old budget.new (W.waived watch.old)
+            (W.waived watch.new) }
     {
         if self.failed {
             return Err(SolveFault::Failed);
@@ -312,8 +316,8 @@ impl<S: Sink> Solver<S> {
         }
     }
 
-    /// Searches under assumptions until it has an answer, or the share or the budget is spent. Each
-    /// call begins at level 0, with what was learned before. The assumptions are decided first, in
+    /// Searches under assumptions until it has an answer, or the share or the budget is spent, or
+    /// the watch waives what is left of the budget. Each call begins at level 0, with what was learned before. The assumptions are decided first, in
     /// their order; they hold for this call alone. An answer with bits costs no unit of the budget;
     /// the clause of a core costs one, unless a live clause has no literals but its.
     ///
@@ -331,6 +335,8 @@ impl<S: Sink> Solver<S> {
         ensures solves { SolvesAssuming result self.old self.new assumptions.now
             (S.lines self.old.sink) (S.lines self.new.sink) budget.old budget.new }
         ensures same_seen { W.seen watch.new ≡ W.seen watch.old }
+        ensures waives { WaivesAs budget.old budget.new (W.waived watch.old)
+            (W.waived watch.new) }
     {
         let mut none = Passed::new(self.search.store.allocator(), 0);
         self.solve_passing(assumptions, share, &mut none, budget, watch)
@@ -355,6 +361,8 @@ impl<S: Sink> Solver<S> {
         ensures solves { SolvesAssuming result self.old self.new assumptions.now
             (S.lines self.old.sink) (S.lines self.new.sink) budget.old budget.new }
         ensures same_seen { W.seen watch.new ≡ W.seen watch.old }
+        ensures waives { WaivesAs budget.old budget.new (W.waived watch.old)
+            (W.waived watch.new) }
     {
         if self.failed {
             return Err(SolveFault::Failed);
@@ -417,6 +425,7 @@ fn answer_assuming<S: Sink, W: SearchWatch>(
         budget.old budget.new }
     ensures err { OnErr result (StaysOpen input.now (S.lines sink.new)) }
     ensures same_seen { W.seen watch.new ≡ W.seen watch.old }
+    ensures waives { WaivesAs budget.old budget.new (W.waived watch.old) (W.waived watch.new) }
 {
     let halt = run_assuming(
         search,
@@ -457,6 +466,7 @@ fn answer<S: Sink, W: SearchWatch>(
         budget.old budget.new }
     ensures err { OnErr result (StaysOpen input.now (S.lines sink.new)) }
     ensures same_seen { W.seen watch.new ≡ W.seen watch.old }
+    ensures waives { WaivesAs budget.old budget.new (W.waived watch.old) (W.waived watch.new) }
 {
     let end = run(search, input, sink, budget, watch)?;
     match end {

@@ -15,6 +15,7 @@ ghost use Rattle.cdcl.specs.Solving.{IsFrozen};
 ghost use Rattle.improve.specs.Bounds.{IsUsable, Gives, GivesAll};
 ghost use Rattle.improve.specs.Bounds.{IsOver, IsOverFixed, HasNoBound, IsNext, BoundLog};
 ghost use Rattle.improve.specs.Improving.{AreFalling, EndsWith, weaker_among};
+ghost use Rattle.cdcl_order.specs.Budgets.{WaivesAs};
 
 use crate::frozen::freeze_compared;
 use crate::solutions::{Solution, price};
@@ -162,6 +163,8 @@ impl Bounds {
             ≡ budget.old.learned + learned_count self.new.solver.sink }
         ensures limit { budget.new.limit ≡ budget.old.limit }
         ensures same_seen { W.seen watch.new ≡ W.seen watch.old }
+        ensures waives { WaivesAs budget.old budget.new (W.waived watch.old)
+            (W.waived watch.new) }
     {
         let Ok(outcome) = self.solver.solve_watched(budget, watch) else {
             return Err(AllocError);

@@ -15,6 +15,7 @@ ghost use Rattle.improve.specs.Standing.{IsStanding, IsEarlyWork, HasNoCores, Go
 ghost use Rattle.improve.specs.Standing.{IsCoreProof, AreFeasible, TriesCores, by_cores_count};
 ghost use Rattle.improve.specs.Watch.{AreShown};
 ghost use Rattle.improve_trials.specs.Trials.{IsShown};
+ghost use Rattle.cdcl_order.specs.Budgets.{WaivesAs};
 
 use crate::found::{ImproveFault, Work};
 use crate::progress::Progress;
@@ -60,6 +61,7 @@ pub fn refute_by_cores<T: Progress, W: Watch>(
     ensures follows { (first : T) → T.follows first progress.old → T.follows first progress.new }
     ensures shown { AreShown instance.now (T.state progress.old) (T.state progress.new)
         (W.seen watch.old) (W.seen watch.new) }
+    ensures waives { WaivesAs budget.old budget.new (W.waived watch.old) (W.waived watch.new) }
     ensures work { OnOk result (IsEarlyWork instance.now work.new) }
     ensures tries { TriesCores profile instance.now result
         (T.state progress.old) (T.state progress.new)
@@ -164,6 +166,7 @@ pub(crate) fn close_gap<T: Progress, W: Watch>(
     ensures follows { (first : T) → T.follows first progress.old → T.follows first progress.new }
     ensures shown { AreShown instance.now (T.state progress.old) (T.state progress.new)
         (W.seen watch.old) (W.seen watch.new) }
+    ensures waives { WaivesAs budget.old budget.new (W.waived watch.old) (W.waived watch.new) }
     ensures search { IsSearchFor instance.now search.new }
     ensures goes_on { OnOk result (GoesOn instance.now
         (T.state progress.old) (T.state progress.new)
@@ -207,6 +210,7 @@ fn note_model<T: Progress, W: Watch>(
     ensures follows { (first : T) → T.follows first progress.old → T.follows first progress.new }
     ensures shown { AreShown instance.now (T.state progress.old) (T.state progress.new)
         (W.seen watch.old) (W.seen watch.new) }
+    ensures waives { WaivesAs budget.old budget.new (W.waived watch.old) (W.waived watch.new) }
     ensures goes_on { OnOk result (GoesOn instance.now
         (T.state progress.old) (T.state progress.new)
         budget.old budget.new standing.old standing.new 0 0) }
@@ -249,6 +253,7 @@ pub(crate) fn refute<T: Progress, W: Watch>(
     ensures follows { (first : T) → T.follows first progress.old → T.follows first progress.new }
     ensures shown { AreShown instance.now (T.state progress.old) (T.state progress.new)
         (W.seen watch.old) (W.seen watch.new) }
+    ensures waives { WaivesAs budget.old budget.new (W.waived watch.old) (W.waived watch.new) }
     ensures work { OnOk result (IsEarlyWork instance.now work.new) }
     ensures search { OnOk result (work.new.search ≡ work.old.search) }
     ensures tries { TriesCores profile instance.now result
@@ -304,6 +309,7 @@ fn end_refutation<W: Watch>(
     ensures count { IfOk result (λ f. work_count work.new + by_cores_count f
         ≡ work_count work.old + learned_count by_cores.log) }
     ensures same_seen { W.seen watch.new ≡ W.seen watch.old }
+    ensures same_waived { W.waived watch.new ≡ W.waived watch.old }
 {
     watch.bounded(instance, &by_cores);
     if profile == Profile::Five && by_cores.worth == best {

@@ -5,7 +5,7 @@ ghost use Rattle.std.specs.Prelude.{ℕ, List, All, Ok, IfOk, IfErr, OnOk, OnErr
 ghost use Rattle.cnf.specs.Refute.{IsRefutedByHints};
 ghost use Rattle.lrat_log.specs.Steps.{IsAcceptedLog, AddsNoEmptyClause, learned_count};
 ghost use Rattle.bound.specs.Bound.{hard_cnf};
-ghost use Rattle.cdcl_order.specs.Budgets.{BudgetState};
+ghost use Rattle.cdcl_order.specs.Budgets.{BudgetState, WaivesAs};
 ghost use Rattle.cdcl_order.specs.Watch.{Better, with_seen};
 ghost use Rattle.cdcl.specs.Solving.{given_to};
 ghost use Rattle.improve.specs.Improving.{Improves, IsHardLog, IsRightFound, IsSolution, OnWork};
@@ -55,6 +55,7 @@ pub fn improve<T: Progress>(
     ensures improves { Improves Profile.One instance.now result
         (T.state progress.old) (T.state progress.new)
         budget.old budget.new }
+    ensures same_waived { budget.new.waived ≡ budget.old.waived }
 {
     improve_as(instance, budget, progress, Profile::One)
 }
@@ -75,6 +76,7 @@ pub fn improve_as<T: Progress>(
     ensures improves { Improves profile instance.now result
         (T.state progress.old) (T.state progress.new)
         budget.old budget.new }
+    ensures same_waived { budget.new.waived ≡ budget.old.waived }
 {
     improve_watched(instance, budget, progress, profile, &mut Unwatched)
 }
@@ -96,6 +98,7 @@ pub fn improve_watched<T: Progress, W: Watch>(
     ensures follows { (first : T) → T.follows first progress.old → T.follows first progress.new }
     ensures shown { AreShown instance.now (T.state progress.old) (T.state progress.new)
         (W.seen watch.old) (W.seen watch.new) }
+    ensures waives { WaivesAs budget.old budget.new (W.waived watch.old) (W.waived watch.new) }
     ensures improves { Improves profile instance.now result
         (T.state progress.old) (T.state progress.new)
         budget.old budget.new }
@@ -147,6 +150,7 @@ pub fn improve_from<T: Progress, W: Watch>(
     ensures follows { (first : T) → T.follows first progress.old → T.follows first progress.new }
     ensures shown { AreShown instance.now (T.state progress.old) (T.state progress.new)
         (W.seen watch.old) (W.seen watch.new) }
+    ensures waives { WaivesAs budget.old budget.new (W.waived watch.old) (W.waived watch.new) }
     ensures improves { Improves profile instance.now result
         (T.state progress.old) (T.state progress.new)
         budget.old budget.new }
@@ -206,6 +210,7 @@ fn lower<T: Progress, W: Watch>(
     ensures follows { (first : T) → T.follows first progress.old → T.follows first progress.new }
     ensures shown { AreShown instance.now (T.state progress.old) (T.state progress.new)
         (W.seen watch.old) (W.seen watch.new) }
+    ensures waives { WaivesAs budget.old budget.new (W.waived watch.old) (W.waived watch.new) }
 
     // From before the search over the hard clauses.
     ensures improves { (before : BudgetState) → PaysForHard before budget.old hard
@@ -253,6 +258,7 @@ fn go_on<T: Progress, W: Watch>(
     ensures follows { (first : T) → T.follows first progress.old → T.follows first progress.new }
     ensures shown { AreShown instance.now (T.state progress.old) (T.state progress.new)
         (W.seen watch.old) (W.seen watch.new) }
+    ensures waives { WaivesAs budget.old budget.new (W.waived watch.old) (W.waived watch.new) }
     ensures ends { Ends profile instance.now result
         (T.state progress.old) (T.state progress.new)
         budget.old budget.new standing (work_count work) }
@@ -296,6 +302,7 @@ fn lower_by_bounds<T: Progress, W: Watch>(
     ensures follows { (first : T) → T.follows first progress.old → T.follows first progress.new }
     ensures shown { AreShown instance.now (T.state progress.old) (T.state progress.new)
         (W.seen watch.old) (W.seen watch.new) }
+    ensures waives { WaivesAs budget.old budget.new (W.waived watch.old) (W.waived watch.new) }
     ensures ends { Ends profile instance.now result
         (T.state progress.old) (T.state progress.new)
         budget.old budget.new standing (work_count work) }
@@ -362,6 +369,7 @@ fn tighten<T: Progress, W: Watch>(
     ensures follows { (first : T) → T.follows first progress.old → T.follows first progress.new }
     ensures shown { AreShown instance.now (T.state progress.old) (T.state progress.new)
         (W.seen watch.old) (W.seen watch.new) }
+    ensures waives { WaivesAs budget.old budget.new (W.waived watch.old) (W.waived watch.new) }
     ensures ends { Ends bounds.old.profile instance.now result
         (T.state progress.old) (T.state progress.new)
         budget.old budget.new
@@ -401,6 +409,7 @@ fn descend<T: Progress, W: Watch>(
     ensures follows { (first : T) → T.follows first progress.old → T.follows first progress.new }
     ensures shown { AreShown instance.now (T.state progress.old) (T.state progress.new)
         (W.seen watch.old) (W.seen watch.new) }
+    ensures waives { WaivesAs budget.old budget.new (W.waived watch.old) (W.waived watch.new) }
     ensures over { OnOk result (IsOver instance.now bounds.new) }
     ensures profile { OnOk result (bounds.new.profile ≡ bounds.old.profile) }
     ensures descends { OnOk result (Descends instance.now
@@ -449,6 +458,7 @@ pub fn tell<T: Progress, W: Watch>(
     ensures shown { W.seen watch.new
         ≡ with_seen (Better instance.now solution.now.cost solution.now.bits.items ∷ [])
         (W.seen watch.old) }
+    ensures same_waived { W.waived watch.new ≡ W.waived watch.old }
 {
     watch.better(instance, solution.cost, &solution.bits);
     progress.improved(solution.cost)

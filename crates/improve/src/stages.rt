@@ -10,6 +10,7 @@ ghost use Rattle.improve.specs.Improving.{work_count};
 ghost use Rattle.improve.specs.Progress.{CanFail};
 ghost use Rattle.improve.specs.Standing.{IsStanding, IsEarlyWork, TriesCores};
 ghost use Rattle.improve.specs.Watch.{AreShown};
+ghost use Rattle.cdcl_order.specs.Budgets.{WaivesAs};
 
 use crate::by_cores::{close_gap, refute, take_cores};
 use crate::found::{ImproveFault, Work};
@@ -88,6 +89,7 @@ pub(crate) fn run_stages<T: Progress, W: Watch>(
     ensures follows { (first : T) → T.follows first progress.old → T.follows first progress.new }
     ensures shown { AreShown instance.now (T.state progress.old) (T.state progress.new)
         (W.seen watch.old) (W.seen watch.new) }
+    ensures waives { WaivesAs budget.old budget.new (W.waived watch.old) (W.waived watch.new) }
     ensures work { OnOk result (IsEarlyWork instance.now work.new) }
     ensures same { OnOk result (work.new.search ≡ work.old.search) }
     ensures search { IsSearchFor instance.now search.new }
@@ -134,6 +136,7 @@ fn run_stage<T: Progress, W: Watch>(
     ensures follows { (first : T) → T.follows first progress.old → T.follows first progress.new }
     ensures shown { AreShown instance.now (T.state progress.old) (T.state progress.new)
         (W.seen watch.old) (W.seen watch.new) }
+    ensures waives { WaivesAs budget.old budget.new (W.waived watch.old) (W.waived watch.new) }
     ensures work { OnOk result (IsEarlyWork instance.now work.new) }
     ensures same { OnOk result (work.new.search ≡ work.old.search) }
     ensures search { IsSearchFor instance.now search.new }

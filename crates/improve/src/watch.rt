@@ -10,14 +10,15 @@ use cdcl::watch::Unwatched;
 use cnf::types::Instance;
 use improve_trials::found::ByCores;
 
-/// Looks on while a search runs, and is told how far it has come. It cannot stop the search, and no
-/// failure of it is one of the search.
+/// Looks on while a search runs, and is told how far it has come. It stops the search only as it
+/// waives what is left of the budget, and no failure of it is one of the search.
 pub trait Watch: improve_cores::watch::CoreWatch {
     /// Is shown a solution that is cheaper than those before, and what it costs, below 2^62.
     fn better(&mut self, instance: &Instance, cost: u64, bits: &[bool])
         requires { IsSolution instance.now bits.now cost }
         ensures shown { Self.seen self.new
-            ≡ with_seen (Better instance.now cost bits.now ∷ []) (Self.seen self.old) };
+            ≡ with_seen (Better instance.now cost bits.now ∷ []) (Self.seen self.old) }
+        ensures same_waived { Self.waived self.new ≡ Self.waived self.old };
 
     /// Whether it wants lower bounds that are proved: then cores are looked for in each profile,
     /// and for longer.
@@ -26,7 +27,8 @@ pub trait Watch: improve_cores::watch::CoreWatch {
     /// Is shown a proof that no solution costs less than `proof.worth`.
     fn bounded(&mut self, instance: &Instance, proof: &ByCores)
         requires { IsCoreProof instance.now proof.now.worth proof.now }
-        ensures same_seen { Self.seen self.new ≡ Self.seen self.old };
+        ensures same_seen { Self.seen self.new ≡ Self.seen self.old }
+        ensures same_waived { Self.waived self.new ≡ Self.waived self.old };
 }
 
 impl Watch for Unwatched {

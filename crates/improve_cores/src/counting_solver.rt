@@ -13,6 +13,7 @@ ghost use Rattle.improve_cores.specs.CoreWork.{CountsBeyond, IsSearchFor, IsWork
 ghost use Rattle.improve_cores.specs.CoreWork.{KeepsClauses, CountsLearned};
 ghost use Rattle.improve_cores.specs.Counting.{IsAddable, IsBetween, GivesOnly, IsAnswerOf};
 ghost use Rattle.improve_cores.specs.Work.{IsSearchWork};
+ghost use Rattle.cdcl_order.specs.Budgets.{WaivesAs};
 
 use crate::frozen::freeze_after;
 use crate::trees::literal;
@@ -140,6 +141,8 @@ impl CountingSolver {
         ensures answer { IfOk result (IsAnswerOf self.new) }
         ensures learned { CountsLearned self.old.lines self.new.lines budget.old budget.new }
         ensures same_seen { W.seen watch.new ≡ W.seen watch.old }
+        ensures waives { WaivesAs budget.old budget.new (W.waived watch.old)
+            (W.waived watch.new) }
     {
         let mut none = Passed::new(self.allocator(), 0);
         self.assume_passing(assumptions, share, &mut none, budget, watch)
@@ -162,6 +165,8 @@ impl CountingSolver {
         ensures answer { IfOk result (IsAnswerOf self.new) }
         ensures learned { CountsLearned self.old.lines self.new.lines budget.old budget.new }
         ensures same_seen { W.seen watch.new ≡ W.seen watch.old }
+        ensures waives { WaivesAs budget.old budget.new (W.waived watch.old)
+            (W.waived watch.new) }
     {
         match literal(variable, true) {
             Some(lit) => self.assume(&[lit], share, budget, watch),
@@ -187,6 +192,8 @@ impl CountingSolver {
         ensures answer { IfOk result (IsAnswerOf self.new) }
         ensures learned { CountsLearned self.old.lines self.new.lines budget.old budget.new }
         ensures same_seen { W.seen watch.new ≡ W.seen watch.old }
+        ensures waives { WaivesAs budget.old budget.new (W.waived watch.old)
+            (W.waived watch.new) }
     {
         let are_assumable = are_between(assumptions, self.free, self.last);
         let some: &[Lit] = if are_assumable { assumptions } else { &[] };

@@ -31,6 +31,7 @@ ghost use Rattle.improve_cores.specs.CoreWork.{CountsLearned};
 ghost use Rattle.improve_cores.specs.Counting.{GivesOnly, IsAnswerOf};
 ghost use Rattle.improve_cores.specs.Events.{AreRightCores, IsEventOf, IsStepOf};
 ghost use Rattle.improve_cores.specs.Work.{IsSearchWork};
+ghost use Rattle.cdcl_order.specs.Budgets.{WaivesAs};
 
 use crate::checked::{at, narrow};
 use crate::counted::{CountedCores, count_found};
@@ -200,6 +201,8 @@ impl CoreSearch {
         ensures event { IfOk result (IsEventOf self.new) }
         ensures learned { CountsLearned self.old.lines self.new.lines budget.old budget.new }
         ensures same_seen { W.seen watch.new ≡ W.seen watch.old }
+        ensures waives { WaivesAs budget.old budget.new (W.waived watch.old)
+            (W.waived watch.new) }
     {
         for _ in 0..u64::MAX {
             if self.policy.lower >= best {
@@ -227,6 +230,8 @@ impl CoreSearch {
         ensures step { IfOk result (IsStepOf self.new) }
         ensures learned { CountsLearned self.old.lines self.new.lines budget.old budget.new }
         ensures same_seen { W.seen watch.new ≡ W.seen watch.old }
+        ensures waives { WaivesAs budget.old budget.new (W.waived watch.old)
+            (W.waived watch.new) }
     {
         let before = budget.learned();
         self.policy.assume_stratum(&mut self.assumptions)?;
@@ -254,6 +259,8 @@ impl CoreSearch {
         ensures step { IfOk result (IsStepOf self.new) }
         ensures learned { CountsLearned self.old.lines self.new.lines budget.old budget.new }
         ensures same_seen { W.seen watch.new ≡ W.seen watch.old }
+        ensures waives { WaivesAs budget.old budget.new (W.waived watch.old)
+            (W.waived watch.new) }
     {
         match found {
             Assumed::Sat(bits) => {
@@ -292,6 +299,8 @@ impl CoreSearch {
         ensures clauses { KeepsClauses self.old self.new }
         ensures learned { CountsLearned self.old.lines self.new.lines budget.old budget.new }
         ensures same_seen { W.seen watch.new ≡ W.seen watch.old }
+        ensures waives { WaivesAs budget.old budget.new (W.waived watch.old)
+            (W.waived watch.new) }
     {
         for core in cores.iter() {
             if self.policy.share > 0 && self.policy.are_listed(core) {
@@ -311,6 +320,8 @@ impl CoreSearch {
         ensures clauses { KeepsClauses self.old self.new }
         ensures learned { CountsLearned self.old.lines self.new.lines budget.old budget.new }
         ensures same_seen { W.seen watch.new ≡ W.seen watch.old }
+        ensures waives { WaivesAs budget.old budget.new (W.waived watch.old)
+            (W.waived watch.new) }
     {
         let before = budget.learned();
         let inputs = variables_of(core, self.solver.allocator())?;

@@ -6,6 +6,7 @@
 // (`DECISIONS`) gain.
 ghost use Rattle.std.specs.Prelude.{◌≡◌};
 ghost use Rattle.improve_cores.specs.CoreWork.{CountsLearned, KeepsClauses};
+ghost use Rattle.cdcl_order.specs.Budgets.{WaivesAs};
 
 use crate::checked::{at, set};
 use crate::counting_solver::CountingSolver;
@@ -47,6 +48,7 @@ pub(crate) fn shorten<W: SearchWatch>(
     ensures clauses { KeepsClauses solver.old solver.new }
     ensures learned { CountsLearned solver.old.lines solver.new.lines budget.old budget.new }
     ensures same_seen { W.seen watch.new ≡ W.seen watch.old }
+    ensures waives { WaivesAs budget.old budget.new (W.waived watch.old) (W.waived watch.new) }
 {
     let again = search_again(core, items, solver, budget, watch)?;
     leave_out_each(again, items, solver, budget, watch)
@@ -64,6 +66,7 @@ fn search_again<W: SearchWatch>(
     ensures clauses { KeepsClauses solver.old solver.new }
     ensures learned { CountsLearned solver.old.lines solver.new.lines budget.old budget.new }
     ensures same_seen { W.seen watch.new ≡ W.seen watch.old }
+    ensures waives { WaivesAs budget.old budget.new (W.waived watch.old) (W.waived watch.new) }
 {
     let share = Share {
         learned: AGAIN_CONFLICTS,
@@ -94,6 +97,7 @@ fn leave_out_each<W: SearchWatch>(
     ensures clauses { KeepsClauses solver.old solver.new }
     ensures learned { CountsLearned solver.old.lines solver.new.lines budget.old budget.new }
     ensures same_seen { W.seen watch.new ≡ W.seen watch.old }
+    ensures waives { WaivesAs budget.old budget.new (W.waived watch.old) (W.waived watch.new) }
 {
     let share = Share {
         learned: WITHOUT_ONE,
@@ -152,6 +156,7 @@ fn find_core<W: SearchWatch>(
     ensures clauses { KeepsClauses solver.old solver.new }
     ensures learned { CountsLearned solver.old.lines solver.new.lines budget.old budget.new }
     ensures same_seen { W.seen watch.new ≡ W.seen watch.old }
+    ensures waives { WaivesAs budget.old budget.new (W.waived watch.old) (W.waived watch.new) }
 {
     let mut assumptions = Vec::with_capacity(solver.allocator(), variables.len())?;
     for (place, variable) in variables.iter().enumerate() {

@@ -7,6 +7,7 @@ ghost use Rattle.bound.specs.Bound.{core_cnf};
 ghost use Rattle.improve_cores.specs.CoreWork.{AreStepsOver, CountsLearned, KeepsClauses};
 ghost use Rattle.improve_cores.specs.Events.{AreRightCores};
 ghost use Rattle.improve_trials.specs.Refuting.{IsEndOf};
+ghost use Rattle.cdcl_order.specs.Budgets.{WaivesAs};
 
 use bound::formulas::formula_of_cores;
 use cdcl::budget::Budget;
@@ -107,6 +108,8 @@ impl Refutation {
         ensures end { IfOk result (IsEndOf self.new) }
         ensures learned { CountsLearned self.old.lines self.new.lines budget.old budget.new }
         ensures same_seen { W.seen watch.new ≡ W.seen watch.old }
+        ensures waives { WaivesAs budget.old budget.new (W.waived watch.old)
+            (W.waived watch.new) }
     {
         let start = budget.learned();
         let are_all = guide(&mut self.solver, firsts, effort, shown, budget, watch)?;
@@ -152,6 +155,7 @@ fn guide<W: SearchWatch>(
     ensures clauses { KeepsClauses solver.old solver.new }
     ensures learned { CountsLearned solver.old.lines solver.new.lines budget.old budget.new }
     ensures same_seen { W.seen watch.new ≡ W.seen watch.old }
+    ensures waives { WaivesAs budget.old budget.new (W.waived watch.old) (W.waived watch.new) }
 {
     let start = budget.learned();
     let mut are_all = true;

@@ -6,6 +6,7 @@ ghost use Rattle.improve_trials.specs.Trials.{IsCoreRefutation, IsAttempt, IsTri
 ghost use Rattle.lrat_log.specs.Steps.{learned_count};
 ghost use Rattle.improve_trials.specs.Trials.{IsTrial, attempt_lines, end_lines, tried_count};
 ghost use Rattle.improve_trials.specs.Trials.{ShowsMore, TrialShowsMore};
+ghost use Rattle.cdcl_order.specs.Budgets.{WaivesAs};
 
 use crate::found::{Attempt, ByCores, CoreRefutation};
 use crate::leaving::keep_shown;
@@ -67,6 +68,7 @@ pub fn refute<W: SearchWatch>(
     ensures answers { budget.new.answers ≡ budget.old.answers }
     ensures limit { budget.new.limit ≡ budget.old.limit }
     ensures same_seen { W.seen watch.new ≡ W.seen watch.old }
+    ensures waives { WaivesAs budget.old budget.new (W.waived watch.old) (W.waived watch.new) }
 {
     let mut left = counted;
     for _ in 0..ROUNDS {
@@ -97,6 +99,7 @@ fn try_once<W: SearchWatch>(
     ensures answers { budget.new.answers ≡ budget.old.answers }
     ensures limit { budget.new.limit ≡ budget.old.limit }
     ensures same_seen { W.seen watch.new ≡ W.seen watch.old }
+    ensures waives { WaivesAs budget.old budget.new (W.waived watch.old) (W.waived watch.new) }
 {
     let mut shown = Vec::new(instance.allocator());
     let Some(trial) = make_trial(instance, aim, &counted, &mut shown, budget, watch)? else {

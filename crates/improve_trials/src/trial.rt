@@ -3,6 +3,7 @@ ghost use Rattle.std.specs.Prelude.{◌≡◌, ◌+◌, ◌<◌, IfOk, IfSome};
 ghost use Rattle.lrat_log.specs.Steps.{learned_count};
 ghost use Rattle.improve_cores.specs.Events.{AreRightCores};
 ghost use Rattle.improve_trials.specs.Trials.{IsTrial, trial_lines};
+ghost use Rattle.cdcl_order.specs.Budgets.{WaivesAs};
 
 use crate::refuting::{Effort, Refutation, Refuted};
 use crate::rounds::Aim;
@@ -56,6 +57,7 @@ pub(crate) fn make_trial<W: SearchWatch>(
     ensures answers { budget.new.answers ≡ budget.old.answers }
     ensures limit { budget.new.limit ≡ budget.old.limit }
     ensures same_seen { W.seen watch.new ≡ W.seen watch.old }
+    ensures waives { WaivesAs budget.old budget.new (W.waived watch.old) (W.waived watch.new) }
 {
     instance.limits();
     let weight = counted.counter.weight();

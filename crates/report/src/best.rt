@@ -20,13 +20,15 @@ use text::output::WriteFault;
 pub trait RunWatch: Watch {
     /// The search is over with this, and nothing of its end is written yet.
     fn searched(&mut self, found: &Found)
-        ensures same_seen { Self.seen self.new ≡ Self.seen self.old };
+        ensures same_seen { Self.seen self.new ≡ Self.seen self.old }
+        ensures same_waived { Self.waived self.new ≡ Self.waived self.old };
 
     /// Is shown what was found, once the result and the certificate are written and flushed.
     fn ended(&mut self, instance: &Instance, found: &Found)
         requires { IsFound instance.now found.now }
         ensures shown { Self.seen self.new
-            ≡ with_seen (end_of instance.now found.now ∷ []) (Self.seen self.old) };
+            ≡ with_seen (end_of instance.now found.now ∷ []) (Self.seen self.old) }
+        ensures same_waived { Self.waived self.new ≡ Self.waived self.old };
 }
 
 impl RunWatch for Unwatched {

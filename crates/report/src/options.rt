@@ -22,8 +22,8 @@ line 'v' comes last, with a bit, 0 or 1, for each variable.
 Statuses:
   30  s OPTIMUM FOUND    the bits cost the last COST, and nothing is cheaper
   20  s UNSATISFIABLE    no assignment satisfies the hard clauses
-  10  s SATISFIABLE      the effort ran out; the bits cost the last COST
-   0  s UNKNOWN          the effort ran out before any solution was found
+  10  s SATISFIABLE      the effort or the time ran out; the bits cost COST
+   0  s UNKNOWN          it ran out before any solution was found
    1  NO and the fault   the RESULT of --from is not correct for FILE
    2  FILE or the command line is faulty
    3  a file cannot be opened, read or written, or memory ran out
@@ -236,6 +236,12 @@ const CONFLICTS_HELP: &str = "\
 The effort: at most N learned clauses and solutions in all. Time and
 memory grow with N. The same N always gives the same answer";
 
+const TIME_LIMIT_HELP: &str = "\
+Ends the search after S seconds, such as 60 or 2.5, as if its effort
+were spent: with the best solution so far. S counts from the start of
+the program and must be above 0. The end may come some seconds later:
+FILE is read and prepared first, and the result is written";
+
 const PROOF_HELP: &str = "\
 Writes the LRAT certificate to PATH at the end of the search. PATH is
 created or emptied before the search. It cannot be FILE or RESULT";
@@ -316,6 +322,9 @@ pub const COST: &str = "COST";
 
 /// The greatest effort of a search.
 pub const CONFLICTS_OPTION: &str = "conflicts";
+
+/// How many seconds a search may take.
+pub const TIME_LIMIT_OPTION: &str = "time-limit";
 
 /// The file that the certificate is written to.
 pub const PROOF_OPTION: &str = "proof";
@@ -430,13 +439,20 @@ const PROFILE: Parameter<'static> = Parameter {
 };
 
 /// What `wmax solve` takes.
-const SOLVE_PARAMETERS: [Parameter<'static>; 8] = [
+const SOLVE_PARAMETERS: [Parameter<'static>; 9] = [
     Parameter {
         id: CONFLICTS_OPTION,
         form: ParameterForm::Option("N"),
         values: ValueParser::Unsigned(0, MOST_CONFLICTS),
         default: &["1000000000"],
         help: CONFLICTS_HELP,
+    },
+    Parameter {
+        id: TIME_LIMIT_OPTION,
+        form: ParameterForm::Option("S"),
+        values: ValueParser::Float,
+        default: &[],
+        help: TIME_LIMIT_HELP,
     },
     Parameter {
         id: PROOF_OPTION,

@@ -6,6 +6,7 @@ ghost use Rattle.improve.specs.Standing.{AreFeasible};
 ghost use Rattle.improve.specs.Watch.{AreShown};
 ghost use Rattle.report.specs.Running.{EndsAs, ReadsOnlyAs, Leaves, Searches, outcome_of};
 ghost use Rattle.report.specs.Seen.{IsSeenAs, IsShownFor};
+ghost use Rattle.cdcl_order.specs.Budgets.{WaivesAs};
 
 use crate::answering::write_answer;
 use crate::best::RunWatch;
@@ -62,6 +63,7 @@ pub fn run<R: Read, O: Write, P: Write>(
         (O.contents out.old) (O.contents out.new) (P.contents proof.old) (P.contents proof.new)
         budget.new) }
     ensures same_limit { budget.new.limit ≡ budget.old.limit }
+    ensures same_waived { budget.new.waived ≡ budget.old.waived }
 {
     run_as(alloc, input, budget, out, proof, Profile::One)
 }
@@ -88,6 +90,7 @@ pub fn run_as<R: Read, O: Write, P: Write>(
         (O.contents out.old) (O.contents out.new) (P.contents proof.old) (P.contents proof.new)
         budget.new) }
     ensures same_limit { budget.new.limit ≡ budget.old.limit }
+    ensures same_waived { budget.new.waived ≡ budget.old.waived }
 {
     run_watched(alloc, input, budget, out, proof, profile, &mut Unwatched)
 }
@@ -118,6 +121,7 @@ pub fn run_watched<R: Read, O: Write, P: Write, K: RunWatch>(
     ensures seen { IfOk result (λ status. IsSeenAs profile (R.remaining input.old)
         (O.contents out.old) (O.contents out.new) status
         (K.seen watch.old) (K.seen watch.new)) }
+    ensures waives { WaivesAs budget.old budget.new (K.waived watch.old) (K.waived watch.new) }
 {
     run_from(alloc, input, None, budget, out, proof, profile, watch)
 }
@@ -148,6 +152,7 @@ pub fn run_from<R: Read, O: Write, P: Write, K: RunWatch>(
     ensures seen { IfOk result (λ status. IsSeenAs profile (R.remaining input.old)
         (O.contents out.old) (O.contents out.new) status
         (K.seen watch.old) (K.seen watch.new)) }
+    ensures waives { WaivesAs budget.old budget.new (K.waived watch.old) (K.waived watch.new) }
 {
     let instance = read_from(alloc, input)?;
     run_on(alloc, &instance, start, budget, out, proof, profile, watch)
@@ -174,6 +179,7 @@ fn run_on<O: Write, P: Write, K: RunWatch>(
     ensures seen { (text : Option (List ℕ)) → ReadsOnlyAs text instance.now
         → IfOk result (λ status. IsSeenAs profile text (O.contents out.old) (O.contents out.new)
         status (K.seen watch.old) (K.seen watch.new)) }
+    ensures waives { WaivesAs budget.old budget.new (K.waived watch.old) (K.waived watch.new) }
 {
     instance.limits();
     let found = find_best(alloc, instance, start, budget, out, profile, watch)?;
@@ -202,6 +208,7 @@ fn find_best<O: Write, K: RunWatch>(
     ensures shown { IfOk result (λ found. IsShownFor profile instance.now found
         (O.contents out.old) (O.contents out.new)
         (K.seen watch.old) (K.seen watch.new)) }
+    ensures waives { WaivesAs budget.old budget.new (K.waived watch.old) (K.waived watch.new) }
 {
     instance.limits();
     let mut told = Told::new(alloc, out);
@@ -228,6 +235,7 @@ fn search<T: Progress, K: RunWatch>(
         budget.old budget.new }
     ensures shown { AreShown instance.now (T.state progress.old) (T.state progress.new)
         (K.seen watch.old) (K.seen watch.new) }
+    ensures waives { WaivesAs budget.old budget.new (K.waived watch.old) (K.waived watch.new) }
 {
     match start {
         Some(bits) => {

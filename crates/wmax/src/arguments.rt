@@ -3,6 +3,7 @@ use clap::ArgMatches;
 use report::options::{
     BEST_OPTION, CHECK, CONFLICTS_OPTION, COST, ENCODE, EXPLAIN, FILE, FROM_OPTION, LOWER,
     LOWER_OPTION, PROFILE_OPTION, PROGRESS_OPTION, PROOF, PROOF_OPTION, RESULT, SOLVE,
+    TIME_LIMIT_OPTION,
 };
 
 /// A command with its files and options.
@@ -27,6 +28,8 @@ pub struct SolveRequest<'a> {
     pub text: &'a str,
     /// The greatest effort, at most 2^62.
     pub limit: u64,
+    /// How many seconds the run may take, if it is limited.
+    pub seconds: Option<f64>,
     /// The name of the profile, where one is named.
     pub profile: Option<&'a str>,
     /// Where the certificate is written.
@@ -108,6 +111,7 @@ impl<'a> SolveRequest<'a> {
         Some(SolveRequest {
             text: matches.get_str(FILE)?,
             limit: matches.get_one::<u64>(CONFLICTS_OPTION)?,
+            seconds: matches.get_one::<f64>(TIME_LIMIT_OPTION),
             profile: matches.get_str(PROFILE_OPTION),
             proof: matches.get_str(PROOF_OPTION),
             best: matches.get_str(BEST_OPTION),

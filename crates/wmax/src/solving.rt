@@ -12,7 +12,10 @@ use report::options::MOST_CONFLICTS;
 use report::running::run_from;
 use std::alloc::Global;
 use std::io::{self, Read, Write};
+use std::num::saturating_f64_to_u64;
 use std::rt::{Clock, Env, Files};
+use std::time::Duration;
+use wmax_onlooker::alarm::{Alarm, Deadline};
 use wmax_onlooker::bounding::{Bounder, LowerPaths};
 use wmax_onlooker::file_id::{FileId, empty, find_file_id, open_proof};
 use wmax_onlooker::keeper::{BestPaths, Keeper};
@@ -23,6 +26,9 @@ use wmax_onlooker::standard_output::standard_output;
 
 /// What is said of a profile that no search writes.
 const NO_CUTS: &str = "error: solve does not write certificates of profile 3";
+
+/// What is said of a time that is none.
+const NO_TIME: &str = "error: --time-limit takes a number of seconds above 0";
 
 /// FILE is opened, then RESULT, if the search begins with one: that is judged by FILE, all of which
 /// is in memory then. Then the files of the best lower bound and of the best solution are looked
@@ -42,8 +48,37 @@ pub fn solve<'a, R: Files + AllocGlobal + Print + Env + Clock, E: Write>(
         }
         Err(why) => return refuse_profile(messages, why),
     };
+    let Some(limit) = limit_of(request.seconds) else {
+        let _ = writeln!(messages.below(), "{NO_TIME}");
+        return Ok(2);
+    };
+    let plan = Plan {
+        profile,
+        deadline: Deadline::start(rt, limit),
+    };
     let file = open(rt, request.text)?;
-    Ok(solve_file(rt, messages, *request, profile, file))
+    Ok(solve_file(rt, messages, *request, plan, file))
+}
+
+/// How a search goes.
+#[derive(Clone, Copy, Drop)]
+struct Plan {
+    /// How its certificate shows that nothing is cheaper.
+    profile: Profile,
+    /// How long it may take.
+    deadline: Deadline,
+}
+
+/// The limit that so many seconds are, to a thousandth of one; None where they are not above 0.
+fn limit_of(seconds: Option<f64>) -> Option<Option<Duration>> {
+    let Some(seconds) = seconds else {
+        return Some(None);
+    };
+    if !(seconds > 0.0) {
+        return None;
+    }
+    let millis = saturating_f64_to_u64((seconds * 1000.0).round());
+    Some(Some(Duration::from_millis(millis.max(1))))
 }
 
 /// Solves this file; the exit status.
@@ -51,12 +86,12 @@ fn solve_file<'a, R: Files + AllocGlobal + Print + Clock, E: Write>(
     rt: &'a R,
     messages: &mut Messages<'_, E>,
     request: SolveRequest<'a>,
-    profile: Profile,
+    plan: Plan,
     file: R::File,
 ) -> u8 {
     let mut inputs = Inputs::of_file(file);
     let ended = match prepare(rt, request, &mut inputs) {
-        Ok(read) => solve_into(rt, messages, request, profile, &mut inputs, read),
+        Ok(read) => solve_into(rt, messages, request, plan, &mut inputs, read),
         Err(refused) => tell_refused(rt, messages, refused),
     };
     match ended {
@@ -72,7 +107,7 @@ fn solve_into<'a, R: Files + AllocGlobal + Print + Clock, E: Write>(
     rt: &'a R,
     messages: &mut Messages<'_, E>,
     request: SolveRequest<'a>,
-    profile: Profile,
+    plan: Plan,
     inputs: &mut Inputs<'a, R::File>,
     read: [FileId; 2],
 ) -> Result<u8, Fault<'a>> {
@@ -84,7 +119,7 @@ fn solve_into<'a, R: Files + AllocGlobal + Print + Clock, E: Write>(
                     rt,
                     messages,
                     request,
-                    profile,
+                    plan,
                     inputs,
                     &mut io::sink(),
                     keepers,
@@ -95,7 +130,7 @@ fn solve_into<'a, R: Files + AllocGlobal + Print + Clock, E: Write>(
     };
     match open_outputs(rt, request, path, inputs, read) {
         Ok(RunOutputs { mut proof, keepers }) => {
-            solve_over(rt, messages, request, profile, inputs, &mut proof, keepers)
+            solve_over(rt, messages, request, plan, inputs, &mut proof, keepers)
         }
         Err(refused) => tell_refused(rt, messages, refused),
     }
@@ -191,7 +226,7 @@ fn solve_over<'a, R: Files + AllocGlobal + Print + Clock, E: Write, P: Write>(
     rt: &'a R,
     messages: &mut Messages<'_, E>,
     request: SolveRequest<'_>,
-    profile: Profile,
+    plan: Plan,
     inputs: &mut Inputs<'_, R::File>,
     proof: &mut P,
     keepers: Keepers<'a, R>,
@@ -208,8 +243,10 @@ fn solve_over<'a, R: Files + AllocGlobal + Print + Clock, E: Write, P: Write>(
         keeper,
         bounder,
         meter,
+        alarm: Alarm::new(rt, plan.deadline),
         messages,
     };
+    let profile = plan.profile;
     let bits = inputs.start.take().map(|start| start.bits);
     let Source { file, whole, .. } = &mut inputs.source;
     match whole {

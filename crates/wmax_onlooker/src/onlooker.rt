@@ -1,6 +1,7 @@
-//! What observes a run, for `--best`, `--lower` and `--progress`.
+//! What observes a run, for `--best`, `--lower`, `--progress` and `--time-limit`.
 ghost use Rattle.std.specs.Prelude.{None};
 
+use crate::alarm::Alarm;
 use crate::bounding::Bounder;
 use crate::keeper::Keeper;
 use crate::progress::Meter;
@@ -14,8 +15,8 @@ use report::best::RunWatch;
 use std::io::Write;
 use std::rt::{Clock, Files};
 
-/// Keeps the best solution and the best lower bound, and tells how far the run is: all of it, some
-/// or nothing.
+/// Keeps the best solution and the best lower bound, tells how far the run is, and ends it in time:
+/// all of it, some or nothing.
 #[derive(Drop)]
 pub struct Onlooker<'a, 'm, 'b, R: Files + Clock, E: Write> {
     /// What keeps the best solution.
@@ -24,6 +25,8 @@ pub struct Onlooker<'a, 'm, 'b, R: Files + Clock, E: Write> {
     pub bounder: Bounder<'a, R>,
     /// What tells how far the run is, if it is to be told.
     pub meter: Option<Meter<'a, R>>,
+    /// What ends the search where its time is over.
+    pub alarm: Alarm<'a, R>,
     /// Where all of them tell something.
     pub messages: &'m mut Messages<'b, E>,
 }
@@ -33,10 +36,16 @@ impl<'a, 'm, 'b, R: Files + Clock + AllocGlobal, E: Write> cdcl::watch::SearchWa
     // What it was shown is in files and on standard error, and is not known here.
     ghost seen = { λ _. None };
 
+    ghost waived = { λ onlooker. onlooker.alarm.waived };
+
     fn learned(&mut self, report: &SearchReport) {
         if let Some(meter) = &mut self.meter {
             meter.learned(report, self.messages);
         }
+    }
+
+    fn waives(&mut self, left: u64) -> u64 {
+        self.alarm.waives(left)
     }
 }
 

@@ -20,8 +20,8 @@ reduce-requires g c = record {
       c.requires.runs;
 }
 
-pub returns-in-Closes : goal.returns-in-Closes
-returns-in-Closes g c =
+pub returns-in-Closes-clause-turns : goal.returns-in-Closes-clause-turns
+returns-in-Closes-clause-turns g c =
     let s = c.args.search.now in
     let n = c.decide_next.new.search in
     let p = c.args.input.now in
@@ -43,16 +43,16 @@ returns-in-Closes g c =
     )
     (pays_nothing p.given ls b)
 
-pub returns-in-GivesUp : goal.returns-in-GivesUp
-returns-in-GivesUp g c =
+pub returns-in-GivesUp-clause-turns : goal.returns-in-GivesUp-clause-turns
+returns-in-GivesUp-clause-turns g c =
     let p = c.args.input.now in
     let b = c.args.budget.now in
     let ls = g.S.Sink.lines c.args.sink.now in
     turn_halts c.args.search.now c.decide_next.new.search p c.args.assumptions.now ls ls b b Open
     (c.decide_next.ensures.runs p ls c.requires.runs) (pays_nothing p.given ls b)
 
-pub returns-then-has_passed : goal.returns-then-has_passed
-returns-then-has_passed g c =
+pub returns-then-has_passed-clause-turns : goal.returns-then-has_passed-clause-turns
+returns-then-has_passed-clause-turns g c =
     let p = c.args.input.now in
     let b = c.args.budget.now in
     let ls = g.S.Sink.lines c.args.sink.now in

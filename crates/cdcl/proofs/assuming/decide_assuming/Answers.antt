@@ -7,8 +7,8 @@ use Rattle.cdcl.proofs.Rounds.{goes_restarted, pays_none, pays_nothing}
 use Rattle.cdcl.proofs.Halts.{turn_halts, turn_goes_on, turn_breaks, turn_after}
 use Rattle.cdcl.proofs.assuming.decide_assuming.Goals as goal
 
-pub returns-then-left-eq0 : goal.returns-then-left-eq0
-returns-then-left-eq0 g c =
+pub returns-then-left-eq0-clause-turns : goal.returns-then-left-eq0-clause-turns
+returns-then-left-eq0-clause-turns g c =
     let s = c.args.search.now in
     let p = c.args.input.now in
     let b = c.args.budget.now in
@@ -16,8 +16,8 @@ returns-then-left-eq0 g c =
     turn_halts s s p c.args.assumptions.now ls ls b b Spent
     (c.requires.runs, sym c.left.ensures.left ∙ c.if-left-eq0.true) (pays_nothing p.given ls b)
 
-pub returns-then-is_restart_due : goal.returns-then-is_restart_due
-returns-then-is_restart_due g c =
+pub returns-then-is_restart_due-clause-turns : goal.returns-then-is_restart_due-clause-turns
+returns-then-is_restart_due-clause-turns g c =
     let s = c.args.search.now in
     let p = c.args.input.now in
     let ls = g.S.Sink.lines c.args.sink.now in
@@ -28,8 +28,8 @@ returns-then-is_restart_due g c =
     (ap (λ (x : PolicyState). x.has_learned) o.policy))
     (writes_none p.given ls)
 
-pub returns-in_err-note_level : goal.returns-in_err-note_level
-returns-in_err-note_level g c =
+pub returns-in_err-note_level-clause-turns : goal.returns-in_err-note_level-clause-turns
+returns-in_err-note_level-clause-turns g c =
     let p = c.args.input.now in
     let b = c.args.budget.now in
     let ls = g.S.Sink.lines c.args.sink.now in
@@ -51,8 +51,8 @@ pass_and_choose-requires-clause-noted g c = c.in_ok-note_level.ensures.leaves.al
 pub pass_and_choose-requires-clause-left : goal.pass_and_choose-requires-clause-left
 pass_and_choose-requires-clause-left g c = omega (arith, c.left.ensures.left, c.if-left-eq0.false)
 
-pub returns : goal.returns
-returns g c =
+pub returns-clause-turns : goal.returns-clause-turns
+returns-clause-turns g c =
     let s = c.args.search.now in
     let n = c.in_ok-note_level.ensures.leaves.keeps in
     let same : length c.note_level.new.search.engine.trail ≡ length s.engine.trail =
@@ -61,4 +61,4 @@ returns g c =
     c.args.input.now c.args.assumptions.now (g.S.Sink.lines c.args.sink.now)
     (g.S.Sink.lines c.note_level.new.sink) (g.S.Sink.lines c.pass_and_choose.new.sink)
     c.args.budget.now c.pass_and_choose.new.budget n.variables n.policy (omega arith)
-    c.note_level.ensures.writes c.pass_and_choose.ensures
+    c.note_level.ensures.writes c.pass_and_choose.ensures.turns

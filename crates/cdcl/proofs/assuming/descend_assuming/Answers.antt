@@ -1,5 +1,5 @@
-use Rattle.std.proofs.Common.{refl, ◌∙◌}
-use Rattle.cdcl.proofs.Rounds.{pays_nothing, pays_join}
+use Rattle.std.proofs.Common.{◌∙◌, arith}
+use Rattle.cdcl.proofs.Rounds.{pays_nothing, pays_waived, pays_join}
 use Rattle.cdcl.proofs.Rounds.{open_log}
 use Rattle.cdcl.proofs.Halts.{halt_fails}
 use Rattle.cdcl.proofs.assuming.descend_assuming.Goals as goal
@@ -17,9 +17,10 @@ pub rounds-init : goal.rounds-init
 rounds-init g c =
     record {
       runs = c.requires.runs;
-      pays = pays_nothing c.args.input.now.given (g.S.Sink.lines c.args.sink.now)
-          c.args.budget.now;
-      same_seen = refl;
+      pays = pays_waived c.args.input.now.given (g.S.Sink.lines c.args.sink.now)
+          c.args.budget.now c.heed.new.budget c.heed.ensures.budget;
+      same_seen = c.heed.ensures.same_seen;
+      waives = c.heed.ensures.waives;
     }
 
 pub rounds-preserved : goal.rounds-preserved
@@ -31,6 +32,7 @@ rounds-preserved g c = record {
       c.rounds.budget c.round_assuming.new.budget c.rounds.invariant.pays
       c.round_assuming.ensures.turns.pays;
   same_seen = c.round_assuming.ensures.same_seen ∙ c.rounds.invariant.same_seen;
+  waives = omega (arith, c.round_assuming.ensures.waives, c.rounds.invariant.waives);
 }
 
 pub returns-in_err-halt-clause-search : goal.returns-in_err-halt-clause-search

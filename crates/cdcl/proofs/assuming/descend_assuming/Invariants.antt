@@ -1,4 +1,5 @@
 use Rattle.std.proofs.Common.{◌≡◌}
+use Rattle.cdcl_order.specs.Budgets.{WaivesAs}
 use Rattle.cdcl_search.specs.Running.{Runs}
 use Rattle.cdcl.specs.Turns.{Pays, rounds_left}
 use Rattle.cdcl.proofs.assuming.descend_assuming.Given as goal
@@ -9,6 +10,8 @@ invariant-rounds g l = record {
   pays : Pays l.input.given (g.S.Sink.lines l.fn.sink) (g.S.Sink.lines l.sink)
       l.fn.budget l.budget;
   same_seen : g.W.SearchWatch.seen l.watch ≡ g.W.SearchWatch.seen l.fn.watch;
+  waives : WaivesAs l.fn.budget l.budget (g.W.SearchWatch.waived l.fn.watch)
+      (g.W.SearchWatch.waived l.watch);
 }
 
 abbrev pub decreases-rounds : goal.decreases-rounds

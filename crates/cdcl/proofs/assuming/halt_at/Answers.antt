@@ -8,8 +8,8 @@ use Rattle.cdcl.proofs.Rounds.{open_log}
 use Rattle.cdcl.proofs.Halts.{halt_fails}
 use Rattle.cdcl.proofs.assuming.halt_at.Goals as goal
 
-pub returns-in-Unknown : goal.returns-in-Unknown
-returns-in-Unknown g c =
+pub returns-in-Unknown-clause-halts : goal.returns-in-Unknown-clause-halts
+returns-in-Unknown-clause-halts g c =
     let p = c.args.input.now in
     let b = c.args.budget.now in
     let ls = g.S.Sink.lines c.args.sink.now in
@@ -19,8 +19,8 @@ returns-in-Unknown g c =
       err = tt;
     }
 
-pub returns-in_err-core : goal.returns-in_err-core
-returns-in_err-core g c =
+pub returns-in_err-core-clause-halts : goal.returns-in_err-core-clause-halts
+returns-in_err-core-clause-halts g c =
     let p = c.args.input.now in
     let b = c.args.budget.now in
     let ls = g.S.Sink.lines c.args.sink.now in
@@ -28,8 +28,8 @@ returns-in_err-core g c =
     c.from_residual.ensures.0 (open_log c.args.search.now p ls c.requires.runs)
     (pays_nothing p.given ls b)
 
-pub returns-in_err-learn_core-in-Follows : goal.returns-in_err-learn_core-in-Follows
-returns-in_err-learn_core-in-Follows g c =
+pub returns-in_err-learn_core-in-Follows-clause-halts : goal.returns-in_err-learn_core-in-Follows-clause-halts
+returns-in_err-learn_core-in-Follows-clause-halts g c =
     let p = c.args.input.now in
     let b = c.args.budget.now in
     let ls = g.S.Sink.lines c.args.sink.now in
@@ -41,8 +41,8 @@ returns-in_err-learn_core-in-Follows g c =
     (pays_none p.given ls more b
     (subst (λ x. Writes p.given ls x 0) (sym same) (writes_none p.given ls)))
 
-pub returns-in-Shown : goal.returns-in-Shown
-returns-in-Shown g c =
+pub returns-in-Shown-clause-halts : goal.returns-in-Shown-clause-halts
+returns-in-Shown-clause-halts g c =
     let p = c.args.input.now in
     let b = c.args.budget.now in
     let ls = g.S.Sink.lines c.args.sink.now in

@@ -6,8 +6,8 @@ use Rattle.cdcl.proofs.Rounds.{open_log, pays_nothing}
 use Rattle.cdcl.proofs.Halts.{turn_breaks}
 use Rattle.cdcl.proofs.assuming.pass_and_choose.Goals as goal
 
-pub returns-in_err-pass_false : goal.returns-in_err-pass_false
-returns-in_err-pass_false g c =
+pub returns-in_err-pass_false-clause-turns : goal.returns-in_err-pass_false-clause-turns
+returns-in_err-pass_false-clause-turns g c =
     let s = c.args.search.now in
     let p = c.args.input.now in
     let b = c.args.budget.now in

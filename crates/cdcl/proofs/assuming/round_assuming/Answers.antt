@@ -44,4 +44,4 @@ returns-in-None-clause-turns g c =
     c.decide_assuming.new.search p c.args.assumptions.now ls ls
     (g.S.Sink.lines c.decide_assuming.new.sink) c.args.budget.now c.decide_assuming.new.budget
     e.engine.variables (ap (λ (x : Search). x.policy) e.engine.rest) e.grows
-    (writes_none p.given ls) c.decide_assuming.ensures
+    (writes_none p.given ls) c.decide_assuming.ensures.turns

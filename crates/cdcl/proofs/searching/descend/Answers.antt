@@ -1,14 +1,15 @@
-use Rattle.std.proofs.Common.{refl, ◌∙◌}
-use Rattle.cdcl.proofs.Rounds.{pays_nothing, pays_join, search_fails}
+use Rattle.std.proofs.Common.{◌∙◌, arith}
+use Rattle.cdcl.proofs.Rounds.{pays_waived, pays_join, search_fails}
 use Rattle.cdcl.proofs.searching.descend.Goals as goal
 
 pub rounds-init : goal.rounds-init
 rounds-init g c =
     record {
       runs = c.requires.runs;
-      pays = pays_nothing c.args.input.now.given (g.S.Sink.lines c.args.sink.now)
-          c.args.budget.now;
-      same_seen = refl;
+      pays = pays_waived c.args.input.now.given (g.S.Sink.lines c.args.sink.now)
+          c.args.budget.now c.heed.new.budget c.heed.ensures.budget;
+      same_seen = c.heed.ensures.same_seen;
+      waives = c.heed.ensures.waives;
     }
 
 pub rounds-preserved : goal.rounds-preserved
@@ -19,6 +20,7 @@ rounds-preserved g c = record {
       (g.S.Sink.lines c.rounds.sink) (g.S.Sink.lines c.round.new.sink) c.args.budget.now
       c.rounds.budget c.round.new.budget c.rounds.invariant.pays c.round.ensures.turns.pays;
   same_seen = c.round.ensures.same_seen ∙ c.rounds.invariant.same_seen;
+  waives = omega (arith, c.round.ensures.waives, c.rounds.invariant.waives);
 }
 
 pub returns-in_err-end-clause-search : goal.returns-in_err-end-clause-search

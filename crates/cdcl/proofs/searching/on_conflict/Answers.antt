@@ -52,9 +52,10 @@ returns-clause-turns g c = record {
   ends = tt;
   goes =
       goes_learned c.args.search.now c.learn.new.search c.args.input.now
-      (g.S.Sink.lines c.learn.new.sink) c.args.budget.now c.count_learned.new.self
+      (g.S.Sink.lines c.learn.new.sink) c.args.budget.now c.pay_learned.new.budget
       c.in_ok-learn.ensures.learns.runs c.in_ok-learn.ensures.learns.variables
-      c.count_learned.ensures (omega (arith, c.left.ensures.left, c.if-left-eq0.false));
-  pays = (1, c.in_ok-learn.ensures.learns.writes, c.count_learned.ensures);
+      c.pay_learned.ensures.pays c.pay_learned.ensures.more
+      (omega (arith, c.left.ensures.left, c.if-left-eq0.false));
+  pays = (1, c.in_ok-learn.ensures.learns.writes, c.pay_learned.ensures.pays);
   err = tt;
 }

@@ -36,5 +36,5 @@ returns-in-None-clause-turns g c =
     let e = c.in_ok-conflict.ensures in
     turn_from c.on_fixpoint.result c.args.search.now c.propagate.new.self c.on_fixpoint.new.search
     c.args.input.now (g.S.Sink.lines c.args.sink.now) (g.S.Sink.lines c.on_fixpoint.new.sink)
-    c.args.budget.now c.on_fixpoint.new.budget e.engine.variables
+    c.args.budget.now c.args.budget.now e.engine.variables
     (ap (λ (x : Search). x.policy) e.engine.rest) e.grows c.on_fixpoint.ensures

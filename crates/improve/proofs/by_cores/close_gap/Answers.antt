@@ -1,5 +1,5 @@
 -- Lines are learned, and solutions are told.
-use Rattle.std.proofs.Common.{arith, ap, sym, subst}
+use Rattle.std.proofs.Common.{refl, arith, ap, sym, subst}
 use Rattle.std.proofs.lemmas.Result.{err_from_is_err_and}
 use Rattle.lrat_log.specs.Steps.{learned_count}
 use Rattle.improve_cores.specs.CoreWork.{CoreWork, IsSearchFor}
@@ -19,6 +19,7 @@ events-init g c = record {
   shown =
       shown_none c.args.instance.now (g.T.Progress.state c.args.progress.now)
       (g.W.SearchWatch.seen c.args.watch.now);
+  waives = refl;
 }
 
 pub returns-in_default-clause-search : goal.returns-in_default-clause-search
@@ -123,6 +124,7 @@ events-preserved g c =
           shown_more c.args.instance.now _ _ _ _ _ _
           (shown_then c.args.instance.now _ _ _ _ _ i.shown c.next.ensures.same_seen)
           i.goes_on.failures c.note_model.ensures.shown;
+      waives = omega (arith, i.waives, c.next.ensures.waives, c.note_model.ensures.waives);
     }
 
 pub returns-in_default-clause-shown : goal.returns-in_default-clause-shown

@@ -1,5 +1,6 @@
 -- What was told and learned so far.
 use Rattle.lrat_log.specs.Steps.{learned_count}
+use Rattle.cdcl_order.specs.Budgets.{WaivesAs}
 use Rattle.improve_cores.specs.CoreWork.{IsSearchFor}
 use Rattle.improve.specs.Standing.{GoesOn}
 use Rattle.improve.specs.Watch.{AreShown}
@@ -15,4 +16,6 @@ invariant-events g l = record {
       → g.T.Progress.follows first l.progress;
   shown : AreShown l.instance (g.T.Progress.state l.fn.progress) (g.T.Progress.state l.progress)
       (g.W.SearchWatch.seen l.fn.watch) (g.W.SearchWatch.seen l.watch);
+  waives : WaivesAs l.fn.budget l.budget (g.W.SearchWatch.waived l.fn.watch)
+      (g.W.SearchWatch.waived l.watch);
 }

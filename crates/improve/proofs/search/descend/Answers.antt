@@ -27,6 +27,7 @@ loop-bounds-init g c = record {
   shown =
       shown_none c.args.instance.now (g.T.Progress.state c.args.progress.now)
       (g.W.SearchWatch.seen c.args.watch.now);
+  waives = refl;
 }
 
 pub add-requires-clause-small : goal.add-requires-clause-small
@@ -138,6 +139,7 @@ loop-bounds-preserved g c =
           (shown_told p (g.T.Progress.state c.loop-bounds.progress) _ _ _
           c.in-Ok-Cheaper.solution.cost c.in-Ok-Cheaper.solution.bits.items next.solution
           c.tell.ensures.shown ok);
+      waives = omega (arith, i.waives, c.solve.ensures.waives, c.tell.ensures.same_waived);
     }
 
 pub returns-then-is_err-2-clause-follows : goal.returns-then-is_err-2-clause-follows

@@ -1,6 +1,7 @@
 -- The costs told are the bounds so far and the cost in hand, which is below them.
 use Rattle.std.proofs.Common.{◌≡◌}
 use Rattle.lrat_log.specs.Steps.{learned_count}
+use Rattle.cdcl_order.specs.Budgets.{WaivesAs}
 use Rattle.improve.specs.Bounds.{IsOver}
 use Rattle.improve.specs.Standing.{GoesOn}
 use Rattle.improve.specs.Watch.{AreShown}
@@ -18,6 +19,8 @@ invariant-loop-bounds g l = record {
       → g.T.Progress.follows first l.progress;
   shown : AreShown l.instance (g.T.Progress.state l.fn.progress) (g.T.Progress.state l.progress)
       (g.W.SearchWatch.seen l.fn.watch) (g.W.SearchWatch.seen l.watch);
+  waives : WaivesAs l.fn.budget l.budget (g.W.SearchWatch.waived l.fn.watch)
+      (g.W.SearchWatch.waived l.watch);
 }
 
 abbrev pub decreases-loop-bounds : goal.decreases-loop-bounds

@@ -21,6 +21,7 @@ stages-init g c = record {
   shown =
       shown_none c.args.instance.now (g.T.Progress.state c.args.progress.now)
       (g.W.SearchWatch.seen c.args.watch.now);
+  waives = refl;
 }
 
 pub run_stage-requires-clause-failures : goal.run_stage-requires-clause-failures
@@ -68,6 +69,7 @@ stages-preserved g c =
       shown =
           shown_more c.args.instance.now _ _ _ _ _ _ i.shown i.goes_on.failures
           c.run_stage.ensures.shown;
+      waives = omega (arith, i.waives, c.run_stage.ensures.waives);
     }
 
 pub returns-clause-tries : goal.returns-clause-tries

@@ -1,6 +1,7 @@
 -- What was told and learned so far.
 use Rattle.std.proofs.Common.{◌≡◌, ◌+◌}
 use Rattle.lrat_log.specs.Steps.{learned_count}
+use Rattle.cdcl_order.specs.Budgets.{WaivesAs}
 use Rattle.improve_cores.specs.CoreWork.{IsSearchFor}
 use Rattle.improve.specs.Improving.{work_count}
 use Rattle.improve.specs.Standing.{IsEarlyWork, GoesOn}
@@ -20,4 +21,6 @@ invariant-stages g l = record {
       → g.T.Progress.follows first l.progress;
   shown : AreShown l.instance (g.T.Progress.state l.fn.progress) (g.T.Progress.state l.progress)
       (g.W.SearchWatch.seen l.fn.watch) (g.W.SearchWatch.seen l.watch);
+  waives : WaivesAs l.fn.budget l.budget (g.W.SearchWatch.waived l.fn.watch)
+      (g.W.SearchWatch.waived l.watch);
 }

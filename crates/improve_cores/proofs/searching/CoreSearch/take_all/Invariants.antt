@@ -1,5 +1,6 @@
 -- The same clauses are given, what was learned was counted, and the watch saw nothing.
 use Rattle.std.proofs.Common.{◌≡◌}
+use Rattle.cdcl_order.specs.Budgets.{WaivesAs}
 use Rattle.improve_cores.specs.CoreWork.{KeepsClauses, CountsLearned}
 use Rattle.improve_cores.proofs.searching.CoreSearch.take_all.Given as goal
 
@@ -8,4 +9,6 @@ invariant-loop-core g l = record {
   clauses : KeepsClauses l.fn.self l.self;
   learned : CountsLearned l.fn.self.lines l.self.lines l.fn.budget l.budget;
   same_seen : g.W.SearchWatch.seen l.watch ≡ g.W.SearchWatch.seen l.fn.watch;
+  waives : WaivesAs l.fn.budget l.budget (g.W.SearchWatch.waived l.fn.watch)
+      (g.W.SearchWatch.waived l.watch);
 }
