@@ -1,18 +1,19 @@
 -- What lines leave for those that begin with a word, and which lines are taken.
-use Rattle.std.specs.Prelude.{◌≡◌, ℕ, ◌≤◌, Bool, false, List, [], ◌∷◌, map, Some, Ok, All, ⊤}
+use Rattle.std.specs.Prelude.{◌≡◌, ℕ, ◌≤◌, true, false, List, [], ◌∷◌, map, Some, Ok, All}
 use Rattle.std.specs.Prelude.{if◌then◌else◌}
 use Rattle.cnf.specs.Clause.{is_empty_clause}
 use Rattle.cnf.specs.Literal.{Literal}
 use Rattle.cnf.specs.Problem.{Problem}
-use Rattle.forms.specs.Forms.{Forms, heard, bound_line, count_line, cut_line, form_line, more_line}
+use Rattle.forms.specs.Forms.{Forms, forms_of, heard, bound_line, count_line, cut_line, form_line}
+use Rattle.forms.specs.Forms.{more_line}
 use Rattle.lrat_log.specs.Log.{LogLine, is_axiom, is_delete}
 use Rattle.lrat_read.specs.Words.{NamedFact, WordLine, CountLine, MoreLine, GroupLine, FormLine}
 use Rattle.lrat_read.specs.Words.{CutLine, BoundLine}
 use Rattle.lrat_read.specs.WordTokens.{HasWordNumbers}
-use Rattle.lrat_cuts.specs.Cuts.{cuts_start, fact_of}
+use Rattle.bound.specs.Weighted.{weighted_cnf, weights_of}
 use Rattle.cuts_log.specs.declared.standing.Standing.{Standing}
 use Rattle.cuts_log.specs.Events.{Event, Plain, Word}
-use Rattle.cuts_log.specs.Facts.{no_clause}
+use Rattle.cuts_log.specs.Facts.{named, no_clause}
 
 -- a clause is live
 abbrev pub with_clause : List Literal → Standing → Standing
@@ -34,7 +35,7 @@ IsRightWord cost old (MoreLine number) made new =
     more_line number old ≡ Ok (record { forms = new; clauses = made })
 IsRightWord cost old (GroupLine inputs ids) made new = ⊥
 IsRightWord cost old (FormLine scale facts) made new =
-    (form_line no_clause scale (map fact_of facts) old ≡ Ok new) × AreNumbered facts × (made ≡ [])
+    (form_line no_clause scale (map named facts) old ≡ Ok new) × AreNumbered facts × (made ≡ [])
 IsRightWord cost old (CutLine c) made new =
     (w : ℕ) × (cut_line c old ≡ Ok (Some w)) × (cost ≤ w) × (made ≡ c ∷ []) × (new ≡ old)
 IsRightWord cost old (BoundLine lower) made new =
@@ -64,4 +65,7 @@ TakesAll cost old (e ∷ es) new = (mid : Standing) × Takes cost old e mid × T
 
 -- before the first line
 abbrev pub stand_of : Problem → Standing
-stand_of p = record { forms = (cuts_start p).forms; ended = false }
+stand_of p =
+    let blank : Standing =
+    record { forms = forms_of (weighted_cnf p).variables (weights_of p); ended = false } in
+    record (with_clauses (weighted_cnf p).clauses blank) { ended = false }
