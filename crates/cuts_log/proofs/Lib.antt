@@ -1,2 +1,5 @@
 mod Saying
 mod Spelled
+mod EventLines
+mod Noting
+mod Keeping

@@ -5,7 +5,7 @@ use Rattle.cnf.specs.declared.limits.TheConstants.{NUMBER_LIMIT}
 use Rattle.bound.specs.Weighted.{weighted_cnf}
 use Rattle.lrat_log.specs.Log.{LogLine}
 use Rattle.cuts_log.specs.declared.standing.Standing.{Standing}
-use Rattle.cuts_log.specs.Books.{BookState, IsBook, begun_book}
+use Rattle.cuts_log.specs.Books.{BookState, begun_book}
 use Rattle.cuts_log.specs.Events.{Event, TraceState, lines_of}
 use Rattle.cuts_log.specs.Stands.{TakesAll, stand_of}
 
@@ -28,7 +28,6 @@ lines_seen l = take (l.book).lines (lines_of (events_of l))
 
 -- each line is right for cuts up to the cost, and the standing is what they leave
 pub record IsKept (l : LogState) : Type 0 where
-  pub book : IsBook l.book
   pub base : (l.book).base ≡ length (weighted_cnf (problem_of l)).clauses
   pub cost : l.cost ≤ NUMBER_LIMIT
   pub left : Standing

@@ -3,8 +3,8 @@ ghost use Rattle.std.specs.Prelude.{◌≡◌, ◌+◌, ◌<◌, ◌≤◌, ◌�
 ghost use Rattle.std.specs.Prelude.{IfOk, OnErr};
 ghost use Rattle.lrat_log.specs.declared.log.TheConstants.{LINE_LIMIT};
 ghost use Rattle.cuts_log.specs.Events.{lines_in};
-ghost use Rattle.cuts_log.specs.Books.{FailsAt, FailsToFlush, Flushed, Notes, begun_book};
-ghost use Rattle.cuts_log.specs.Books.{failed_book};
+ghost use Rattle.cuts_log.specs.Books.{FailsAt, FailsToFlush, Flushed, IsBook, Notes};
+ghost use Rattle.cuts_log.specs.Books.{begun_book, failed_book};
 
 use crate::events::{Beginning, Happens, Next};
 use crate::out::Out;
@@ -84,7 +84,8 @@ impl<W: Write + Drop> Book<W> {
 
     /// Whether no line comes any more.
     pub(crate) fn has_failed(&self) -> bool
-        ensures { result ≡ self.now.failed }
+        ensures failed { result ≡ self.now.failed }
+        ensures kept { IsBook self.now }
     {
         self.failed
     }
@@ -100,6 +101,7 @@ impl<W: Write + Drop> Book<W> {
     pub(crate) fn has_room(&self, more: usize) -> bool
         ensures works { result ≡ true → self.now.failed ≡ false }
         ensures room { result ≡ true → self.now.lines + more < LINE_LIMIT }
+        ensures kept { IsBook self.now }
     {
         !self.failed && more < LINE_LIMIT - self.lines
     }

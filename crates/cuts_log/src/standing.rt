@@ -1,5 +1,5 @@
 // What the lines of a log leave for the lines that begin with a word.
-ghost use Rattle.std.specs.Prelude.{◌≡◌, ◌<◌, ◌≤◌, [], ◌∷◌, All, Some, None, Ok, true, false, map};
+ghost use Rattle.std.specs.Prelude.{◌≡◌, ◌<◌, ℕ, [], ◌∷◌, All, true, false, map};
 ghost use Rattle.std.specs.Prelude.{IfSome, IfOk, OnOk, OnErr};
 ghost use Rattle.cnf.specs.Literal.{Literal};
 ghost use Rattle.cnf.specs.declared.limits.TheConstants.{NUMBER_LIMIT};
@@ -128,7 +128,7 @@ impl Standing {
         made: &mut ClauseList,
     ) -> Result<bool, AllocError>
         ensures taken { IfOk result (λ taken. taken ≡ true
-            → TakesWord 0 self.old (CountLine outputs inputs.now) made.new self.new) }
+            → (cost : ℕ) → TakesWord cost self.old (CountLine outputs inputs.now) made.new self.new) }
         ensures refused { IfOk result (λ taken. taken ≡ false → self.new ≡ self.old) }
     {
         if self.ended || outputs >= NUMBER_LIMIT || inputs.is_empty() {
@@ -150,7 +150,7 @@ impl Standing {
     /// `AllocError` where memory was refused; then nothing is said of what is left.
     pub(crate) fn more(&mut self, number: u64, made: &mut ClauseList) -> Result<bool, AllocError>
         ensures taken { IfOk result (λ taken. taken ≡ true
-            → TakesWord 0 self.old (MoreLine number) made.new self.new) }
+            → (cost : ℕ) → TakesWord cost self.old (MoreLine number) made.new self.new) }
         ensures refused { IfOk result (λ taken. taken ≡ false → self.new ≡ self.old) }
     {
         if self.ended || number == 0 || number >= NUMBER_LIMIT {
@@ -176,7 +176,7 @@ impl Standing {
         facts: &[NamedFact],
     ) -> Result<bool, AllocError>
         ensures taken { IfOk result (λ taken. taken ≡ true
-            → TakesWord 0 self.old (FormLine scale (map spelled facts.now)) [] self.new) }
+            → (cost : ℕ) → TakesWord cost self.old (FormLine scale (map spelled facts.now)) [] self.new) }
         ensures refused { IfOk result (λ taken. taken ≡ false → self.new ≡ self.old) }
     {
         if self.ended || !can_say(scale, facts) {
@@ -207,7 +207,8 @@ impl Standing {
 
     /// Whether the present form is worth so much: nothing costs less.
     pub(crate) fn bound(&self, lower: u64) -> bool
-        ensures { result ≡ true → TakesWord 0 self.now (BoundLine lower) [] self.now }
+        ensures { result ≡ true
+            → (cost : ℕ) → TakesWord cost self.now (BoundLine lower) [] self.now }
     {
         !self.ended && lower < NUMBER_LIMIT && is_worth(self.forms.bound(), lower)
     }
