@@ -3,3 +3,5 @@ mod Spelled
 mod EventLines
 mod Noting
 mod Keeping
+mod Claims
+mod Beginning

@@ -1,9 +1,9 @@
 // What the lines of a log leave for the lines that begin with a word.
 ghost use Rattle.std.specs.Prelude.{◌≡◌, ◌<◌, ℕ, [], ◌∷◌, All, true, false, map};
 ghost use Rattle.std.specs.Prelude.{IfSome, IfOk, OnOk, OnErr};
-ghost use Rattle.cnf.specs.Literal.{Literal};
 ghost use Rattle.cnf.specs.declared.limits.TheConstants.{NUMBER_LIMIT};
 ghost use Rattle.lrat_read.specs.Words.{CountLine, MoreLine, FormLine, CutLine, BoundLine};
+ghost use Rattle.cnf.specs.Lrat.{IsId};
 ghost use Rattle.forms.specs.Forms.{heard};
 ghost use Rattle.cuts_log.specs.Facts.{IsCountFact, is_worth, spelled};
 
@@ -73,6 +73,16 @@ fn is_count_fact(fact: &NamedFact) -> bool
         && fact.number < NUMBER_LIMIT
 }
 
+/// Says that the variables of literals are from 1 and can be spelled; it does nothing.
+/// `Instance::limits` has the reason.
+fn limits(lits: &[Lit])
+    ensures { All (λ l. IsId l.variable) lits.now }
+{
+    for lit in lits {
+        let _variable = lit.variable();
+    }
+}
+
 /// A clause is live from now on: a unit clause gives its variable a value.
 fn hear(forms: &mut Forms, clause: &[Lit]) -> Result<(), AllocError>
     ensures ok { OnOk result (forms.new ≡ heard clause.now forms.old) }
@@ -134,6 +144,7 @@ impl Standing {
         if self.ended || outputs >= NUMBER_LIMIT || inputs.is_empty() {
             return Ok(false);
         }
+        limits(inputs);
         let fault = self.forms.count(outputs, inputs, made)?;
         if fault.is_some() {
             return Ok(false);
@@ -201,6 +212,7 @@ impl Standing {
         if self.ended || !is_worth(self.forms.cut(lits), cost) {
             return Ok(false);
         }
+        limits(lits);
         self.take(lits)?;
         Ok(true)
     }
