@@ -4,7 +4,7 @@
 // first: what the state refuses is not written. The state is the one that the checker keeps, so a
 // search need prove nothing of what it proposes.
 ghost use Rattle.std.specs.Prelude.{◌≡◌, ◌≤◌, true, false, [], map, min, IfOk, OnOk, OnErr, None, Some};
-ghost use Rattle.lrat_log.specs.Log.{axiom_line};
+ghost use Rattle.lrat_log.specs.Log.{axiom_line, is_axiom};
 
 use crate::book::Book;
 use crate::events::{BoundLine, CountLine, CutLine, FormLine, MoreLine, PlainLine};
@@ -169,13 +169,16 @@ impl<W: Write + Drop> CutsLog<W> {
         if self.book.has_failed() {
             return Err(AllocError);
         }
-        match self.standing.count(outputs, inputs, made) {
-            Ok(true) if self.book.has_room(made.len()) => {}
-            Ok(false) => return Ok(false),
-            Ok(true) | Err(AllocError) => {
-                self.book.fail();
-                return Err(AllocError);
-            }
+        let Ok(is_taken) = self.standing.count(outputs, inputs, made) else {
+            self.book.fail();
+            return Err(AllocError);
+        };
+        if !is_taken {
+            return Ok(false);
+        }
+        if !self.book.has_room(made.len()) {
+            self.book.fail();
+            return Err(AllocError);
         }
         self.book.note(&CountLine {
             outputs,
@@ -201,13 +204,16 @@ impl<W: Write + Drop> CutsLog<W> {
         if self.book.has_failed() {
             return Err(AllocError);
         }
-        match self.standing.more(number, made) {
-            Ok(true) if self.book.has_room(made.len()) => {}
-            Ok(false) => return Ok(false),
-            Ok(true) | Err(AllocError) => {
-                self.book.fail();
-                return Err(AllocError);
-            }
+        let Ok(is_taken) = self.standing.more(number, made) else {
+            self.book.fail();
+            return Err(AllocError);
+        };
+        if !is_taken {
+            return Ok(false);
+        }
+        if !self.book.has_room(made.len()) {
+            self.book.fail();
+            return Err(AllocError);
         }
         self.book.note(&MoreLine { number, made })?;
         Ok(true)
@@ -253,13 +259,12 @@ impl<W: Write + Drop> CutsLog<W> {
         if self.book.has_failed() {
             return Err(AllocError);
         }
-        match self.standing.form(scale, facts) {
-            Ok(true) => {}
-            Ok(false) => return Ok(false),
-            Err(AllocError) => {
-                self.book.fail();
-                return Err(AllocError);
-            }
+        let Ok(is_taken) = self.standing.form(scale, facts) else {
+            self.book.fail();
+            return Err(AllocError);
+        };
+        if !is_taken {
+            return Ok(false);
         }
         self.book.note(&FormLine { scale, facts })?;
         Ok(true)
@@ -287,19 +292,25 @@ impl<W: Write + Drop> CutsLog<W> {
     }
 }
 
+/// Whether lines of this kind bring a clause from outside.
+fn is_axiom(kind: Kind) -> bool
+    ensures { result ≡ is_axiom kind }
+{
+    matches!(kind, Kind::Axiom)
+}
+
 impl<W: Write + Drop> Sink for CutsLog<W> {
     ghost use Rattle.cuts_log.specs.Logs.{lines_seen};
 
     ghost lines = { lines_seen };
 
     fn append(&mut self, kind: Kind, lits: &[Lit], hints: &[Hint]) -> Result<(), AllocError> {
-        if kind == Kind::Axiom || !self.book.has_room(1) {
+        if is_axiom(kind) || !self.book.has_room(1) {
             return Err(AllocError);
         }
-        if !kind.is_delete() {
-            self.standing.take(lits)?;
-        }
-        self.book.note(&PlainLine { kind, lits, hints })
+        self.standing.take_line(kind, lits)?;
+        self.book.note(&PlainLine { kind, lits, hints })?;
+        Ok(())
     }
 
     fn cut(&mut self, lits: &[Lit]) -> Result<bool, AllocError> {

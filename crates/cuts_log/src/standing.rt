@@ -1,6 +1,7 @@
 // What the lines of a log leave for the lines that begin with a word.
 ghost use Rattle.std.specs.Prelude.{◌≡◌, ◌<◌, ℕ, [], ◌∷◌, All, true, false, map};
-ghost use Rattle.std.specs.Prelude.{IfSome, IfOk, OnOk, OnErr};
+ghost use Rattle.std.specs.Prelude.{IfSome, IfOk, List, OnOk, OnErr};
+ghost use Rattle.lrat_log.specs.declared.lines.Hint.{Hint};
 ghost use Rattle.cnf.specs.declared.limits.TheConstants.{NUMBER_LIMIT};
 ghost use Rattle.lrat_read.specs.Words.{CountLine, MoreLine, FormLine, CutLine, BoundLine};
 ghost use Rattle.cnf.specs.Lrat.{IsId};
@@ -14,6 +15,7 @@ use forms::faults::LineFault;
 use forms::state::Forms;
 use forms::table::ClauseTable;
 use forms::types::NamedFact;
+use lrat_log::lines::Kind;
 use std::alloc::AllocError;
 
 /// No clause: facts of clauses are not there.
@@ -95,7 +97,7 @@ fn hear(forms: &mut Forms, clause: &[Lit]) -> Result<(), AllocError>
 }
 
 impl Standing {
-    ghost use Rattle.cuts_log.specs.Stands.{TakesWord, with_clause, with_clauses};
+    ghost use Rattle.cuts_log.specs.Stands.{TakesWord, with_clause, with_clauses, with_line};
 
     /// A clause is live from now on.
     ///
@@ -109,6 +111,22 @@ impl Standing {
         hear(&mut self.forms, clause)?;
         self.ended = clause.is_empty();
         Ok(())
+    }
+
+    /// The clause that a line of this kind adds is live from now on, if it adds one.
+    ///
+    /// # Errors
+    ///
+    /// `AllocError` where memory was refused; then nothing has changed.
+    pub(crate) fn take_line(&mut self, kind: Kind, clause: &[Lit]) -> Result<(), AllocError>
+        ensures ok { (hints : List Hint) → OnOk result (self.new ≡ with_line
+            (record { kind = kind; clause = clause.now; hints = hints }) self.old) }
+        ensures err { OnErr result (self.new ≡ self.old) }
+    {
+        if kind.is_delete() {
+            return Ok(());
+        }
+        self.take(clause)
     }
 
     /// These clauses are live from now on, one after the other.
