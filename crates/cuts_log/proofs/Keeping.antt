@@ -1,12 +1,13 @@
 -- A log with one line more.
-use Rattle.std.proofs.Common.{◌≡◌, ℕ, ◌+◌, ◌≤◌, true, false, List, [], ◌∷◌, ◌++◌, length, take, min}
+use Rattle.std.proofs.Common.{◌≡◌, ℕ, ◌+◌, ◌<◌, ◌≤◌, true, false, List, [], ◌∷◌, ◌++◌, length, take, min}
 use Rattle.std.proofs.Common.{refl, sym, ◌∙◌, ap, subst, arith, length-append}
 use Rattle.std.proofs.lemmas.Bool.{false≢true}
-use Rattle.std.proofs.lemmas.List.{take_all, take-append-le}
+use Rattle.std.proofs.lemmas.List.{length-take-le, take_all, take-append-le}
 use Rattle.cnf.specs.Literal.{Literal}
 use Rattle.cnf.specs.declared.limits.TheConstants.{NUMBER_LIMIT}
 use Rattle.bound.specs.Weighted.{weighted_cnf}
 use Rattle.forms.specs.Forms.{Forms}
+use Rattle.lrat_log.specs.declared.log.TheConstants.{LINE_LIMIT}
 use Rattle.lrat_log.specs.Log.{LogLine}
 use Rattle.lrat_read.specs.Words.{WordLine, CountLine, MoreLine, GroupLine, FormLine, CutLine}
 use Rattle.lrat_read.specs.Words.{BoundLine}
@@ -145,3 +146,8 @@ same_next old s b e seen = record {
 
 pub same_log : (old : LogState) → SameLog old old
 same_log old = record { problem = refl; origin = refl; cost = refl }
+
+pub short_seen : (l : LogState) → IsBook l.book → length (lines_seen l) < LINE_LIMIT
+short_seen l h =
+    let within : (l.book).lines ≤ length (lines_of (events_of l)) = h.within in
+    omega (arith, h.short, length-take-le (l.book).lines (lines_of (events_of l)) within)

@@ -82,6 +82,13 @@ impl<W: Write + Drop> Book<W> {
         })
     }
 
+    /// Says what holds of each book; it does nothing. `Instance::limits` has the reason.
+    pub(crate) fn limits(&self)
+        ensures { IsBook self.now }
+    {
+        let _ = &self.base;
+    }
+
     /// Whether no line comes any more.
     pub(crate) fn has_failed(&self) -> bool
         ensures failed { result ≡ self.now.failed }

@@ -52,6 +52,7 @@ impl<W: Write> Model for CutsLog<W> {
 }
 
 impl<W: Write + Drop> CutsLog<W> {
+    ghost use Rattle.cuts_log.specs.Books.{IsBook};
     ghost use Rattle.cuts_log.specs.Logs.{HasBegun, IsKept, SameLog, lines_seen};
 
     /// A log over the clauses of the instance and of its relaxation. Cuts have to hold in all
@@ -81,6 +82,14 @@ impl<W: Write + Drop> CutsLog<W> {
         })
     }
 
+    /// Says what holds of each log; it does nothing. `Instance::limits` has the reason.
+    pub fn limits(&self)
+        ensures kept { IsKept self.now }
+        ensures book { IsBook self.now.book }
+    {
+        self.book.limits();
+    }
+
     /// What the lines so far leave: counts and the present form. After a failure it means nothing.
     pub fn forms(&self) -> &Forms
         ensures { result.now ≡ self.now.standing.forms }
@@ -90,8 +99,7 @@ impl<W: Write + Drop> CutsLog<W> {
 
     /// The cost for which each cut has to hold, at most 2^62.
     pub fn cost(&self) -> u64
-        ensures cost { result ≡ self.now.cost }
-        ensures kept { IsKept self.now }
+        ensures { result ≡ self.now.cost }
     {
         self.cost
     }
@@ -325,6 +333,6 @@ impl<W: Write + Drop> Sink for CutsLog<W> {
     }
 
     fn is_short(&self) {
-        let _ = &self.book;
+        self.book.limits();
     }
 }

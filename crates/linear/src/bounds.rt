@@ -88,13 +88,12 @@ impl CostBound {
         ensures { result ≡ (pos self.now.form.scale *ℤ coefficient self.now.form.cost variable)
             +ℤ coefficient self.now.form.rest variable }
     {
-        match self.terms.get(variable) {
-            Some(term) => {
-                let rest = rest_at(term, self.present);
-                whole_coefficient(self.scale, term.cost, rest)
-            }
-            None => 0,
+        if variable >= self.terms.len() {
+            return 0;
         }
+        let term = &self.terms[variable];
+        let rest = rest_at(term, self.present);
+        whole_coefficient(self.scale, term.cost, rest)
     }
 
     /// Has room for the variables below a number. Where memory is refused, nothing changes.
