@@ -102,6 +102,15 @@ abbrev pub at_number : List Numbered → ℕ → Option Numbered
 at_number ns zero = None
 at_number ns (suc j) = slice_get ns j
 
+abbrev pub inputs_of : Numbered → List Literal
+inputs_of (Count inputs tree multiplier) = inputs
+inputs_of (Group inputs) = inputs
+
+-- the outputs that a count has; a group has none
+abbrev pub outputs_in : Numbered → List Literal
+outputs_in (Count inputs tree multiplier) = outputs_of tree
+outputs_in (Group inputs) = []
+
 -- the form with so many times these literals more
 abbrev pub plus : ℤ → List Literal → CostForm → CostForm
 plus w ls f = record f { rest = plus_literals w ls f.rest }

@@ -1,6 +1,7 @@
 // Counts and groups, which facts of a form name by their numbers.
 ghost use Rattle.std.specs.Prelude.{◌≡◌, ℕ, ◌<◌, All, Some, None, MatchOption};
-ghost use Rattle.forms.specs.Forms.{at_number, cleared, numbered_size, without_multiplier};
+ghost use Rattle.forms.specs.Forms.{at_number, cleared, inputs_of, numbered_size};
+ghost use Rattle.forms.specs.Forms.{outputs_in, without_multiplier};
 ghost use Rattle.forms.specs.Stamped.{AreStamped, IsStamped, numbered_in, numbered_at};
 ghost use Rattle.forms.specs.Within.{IsWithin};
 
@@ -40,6 +41,26 @@ pub(crate) fn find(numbered: &[Numbered], number: u64) -> Option<&Numbered>
         return None;
     }
     Some(&numbered[number as usize - 1])
+}
+
+/// The literals of a count or group.
+pub(crate) fn inputs(numbered: &Numbered) -> &[Lit]
+    ensures { (present : ℕ) → result.now ≡ inputs_of (numbered_at present numbered.now) }
+{
+    match numbered {
+        Numbered::Count(count) => &count.inputs,
+        Numbered::Group(lits) => lits,
+    }
+}
+
+/// The outputs of a count; a group has none.
+pub(crate) fn outputs(numbered: &Numbered) -> &[Lit]
+    ensures { (present : ℕ) → result.now ≡ outputs_in (numbered_at present numbered.now) }
+{
+    match numbered {
+        Numbered::Count(count) => count.totalizer.outputs(),
+        Numbered::Group(_) => &[],
+    }
 }
 
 /// How many terms the fact of a count or group has.

@@ -1,12 +1,16 @@
 // The state of forms and cuts: a method for each line.
 ghost use Rattle.std.specs.Prelude.{◌≡◌, ℕ, ◌+◌, ◌*◌, ◌<◌, ◌≤◌, ◌^◌, ◌∷◌, [], map, length, sum_by};
+ghost use Rattle.std.specs.Prelude.{◌+ℤ◌, ◌*ℤ◌, pos};
 ghost use Rattle.std.specs.Prelude.{All, IfOk, IfSome, OnErr, OnOk, Some, true};
 ghost use Rattle.cnf.specs.declared.limits.TheConstants.{NUMBER_LIMIT, VARIABLE_LIMIT};
 ghost use Rattle.adder.specs.Parts.{weight_in};
 ghost use Rattle.forms.specs.Forms.{forms_of, heard, count_line, more_line, group_line, form_line};
 ghost use Rattle.forms.specs.Forms.{are_known, at_number, begun, bound_line, clause_size, cut_line};
 ghost use Rattle.forms.specs.Forms.{fact_size, less_clause, less_fact, less_facts, less_numbered};
-ghost use Rattle.forms.specs.Forms.{numbered_size};
+ghost use Rattle.forms.specs.Forms.{inputs_of, numbered_size, outputs_in};
+ghost use Rattle.std.specs.Option.{option_copied, option_map};
+ghost use Rattle.linear.specs.Costs.{least};
+ghost use Rattle.linear.specs.Linear.{coefficient};
 ghost use Rattle.forms.specs.Answers.{HasFormFault, HasRoom, HasSizeFault, IsFact, IsMade, IsTaken};
 
 use crate::citing::{subtract_clause, subtract_item};
@@ -16,7 +20,7 @@ use crate::growing::{
     add_output, add_stages, grow_item, more_fault, multiplier_of, push_count, widen,
 };
 use crate::known::{greatest_variable, repeats_variable};
-use crate::numbered::{Numbered, next_stamp, numbered_size};
+use crate::numbered::{Numbered, find, inputs, next_stamp, numbered_size, outputs};
 use crate::sizes::{clause_size, facts_size};
 use crate::table::ClauseTable;
 use crate::types::NamedFact;
@@ -119,6 +123,45 @@ impl Forms {
         ensures { self.now.variables < VARIABLE_LIMIT }
     {
         let _ = &self.variables;
+    }
+
+    /// The greatest variable of the formula and of counts: below 2^26.
+    pub fn variables(&self) -> u32
+        ensures variables { result ≡ self.now.variables }
+        ensures small { result < VARIABLE_LIMIT }
+    {
+        self.variables
+    }
+
+    /// The least value of the present form.
+    pub fn least(&self) -> i128
+        ensures { result ≡ least self.now.form }
+    {
+        self.bound.least()
+    }
+
+    /// What a variable adds to the present form that is true; 0 where it has no place.
+    pub fn coefficient(&self, variable: u32) -> i128
+        ensures { result ≡ (pos self.now.form.scale *ℤ coefficient self.now.form.cost variable)
+            +ℤ coefficient self.now.form.rest variable }
+    {
+        self.bound.coefficient(variable as usize)
+    }
+
+    /// The literals of the count or group with this number, if there is one.
+    pub fn inputs(&self, number: u64) -> Option<&[Lit]>
+        ensures { option_copied result ≡ option_map inputs_of (at_number self.now.numbered number) }
+    {
+        Some(inputs(find(&self.numbered, number)?))
+    }
+
+    /// The outputs that the count with this number has, if there is one; a group has none. Output h
+    /// is true where at least h of the literals are.
+    pub fn outputs(&self, number: u64) -> Option<&[Lit]>
+        ensures { option_copied result
+            ≡ option_map outputs_in (at_number self.now.numbered number) }
+    {
+        Some(outputs(find(&self.numbered, number)?))
     }
 
     /// How many times the present form has the cost: below 2^62.

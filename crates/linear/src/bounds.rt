@@ -1,14 +1,15 @@
 // So many times the cost, with something beside it that changes, and its least value.
 ghost use Rattle.std.specs.Prelude.{◌≡◌, ◌+◌, ◌*◌, ◌<◌, ◌≤◌, ◌^◌, pos, false, [], length};
+ghost use Rattle.std.specs.Prelude.{◌+ℤ◌, ◌*ℤ◌};
 ghost use Rattle.std.specs.Prelude.{IfOk, MatchResult, All};
 ghost use Rattle.std.specs.Int.RustNames.{unsigned_abs};
 ghost use Rattle.cnf.specs.Clause.{has_repeat, is_tautology};
-ghost use Rattle.linear.specs.Linear.{plus_at, plus_constant, plus_literal, plus_literals};
+ghost use Rattle.linear.specs.Linear.{coefficient, plus_at, plus_constant, plus_literal, plus_literals};
 ghost use Rattle.linear.specs.Costs.{form_of, width_of, widened, restarted, fixed_by, falsified};
 ghost use Rattle.linear.specs.Costs.{HasOneWidth, least, least_where};
 
 use crate::terms::{
-    NOTHING, Term, coefficient_part, constant_part, least_at, moved, next_stamp, raised,
+    NOTHING, Term, coefficient as whole_coefficient, coefficient_part, constant_part, least_at, moved, next_stamp, raised,
     raised_cost, rest_at, scaled, where_false,
 };
 use cnf::types::Lit;
@@ -79,6 +80,20 @@ impl CostBound {
         ensures small { result < 2 ^ 62 }
     {
         self.scale
+    }
+
+    /// What a variable adds that is true: so many times its coefficient of the cost, with the one
+    /// beside it. Where the variable has no place it is 0.
+    pub fn coefficient(&self, variable: usize) -> i128
+        ensures { result ≡ (pos self.now.form.scale *ℤ coefficient self.now.form.cost variable)
+            +ℤ coefficient self.now.form.rest variable }
+    {
+        if variable >= self.terms.len() {
+            return 0;
+        }
+        let term = &self.terms[variable];
+        let rest = rest_at(term, self.present);
+        whole_coefficient(self.scale, term.cost, rest)
     }
 
     /// Has room for the variables below a number. Where memory is refused, nothing changes.

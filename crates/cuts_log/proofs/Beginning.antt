@@ -1,0 +1,45 @@
+-- A log before its first line.
+use Rattle.std.proofs.Common.{◌≡◌, ℕ, false, List, [], length, Option, refl, sym, ◌∙◌, ap, subst, arith}
+use Rattle.cnf.specs.Formula.{Cnf}
+use Rattle.cnf.specs.Literal.{Literal}
+use Rattle.cnf.specs.Problem.{Problem}
+use Rattle.cnf.specs.declared.limits.TheConstants.{NUMBER_LIMIT}
+use Rattle.bound.specs.Weighted.{weighted_cnf, weights_of}
+use Rattle.forms.specs.Forms.{Forms, forms_of}
+use Rattle.cuts_log.specs.declared.standing.Standing.{Standing}
+use Rattle.cuts_log.specs.Books.{BookState, begun_book}
+use Rattle.cuts_log.specs.Logs.{IsKept}
+use Rattle.cuts_log.specs.Stands.{stand_of, with_clauses}
+
+abbrev blank : Forms → Standing
+blank f = record { forms = f; ended = false }
+
+pub starts : (p : Problem) (g : Cnf) (cs : List (List Literal)) (n : ℕ) (ws : List (ℕ × Literal))
+    (f : Forms) (t : Standing) → g ≡ weighted_cnf p → cs ≡ g.clauses → n ≡ g.variables
+    → ws ≡ weights_of p → f ≡ forms_of n ws → t ≡ with_clauses cs (blank f)
+    → record t { ended = false } ≡ stand_of p
+starts p g cs n ws f t is clauses vars weights forms heard =
+    let w = weighted_cnf p in
+    ap (λ (s : Standing). record s { ended = false }) (heard
+    ∙ ap (λ x. with_clauses x (blank f)) (clauses ∙ ap (λ (x : Cnf). x.clauses) is)
+    ∙ ap (λ x. with_clauses w.clauses (blank x)) (forms
+    ∙ ap (λ k. forms_of k ws) (vars ∙ ap (λ (x : Cnf). x.variables) is)
+    ∙ ap (λ k. forms_of w.variables k) weights))
+
+pub begins_kept : (p : Problem) (base : ℕ) (origin : Option (List ℕ)) (b : BookState) (s : Standing)
+    → b ≡ begun_book p base origin → base ≡ length (weighted_cnf p).clauses → s ≡ stand_of p
+    → IsKept (record { book = b; standing = s; cost = NUMBER_LIMIT })
+begins_kept p base origin b s is size same =
+    let Kept : BookState → Type 0 =
+    λ x. IsKept (record { book = x; standing = s; cost = NUMBER_LIMIT }) in
+    let first : IsKept (record {
+      book = begun_book p base origin;
+      standing = s;
+      cost = NUMBER_LIMIT;
+    }) = record {
+      base = size;
+      cost = omega arith;
+      left = s;
+      taken = same;
+      standing = λ _. refl;
+    } in subst Kept (sym is) first

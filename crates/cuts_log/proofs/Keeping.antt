@@ -1,0 +1,153 @@
+-- A log with one line more.
+use Rattle.std.proofs.Common.{◌≡◌, ℕ, ◌+◌, ◌<◌, ◌≤◌, true, false, List, [], ◌∷◌, ◌++◌, length, take, min}
+use Rattle.std.proofs.Common.{refl, sym, ◌∙◌, ap, subst, arith, length-append}
+use Rattle.std.proofs.lemmas.Bool.{false≢true}
+use Rattle.std.proofs.lemmas.List.{length-take-le, take_all, take-append-le}
+use Rattle.cnf.specs.Literal.{Literal}
+use Rattle.cnf.specs.declared.limits.TheConstants.{NUMBER_LIMIT}
+use Rattle.bound.specs.Weighted.{weighted_cnf}
+use Rattle.forms.specs.Forms.{Forms}
+use Rattle.lrat_log.specs.declared.log.TheConstants.{LINE_LIMIT}
+use Rattle.lrat_log.specs.Log.{LogLine}
+use Rattle.lrat_read.specs.Words.{WordLine, CountLine, MoreLine, GroupLine, FormLine, CutLine}
+use Rattle.lrat_read.specs.Words.{BoundLine}
+use Rattle.cuts_log.specs.declared.standing.Standing.{Standing}
+use Rattle.cuts_log.specs.Books.{BookState, FailsAt, IsBook, Notes, failed_book, seen_next}
+use Rattle.cuts_log.specs.Events.{Event, Plain, TraceState, Word, lines_in, lines_of}
+use Rattle.cuts_log.specs.Logs.{Brings, IsKept, LogState, SameLog, events_of, lines_seen, problem_of}
+use Rattle.cuts_log.specs.Stands.{IsRightWord, Takes, TakesAll, TakesWord, stand_of}
+use Rattle.cuts_log.proofs.EventLines.{lines_of-push}
+
+pub takes_push : (cost : ℕ) (s mid new : Standing) (es : List Event) (e : Event)
+    → TakesAll cost s es mid → Takes cost mid e new → TakesAll cost s (es ++ e ∷ []) new
+takes_push cost s mid new [] e h t = (new, subst (λ z. Takes cost z e new) h t, refl)
+takes_push cost s mid new (d ∷ es) e h t = (h.0, h.1, takes_push cost h.0 mid new es e h.2 t)
+
+-- what holds for a cost holds for a lower one
+right_lower : (more less : ℕ) → less ≤ more → (old new : Forms) (w : WordLine)
+    (made : List (List Literal)) → IsRightWord more old w made new → IsRightWord less old w made new
+right_lower more less le old new (CountLine outputs inputs) made h = h
+right_lower more less le old new (MoreLine number) made h = h
+right_lower more less le old new (GroupLine inputs ids) made h = h
+right_lower more less le old new (FormLine scale facts) made h = h
+right_lower more less le old new (CutLine c) made h = (h.0, h.1, omega (arith, h.2), h.3, h.4)
+right_lower more less le old new (BoundLine lower) made h = h
+
+takes_lower : (more less : ℕ) → less ≤ more → (old new : Standing) (e : Event)
+    → Takes more old e new → Takes less old e new
+takes_lower more less le old new (Plain l) t = t
+takes_lower more less le old new (Word w made) t = record {
+  open_end = t.open_end;
+  numbers = t.numbers;
+  middle = t.middle;
+  right = right_lower more less le old.forms t.middle w made t.right;
+  clauses = t.clauses;
+}
+
+pub all_lower : (more less : ℕ) → less ≤ more → (old new : Standing) (es : List Event)
+    → TakesAll more old es new → TakesAll less old es new
+all_lower more less le old new [] t = t
+all_lower more less le old new (e ∷ es) t =
+    (t.0, takes_lower more less le old t.0 e t.1, all_lower more less le t.0 new es t.2)
+
+abbrev with_cost : LogState → ℕ → LogState
+with_cost l cost = record l { cost = cost }
+
+pub kept_lower : (l : LogState) (cost : ℕ) → cost ≤ l.cost → IsKept l → IsKept (with_cost l cost)
+kept_lower l cost le h = record {
+  base = h.base;
+  cost = omega (arith, h.cost);
+  left = h.left;
+  taken = all_lower l.cost cost le (stand_of (problem_of l)) h.left (events_of l) h.taken;
+  standing = h.standing;
+}
+
+-- whatever the standing is after a failure
+pub kept_failed : (l : LogState) (s : Standing) → IsKept l
+    → IsKept (record { book = failed_book l.book; standing = s; cost = l.cost })
+kept_failed l s h = record {
+  base = h.base;
+  cost = h.cost;
+  left = h.left;
+  taken = h.taken;
+  standing = λ f. absurd (false≢true (sym f));
+}
+
+-- one line more, which the search sees or does not
+pub kept_next : (l : LogState) (e : Event) (s : Standing) (b : BookState) → IsKept l
+    → (l.book).failed ≡ false → Takes l.cost l.standing e s → b.seen ≡ seen_next e (l.book).seen
+    → b.base ≡ (l.book).base → IsKept (record { book = b; standing = s; cost = l.cost })
+kept_next l e s b h works t seen base =
+    let es = events_of l in
+    let from = stand_of (problem_of l) in
+    let next : Takes l.cost h.left e s = subst (λ z. Takes l.cost z e s) (h.standing works) t in
+    let all : TakesAll l.cost from (es ++ e ∷ []) s = takes_push l.cost from h.left s es e h.taken next
+    in
+    let Goes : TraceState → Type 0 = λ z. TakesAll l.cost (stand_of z.problem) z.events s in
+    let Based : TraceState → Type 0 = λ z. (l.book).base
+    ≡ length (weighted_cnf z.problem).clauses in record {
+      base = base ∙ subst Based (sym seen) h.base;
+      cost = h.cost;
+      left = s;
+      taken = subst Goes (sym seen) all;
+      standing = λ f. refl;
+    }
+
+abbrev seen_in : BookState → List LogLine
+seen_in b = take b.lines (lines_of (b.seen).events)
+
+-- the lines that the search sees
+seen_whole : (b : BookState) → IsBook b → b.failed ≡ false → seen_in b ≡ lines_of (b.seen).events
+seen_whole b h w = take_all b.lines (lines_of (b.seen).events) (omega (arith, h.lines w))
+
+seen_more : (old new : BookState) (e : Event) → IsBook old → old.failed ≡ false → Notes e old new
+    → seen_in new ≡ seen_in old ++ lines_in e
+seen_more old new e h w n =
+    let es = (old.seen).events in
+    let same : (new.seen).events ≡ es ++ e ∷ [] = ap (λ (t : TraceState). t.events) n.seen in
+    let lines : lines_of (new.seen).events ≡ lines_of es ++ lines_in e =
+    ap lines_of same ∙ lines_of-push es e in
+    let long : length (lines_of (new.seen).events) ≡ length (lines_of es) + length (lines_in e) =
+    ap length lines ∙ length-append (lines_of es) (lines_in e) in
+    take_all new.lines (lines_of (new.seen).events) (omega (arith, n.lines, h.lines w, long))
+    ∙ lines ∙ ap (λ z. z ++ lines_in e) (sym (seen_whole old h w))
+
+seen_same : (old new : BookState) (e : Event) → IsBook old → FailsAt e old new
+    → seen_in new ≡ seen_in old
+seen_same old new e h f =
+    let es = (old.seen).events in
+    let within : old.lines ≤ length (lines_of es) = h.within in
+    ap (λ n. take n (lines_of (new.seen).events)) f.lines
+    ∙ ap (λ (t : TraceState). take old.lines (lines_of t.events)) f.seen
+    ∙ ap (take old.lines) (lines_of-push es e)
+    ∙ take-append-le old.lines (lines_of es) (lines_in e) within
+
+pub brings : (old : LogState) (s : Standing) (b : BookState) (e : Event) (more : List LogLine)
+    → IsBook old.book → (old.book).failed ≡ false → Notes e old.book b → lines_in e ≡ more
+    → Brings more old (record { book = b; standing = s; cost = old.cost })
+brings old s b e more h w n is = record {
+  lines = seen_more old.book b e h w n ∙ ap (λ z. lines_seen old ++ z) is;
+  works = n.works;
+}
+
+pub lost : (old : LogState) (s : Standing) (b : BookState) (e : Event) → IsBook old.book
+    → FailsAt e old.book b
+    → lines_seen (record { book = b; standing = s; cost = old.cost }) ≡ lines_seen old
+lost old s b e h f = seen_same old.book b e h f
+
+pub same_next : (old : LogState) (s : Standing) (b : BookState) (e : Event)
+    → b.seen ≡ seen_next e (old.book).seen
+    → SameLog old (record { book = b; standing = s; cost = old.cost })
+same_next old s b e seen = record {
+  problem = ap (λ (t : TraceState). t.problem) seen;
+  origin = ap (λ (t : TraceState). t.origin) seen;
+  cost = refl;
+}
+
+pub same_log : (old : LogState) → SameLog old old
+same_log old = record { problem = refl; origin = refl; cost = refl }
+
+pub short_seen : (l : LogState) → IsBook l.book → length (lines_seen l) < LINE_LIMIT
+short_seen l h =
+    let within : (l.book).lines ≤ length (lines_of (events_of l)) = h.within in
+    omega (arith, h.short, length-take-le (l.book).lines (lines_of (events_of l)) within)

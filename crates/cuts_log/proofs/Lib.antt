@@ -1,0 +1,7 @@
+mod Saying
+mod Spelled
+mod EventLines
+mod Noting
+mod Keeping
+mod Claims
+mod Beginning

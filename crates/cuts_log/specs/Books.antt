@@ -1,0 +1,70 @@
+-- The lines of a log and their text.
+use Rattle.std.specs.Prelude.{◌≡◌, ℕ, ◌+◌, ◌<◌, ◌≤◌, Bool, true, false, List, [], ◌∷◌, ◌++◌, length}
+use Rattle.std.specs.Prelude.{Option}
+use Rattle.cnf.specs.Problem.{Problem}
+use Rattle.lrat_log.specs.declared.log.TheConstants.{LINE_LIMIT}
+use Rattle.lrat_log.specs.Steps.{added_count}
+use Rattle.cuts_log.specs.Events.{Event, TraceState, lines_in, lines_of, text_of, tokens_at}
+use Rattle.cuts_log.specs.Outs.{OutState, Says, fresh}
+
+pub record BookState : Type 0 where
+  pub seen : TraceState
+  pub out : OutState
+  -- how many clauses the formula has
+  pub base : ℕ
+  -- how many lines the search sees, and how many of them add a clause
+  pub lines : ℕ
+  pub added : ℕ
+  -- no line comes any more
+  pub failed : Bool
+
+pub record IsBook (b : BookState) : Type 0 where
+  pub small : b.base < LINE_LIMIT
+  pub short : b.lines < LINE_LIMIT
+  pub said : Says (fresh (b.seen).origin) (text_of b.base (b.seen).events) b.out
+  -- after a failed write there may be one line more, which the search does not see
+  pub within : b.lines ≤ length (lines_of (b.seen).events)
+  pub lines : b.failed ≡ false → b.lines ≡ length (lines_of (b.seen).events)
+  pub added : b.failed ≡ false → b.added ≡ added_count (lines_of (b.seen).events)
+  pub works : b.failed ≡ false → (b.out).failed ≡ false
+
+abbrev pub begun_book : Problem → ℕ → Option (List ℕ) → BookState
+begun_book p base origin = record {
+  seen = record { problem = p; origin = origin; events = [] };
+  out = fresh origin;
+  base = base;
+  lines = 0;
+  added = 0;
+  failed = false;
+}
+
+abbrev pub failed_book : BookState → BookState
+failed_book b = record b { failed = true }
+
+abbrev pub seen_next : Event → TraceState → TraceState
+seen_next e s = record s { events = s.events ++ e ∷ [] }
+
+-- the line was taken, and its text put
+pub record Notes (e : Event) (old new : BookState) : Type 0 where
+  pub seen : new.seen ≡ seen_next e old.seen
+  pub base : new.base ≡ old.base
+  pub lines : new.lines ≡ old.lines + length (lines_in e)
+  pub added : new.added ≡ old.added + added_count (lines_in e)
+  pub works : new.failed ≡ false
+
+-- a write failed at this line, which the search does not see
+pub record FailsAt (e : Event) (old new : BookState) : Type 0 where
+  pub seen : new.seen ≡ seen_next e old.seen
+  pub base : new.base ≡ old.base
+  pub lines : new.lines ≡ old.lines
+  pub failed : new.failed ≡ true
+  pub write_failed : (new.out).failed ≡ true
+
+-- what was held is written, and nothing else happened; or a write failed
+pub record Flushed (old new : BookState) : Type 0 where
+  pub held : (new.out).held ≡ []
+  pub rest : new ≡ record old { out = new.out }
+
+pub record FailsToFlush (old new : BookState) : Type 0 where
+  pub write_failed : (new.out).failed ≡ true
+  pub rest : new ≡ record old { out = new.out; failed = true }

@@ -1,0 +1,6 @@
+pub mod Events
+pub mod Outs
+pub mod Facts
+pub mod Stands
+pub mod Books
+pub mod Logs

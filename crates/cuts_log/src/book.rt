@@ -1,0 +1,172 @@
+// The lines of a log and their text.
+ghost use Rattle.std.specs.Prelude.{◌≡◌, ◌+◌, ◌<◌, ◌≤◌, ◌∷◌, ◌++◌, [], true, false, length, OnOk};
+ghost use Rattle.std.specs.Prelude.{IfOk, OnErr};
+ghost use Rattle.lrat_log.specs.declared.log.TheConstants.{LINE_LIMIT};
+ghost use Rattle.cuts_log.specs.Events.{lines_in};
+ghost use Rattle.cuts_log.specs.Books.{FailsAt, FailsToFlush, Flushed, IsBook, Notes};
+ghost use Rattle.cuts_log.specs.Books.{begun_book, failed_book};
+
+use crate::events::{Beginning, Happens, Next};
+use crate::out::Out;
+use crate::trace::{Trace, seen};
+use cnf::types::Instance;
+use lrat_log::log::LINE_LIMIT;
+use std::alloc::AllocError;
+use std::io::Write;
+use std::marker::Model;
+
+/// The lines of a log, of which it keeps none, on their way to a writer.
+#[derive(Drop)]
+pub(crate) struct Book<W: Write> {
+    // Where the text goes.
+    out: Out<W>,
+    // How many clauses the formula has, below 2^61: the ids of additions follow it.
+    base: u64,
+    // How many lines the search sees, below 2^61: a clause that a word makes is one of them.
+    lines: usize,
+    // How many of them add a clause.
+    added: u64,
+    // Whether memory was refused or a write has failed: no line comes any more.
+    failed: bool,
+    // What proofs know of the lines. It takes no space.
+    trace: Trace,
+}
+
+impl<W: Write> Model for Book<W> {
+    ghost use Rattle.cuts_log.specs.Books.{BookState, IsBook};
+
+    ghost Value = { BookState };
+
+    ghost view = { λ b. record {
+      seen = b.trace.state;
+      out = b.out;
+      base = b.base;
+      lines = b.lines;
+      added = b.added;
+      failed = b.failed;
+    } };
+
+    ghost invariant = { λ b. IsBook (record {
+      seen = b.trace.state;
+      out = b.out;
+      base = b.base;
+      lines = b.lines;
+      added = b.added;
+      failed = b.failed;
+    }) };
+}
+
+impl<W: Write + Drop> Book<W> {
+    /// No lines yet, over a formula with so many clauses.
+    ///
+    /// # Errors
+    ///
+    /// `AllocError` where they are 2^61 or more.
+    pub(crate) fn new(instance: &Instance, base: usize, writer: W) -> Result<Self, AllocError>
+        ensures { IfOk result (λ b. b ≡ begun_book instance.now base (W.contents writer)) }
+    {
+        if base >= LINE_LIMIT {
+            return Err(AllocError);
+        }
+        let trace = seen(&Beginning {
+            instance,
+            writer: &writer,
+        });
+        Ok(Book {
+            out: Out::new(writer),
+            base: base as u64,
+            lines: 0,
+            added: 0,
+            failed: false,
+            trace,
+        })
+    }
+
+    /// Says what holds of each book; it does nothing. `Instance::limits` has the reason.
+    pub(crate) fn limits(&self)
+        ensures { IsBook self.now }
+    {
+        let _ = &self.base;
+    }
+
+    /// Whether no line comes any more.
+    pub(crate) fn has_failed(&self) -> bool
+        ensures failed { result ≡ self.now.failed }
+        ensures kept { IsBook self.now }
+    {
+        self.failed
+    }
+
+    /// Whether a write has failed.
+    pub(crate) fn has_write_failed(&self) -> bool
+        ensures { result ≡ self.now.out.failed }
+    {
+        self.out.has_failed()
+    }
+
+    /// Whether there is room for so many lines more.
+    pub(crate) fn has_room(&self, more: usize) -> bool
+        ensures works { result ≡ true → self.now.failed ≡ false }
+        ensures room { result ≡ true → self.now.lines + more < LINE_LIMIT }
+        ensures kept { IsBook self.now }
+    {
+        !self.failed && more < LINE_LIMIT - self.lines
+    }
+
+    /// No line comes any more.
+    pub(crate) fn fail(&mut self)
+        ensures { self.new ≡ failed_book self.old }
+    {
+        self.failed = true;
+    }
+
+    /// Takes the line, and puts its text.
+    ///
+    /// # Errors
+    ///
+    /// `AllocError` where a write failed.
+    pub(crate) fn note<T: Happens>(&mut self, line: &T) -> Result<(), AllocError>
+        requires works { self.old.failed ≡ false }
+        requires room { self.old.lines + length (lines_in (T.event line.now)) < LINE_LIMIT }
+        ensures ok { OnOk result (Notes (T.event line.now) self.old self.new) }
+        ensures err { OnErr result (FailsAt (T.event line.now) self.old self.new) }
+    {
+        line.put(&mut self.out, self.base, self.added);
+        self.trace = seen(&Next {
+            trace: &self.trace,
+            event: line,
+        });
+        if self.out.has_failed() {
+            self.failed = true;
+            return Err(AllocError);
+        }
+        self.lines += line.lines();
+        self.added += line.added() as u64;
+        Ok(())
+    }
+
+    /// Writes what was put out and not written. The writer is not flushed.
+    ///
+    /// # Errors
+    ///
+    /// `AllocError` where the writer fails.
+    pub(crate) fn flush(&mut self) -> Result<(), AllocError>
+        requires works { self.old.failed ≡ false }
+        ensures ok { OnOk result (Flushed self.old self.new) }
+        ensures err { OnErr result (FailsToFlush self.old self.new) }
+    {
+        self.out.flush();
+        if self.out.has_failed() {
+            self.failed = true;
+            return Err(AllocError);
+        }
+        Ok(())
+    }
+
+    /// The writer. What was put out and not written is lost.
+    pub(crate) fn into_writer(self) -> W
+        ensures { W.contents result ≡ self.out.had }
+    {
+        self.out.into_writer()
+    }
+}

@@ -1,0 +1,11 @@
+//! The log of a search by forms and cuts. It is written as a certificate while it grows, and takes
+//! no line that the checker would refuse.
+#![tactic(auto)]
+
+mod book;
+mod events;
+pub mod log;
+mod out;
+mod spelling;
+mod standing;
+mod trace;

@@ -1,0 +1,338 @@
+// The log of a search by forms and cuts.
+//
+// The state of forms stands beside the text, and each line that begins with a word is put to it
+// first: what the state refuses is not written. The state is the one that the checker keeps, so a
+// search need prove nothing of what it proposes.
+ghost use Rattle.std.specs.Prelude.{◌≡◌, ◌≤◌, true, false, [], map, min, IfOk, OnOk, OnErr, None, Some};
+ghost use Rattle.lrat_log.specs.Log.{axiom_line, is_axiom};
+
+use crate::book::Book;
+use crate::events::{BoundLine, CountLine, CutLine, FormLine, MoreLine, PlainLine};
+use crate::standing::Standing;
+use bound::weighted::{weighted_formula, weights};
+use cnf::clause_list::ClauseList;
+use cnf::limits::NUMBER_LIMIT;
+use cnf::types::{Instance, Lit};
+use forms::state::Forms;
+use forms::types::NamedFact;
+use lrat_log::lines::{Hint, Kind};
+use lrat_log::sink::Sink;
+use std::alloc::AllocError;
+use std::io::Write;
+use std::marker::Model;
+
+/// A log that is written as a certificate of forms and cuts while it grows. It keeps none of its
+/// lines: its memory is that of the counts and of the present form, and a block of text.
+///
+/// A line is right or refused. After a refusal nothing has changed. Where memory is refused or a
+/// write fails, the log has failed: it takes no line any more, and each call answers `AllocError`.
+#[derive(Drop)]
+pub struct CutsLog<W: Write> {
+    // The lines so far, and their text.
+    book: Book<W>,
+    // What the lines leave; after a failure it means nothing.
+    standing: Standing,
+    // Each cut holds in all solutions that cost less: at most 2^62.
+    cost: u64,
+}
+
+impl<W: Write> Model for CutsLog<W> {
+    ghost use Rattle.std.specs.Coded.{codes};
+    ghost use Rattle.totalizer.specs.TreeCode.{tree_code};
+    ghost use Rattle.cuts_log.specs.Logs.{LogState, IsKept};
+
+    ghost Value = { LogState };
+
+    ghost coded = { Prim.hlevel (codes, tree_code) };
+
+    ghost view = { λ l. record { book = l.book; standing = l.standing; cost = l.cost } };
+
+    ghost invariant = { λ l.
+        IsKept (record { book = l.book; standing = l.standing; cost = l.cost }) };
+}
+
+impl<W: Write + Drop> CutsLog<W> {
+    ghost use Rattle.cuts_log.specs.Books.{IsBook};
+    ghost use Rattle.cuts_log.specs.Logs.{HasBegun, IsKept, SameLog, lines_seen};
+
+    /// A log over the clauses of the instance and of its relaxation. Cuts have to hold in all
+    /// solutions, until there is one.
+    ///
+    /// # Errors
+    ///
+    /// `AllocError` where memory was refused.
+    pub fn new(instance: &Instance, writer: W) -> Result<Self, AllocError>
+        ensures { IfOk result (λ l. HasBegun instance.now (W.contents writer) l) }
+    {
+        instance.limits();
+        let alloc = instance.allocator();
+        let formula = weighted_formula(instance)?;
+        let weights = weights(instance)?;
+        let mut standing = Standing {
+            forms: Forms::new(alloc, formula.vars(), &weights)?,
+            ended: false,
+        };
+        standing.take_all(formula.clauses())?;
+        standing.ended = false;
+        let book = Book::new(instance, formula.clauses().len(), writer)?;
+        Ok(CutsLog {
+            book,
+            standing,
+            cost: NUMBER_LIMIT,
+        })
+    }
+
+    /// Says what holds of each log; it does nothing. `Instance::limits` has the reason.
+    pub fn limits(&self)
+        ensures kept { IsKept self.now }
+        ensures book { IsBook self.now.book }
+    {
+        self.book.limits();
+    }
+
+    /// What the lines so far leave: counts and the present form. After a failure it means nothing.
+    pub fn forms(&self) -> &Forms
+        ensures { result.now ≡ self.now.standing.forms }
+    {
+        &self.standing.forms
+    }
+
+    /// The cost for which each cut has to hold, at most 2^62.
+    pub fn cost(&self) -> u64
+        ensures { result ≡ self.now.cost }
+    {
+        self.cost
+    }
+
+    /// Whether the log takes no line any more, since memory was refused or a write has failed.
+    pub fn has_failed(&self) -> bool
+        ensures { result ≡ self.now.book.failed }
+    {
+        self.book.has_failed()
+    }
+
+    /// Whether a write has failed.
+    pub fn has_write_failed(&self) -> bool
+        ensures { result ≡ self.now.book.out.failed }
+    {
+        self.book.has_write_failed()
+    }
+
+    /// From now on cuts have to hold in the solutions that cost less than this, if it is less than
+    /// what they had to hold for.
+    pub fn set_cost(&mut self, cost: u64)
+        ensures { self.new ≡ record self.old { cost = min cost self.old.cost } }
+    {
+        if cost < self.cost {
+            self.cost = cost;
+        }
+    }
+
+    /// Writes what was put out and not written. The writer is not flushed.
+    ///
+    /// # Errors
+    ///
+    /// `AllocError` where the log has failed, or where the writer fails.
+    pub fn flush(&mut self) -> Result<(), AllocError>
+        ensures lines { lines_seen self.new ≡ lines_seen self.old }
+        ensures empty { OnOk result (self.new.book.out.held ≡ []) }
+        ensures works { OnOk result (self.new.book.failed ≡ false) }
+        ensures same { SameLog self.old self.new }
+    {
+        if self.book.has_failed() {
+            return Err(AllocError);
+        }
+        self.book.flush()
+    }
+
+    /// The writer. What was put out and not written is lost.
+    pub fn into_writer(self) -> W
+        ensures { W.contents result ≡ self.book.out.had }
+    {
+        self.book.into_writer()
+    }
+}
+
+impl<W: Write + Drop> CutsLog<W> {
+    ghost use Rattle.cuts_log.specs.Logs.{Brings, SameLog, lines_seen};
+
+    /// A count of these literals with so many outputs, if the state takes it; its clauses, and no
+    /// others, are in `made` then, and the log has their lines last. Answers whether it does.
+    ///
+    /// # Errors
+    ///
+    /// `AllocError` where memory was refused, or the log has failed. The lines stay as they were.
+    pub fn count(
+        &mut self,
+        outputs: u64,
+        inputs: &[Lit],
+        made: &mut ClauseList,
+    ) -> Result<bool, AllocError>
+        ensures taken { IfOk result (λ taken. taken ≡ true
+            → Brings (map axiom_line made.new) self.old self.new) }
+        ensures refused { IfOk result (λ taken. taken ≡ false → self.new ≡ self.old) }
+        ensures err { OnErr result (lines_seen self.new ≡ lines_seen self.old) }
+        ensures same { SameLog self.old self.new }
+    {
+        if self.book.has_failed() {
+            return Err(AllocError);
+        }
+        let Ok(is_taken) = self.standing.count(outputs, inputs, made) else {
+            self.book.fail();
+            return Err(AllocError);
+        };
+        if !is_taken {
+            return Ok(false);
+        }
+        if !self.book.has_room(made.len()) {
+            self.book.fail();
+            return Err(AllocError);
+        }
+        self.book.note(&CountLine {
+            outputs,
+            inputs,
+            made,
+        })?;
+        Ok(true)
+    }
+
+    /// One more output of the count with this number, if the state takes it; its clauses, and no
+    /// others, are in `made` then, and the log has their lines last. Answers whether it does.
+    ///
+    /// # Errors
+    ///
+    /// `AllocError` where memory was refused, or the log has failed. The lines stay as they were.
+    pub fn more(&mut self, number: u64, made: &mut ClauseList) -> Result<bool, AllocError>
+        ensures taken { IfOk result (λ taken. taken ≡ true
+            → Brings (map axiom_line made.new) self.old self.new) }
+        ensures refused { IfOk result (λ taken. taken ≡ false → self.new ≡ self.old) }
+        ensures err { OnErr result (lines_seen self.new ≡ lines_seen self.old) }
+        ensures same { SameLog self.old self.new }
+    {
+        if self.book.has_failed() {
+            return Err(AllocError);
+        }
+        let Ok(is_taken) = self.standing.more(number, made) else {
+            self.book.fail();
+            return Err(AllocError);
+        };
+        if !is_taken {
+            return Ok(false);
+        }
+        if !self.book.has_room(made.len()) {
+            self.book.fail();
+            return Err(AllocError);
+        }
+        self.book.note(&MoreLine { number, made })?;
+        Ok(true)
+    }
+
+    /// So many times the cost, less these facts, in place of the present form, if the state takes
+    /// it. Answers whether it does. The facts are those of counts: others are refused.
+    ///
+    /// # Errors
+    ///
+    /// `AllocError` where memory was refused, or the log has failed. The lines stay as they were.
+    pub fn form(&mut self, scale: u64, facts: &[NamedFact]) -> Result<bool, AllocError>
+        ensures taken { IfOk result (λ taken. taken ≡ true → Brings [] self.old self.new) }
+        ensures refused { IfOk result (λ taken. taken ≡ false → self.new ≡ self.old) }
+        ensures err { OnErr result (lines_seen self.new ≡ lines_seen self.old) }
+        ensures same { SameLog self.old self.new }
+    {
+        self.say_form(Some(scale), facts)
+    }
+
+    /// The present form less these facts, if the state takes it. Answers whether it does. The facts
+    /// are those of counts: others are refused.
+    ///
+    /// # Errors
+    ///
+    /// `AllocError` where memory was refused, or the log has failed. The lines stay as they were.
+    pub fn form_more(&mut self, facts: &[NamedFact]) -> Result<bool, AllocError>
+        ensures taken { IfOk result (λ taken. taken ≡ true → Brings [] self.old self.new) }
+        ensures refused { IfOk result (λ taken. taken ≡ false → self.new ≡ self.old) }
+        ensures err { OnErr result (lines_seen self.new ≡ lines_seen self.old) }
+        ensures same { SameLog self.old self.new }
+    {
+        self.say_form(None, facts)
+    }
+
+    /// A form of this scale, or further facts where there is none, if the state takes it.
+    fn say_form(&mut self, scale: Option<u64>, facts: &[NamedFact]) -> Result<bool, AllocError>
+        ensures taken { IfOk result (λ taken. taken ≡ true → Brings [] self.old self.new) }
+        ensures refused { IfOk result (λ taken. taken ≡ false → self.new ≡ self.old) }
+        ensures err { OnErr result (lines_seen self.new ≡ lines_seen self.old) }
+        ensures same { SameLog self.old self.new }
+    {
+        if self.book.has_failed() {
+            return Err(AllocError);
+        }
+        let Ok(is_taken) = self.standing.form(scale, facts) else {
+            self.book.fail();
+            return Err(AllocError);
+        };
+        if !is_taken {
+            return Ok(false);
+        }
+        self.book.note(&FormLine { scale, facts })?;
+        Ok(true)
+    }
+
+    /// A lower bound of the cost, if the present form is worth it. Answers whether it is.
+    ///
+    /// # Errors
+    ///
+    /// `AllocError` where the log has failed, or fails now.
+    pub fn bound(&mut self, lower: u64) -> Result<bool, AllocError>
+        ensures taken { IfOk result (λ taken. taken ≡ true → Brings [] self.old self.new) }
+        ensures refused { IfOk result (λ taken. taken ≡ false → self.new ≡ self.old) }
+        ensures err { OnErr result (lines_seen self.new ≡ lines_seen self.old) }
+        ensures same { SameLog self.old self.new }
+    {
+        if self.book.has_failed() {
+            return Err(AllocError);
+        }
+        if !self.standing.bound(lower) {
+            return Ok(false);
+        }
+        self.book.note(&BoundLine { lower })?;
+        Ok(true)
+    }
+}
+
+/// Whether lines of this kind bring a clause from outside.
+fn is_axiom(kind: Kind) -> bool
+    ensures { result ≡ is_axiom kind }
+{
+    matches!(kind, Kind::Axiom)
+}
+
+impl<W: Write + Drop> Sink for CutsLog<W> {
+    ghost use Rattle.cuts_log.specs.Logs.{lines_seen};
+
+    ghost lines = { lines_seen };
+
+    fn append(&mut self, kind: Kind, lits: &[Lit], hints: &[Hint]) -> Result<(), AllocError> {
+        if is_axiom(kind) || !self.book.has_room(1) {
+            return Err(AllocError);
+        }
+        self.standing.take_line(kind, lits)?;
+        self.book.note(&PlainLine { kind, lits, hints })?;
+        Ok(())
+    }
+
+    fn cut(&mut self, lits: &[Lit]) -> Result<bool, AllocError> {
+        if !self.book.has_room(1) {
+            return Err(AllocError);
+        }
+        if !self.standing.cut(lits, self.cost)? {
+            return Ok(false);
+        }
+        self.book.note(&CutLine { lits })?;
+        Ok(true)
+    }
+
+    fn is_short(&self) {
+        self.book.limits();
+    }
+}
