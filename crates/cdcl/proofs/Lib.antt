@@ -4,6 +4,8 @@ mod FirstRun
 mod Answered
 mod GivenClause
 mod Rounds
+mod Guiding
+mod Apart
 mod Halts
 mod Assumed
 mod Frozen

@@ -2,6 +2,9 @@
 -- open.
 use Rattle.std.specs.Prelude.{◌≡◌, ℕ, ◌+◌, ◌<◌, ◌≤◌, List, ◌++◌, length, count_by, Option, Result}
 use Rattle.std.specs.Prelude.{IfOk, OnErr, IfSome, IfNone, All, ◌⊎◌, true}
+use Rattle.std.specs.declared.vec.Vec.{Vec}
+use Rattle.std.specs.declared.alloc.Global.{Global}
+use Rattle.cnf.specs.Literal.{Literal}
 use Rattle.propagate.specs.Trail.{literals_of}
 use Rattle.analyze.specs.Analyzer.{IsFixpoint}
 use Rattle.cdcl_order.specs.Budgets.{BudgetState, left_of}
@@ -13,6 +16,7 @@ use Rattle.cdcl_search.specs.declared.input.Input.{Input}
 use Rattle.cdcl_search.specs.declared.search.Search.{Search}
 use Rattle.cdcl_search.specs.Invariant.{zero_of}
 use Rattle.cdcl_search.specs.Running.{Runs, StaysOpen, IsEnded}
+use Rattle.cdcl_search.specs.Cores.{IsShown}
 use Rattle.cdcl.specs.declared.guided.GuidedEnd.{GuidedEnd}
 use Rattle.cdcl.specs.declared.guided.GuidedEnd.TheVariants.{Satisfied, Refuted, Stopped, Spent}
 use Rattle.cdcl.specs.declared.guided.Taking.{Taking}
@@ -81,5 +85,16 @@ IsTaking old new p before after had left Ended = IsEnded p after
 pub record TakesCut {E : Type 0} (result : Result Taking E) (old new : Search) (p : Input)
     (before after : List LogLine) (had left : BudgetState) : Type 0 where
   pub takes : IfOk result (IsTaking old new p before after had left)
+  pub pays : PaysOpen p.given before after had left
+  pub err : OnErr result (StaysOpen p after)
+
+-- What a search finds where an assumption is false: a core, for which a unit was paid if its clause
+-- was learned.
+pub record FindsCore {E : Type 0} (result : Result (Option (Vec Literal Global)) E) (new : Search)
+    (p : Input) (assumptions : List Literal) (before after : List LogLine)
+    (had left : BudgetState) : Type 0 where
+  pub runs : IfOk result (λ found. Runs new p after)
+  pub shown : IfOk result (λ found. IfSome found
+      (λ core. IsShown (new.store).slots assumptions core.items))
   pub pays : PaysOpen p.given before after had left
   pub err : OnErr result (StaysOpen p after)

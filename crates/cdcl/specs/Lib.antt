@@ -5,3 +5,4 @@ pub mod Outcomes
 pub mod Halting
 pub mod Answering
 pub mod Guiding
+mod Vectors

@@ -1,12 +1,13 @@
 // A guide that assumes literals: they are decided first, in their order, one level each, and a
 // restart keeps these levels. Where one is false, the search stops there, for whoever wants to know
 // why; or it is passed over, as long as there is room for what explains it.
-ghost use Rattle.std.specs.Prelude.{◌≡◌, [], length, IfOk};
+ghost use Rattle.std.specs.Prelude.{◌≡◌};
 
 use crate::guide::{Advice, Guide};
 use crate::outcome::{Passed, Share};
 use cdcl_search::search::Search;
 use cnf::types::Lit;
+use propagate::engine::Engine;
 use std::alloc::{AllocError, Global};
 use std::marker::Model;
 
@@ -122,26 +123,36 @@ impl Assumptions {
         Advice::Free
     }
 
-    /// What it says of its next assumptions.
+    /// What it says of its next assumption.
     fn follow(&mut self, search: &Search) -> Result<Advice, AllocError>
         ensures same_view { self.new ≡ self.old }
     {
-        while self.next < self.lits.len() {
-            let lit = self.lits[self.next];
-            if lit.variable() > search.engine.variables() {
-                return Ok(Advice::Stop);
-            }
-            match search.engine.value(lit) {
-                Some(true) => self.next += 1,
-                Some(false) => return Ok(self.at_false(lit)),
-                None => {
-                    self.opened.push(self.next)?;
-                    return Ok(Advice::Decide(lit));
-                }
-            }
+        self.next = untrue_from(&search.engine, self.lits.as_slice(), self.next);
+        if self.next >= self.lits.len() {
+            return Ok(self.beside(search));
         }
-        Ok(self.beside(search))
+        let lit = self.lits[self.next];
+        if lit.variable() > search.engine.variables() {
+            return Ok(Advice::Stop);
+        }
+        if search.engine.value(lit) == Some(false) {
+            return Ok(self.at_false(lit));
+        }
+        self.opened.push(self.next)?;
+        Ok(Advice::Decide(lit))
     }
+}
+
+/// The first place from this one on at which a literal is not true, or is not there; their number
+/// where there is none.
+fn untrue_from(engine: &Engine, lits: &[Lit], from: usize) -> usize {
+    for place in from..lits.len() {
+        let lit = lits[place];
+        if lit.variable() > engine.variables() || engine.value(lit) != Some(true) {
+            return place;
+        }
+    }
+    lits.len()
 }
 
 impl Guide for Assumptions {

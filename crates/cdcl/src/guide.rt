@@ -49,7 +49,7 @@ pub trait Guide: Drop {
         ensures follows { (first : Self) → follows first self.old → follows first self.new };
 
     /// The literal of its last answer is false as this clause says: its negation, and negations of
-    /// decisions. At level 0, and where its negation was decided, the clause has its negation alone.
+    /// decisions. At level 0, and where its negation was decided, that stands alone.
     ///
     /// # Errors
     ///

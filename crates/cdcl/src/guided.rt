@@ -1,8 +1,10 @@
 // The loop of a search that a guide leads: propagate, then learn from a conflict or ask the guide.
 // Clauses may come from outside the log while it runs, as the guide hands them out and the sink
-// takes them. Each of them costs a unit of the budget, as a learned one does. So a search is bounded
-// by its budget and the variables without a value, whatever the guide says.
+// takes them. Each of them costs a unit of the budget, as a learned one does. So a search is
+// bounded by its budget and the variables without a value, whatever the guide says.
 ghost use Rattle.std.specs.Prelude.{◌≡◌, ◌+◌, ◌*◌, ◌<◌, ◌≤◌, true, false, length, OnOk};
+ghost use Rattle.cnf.specs.Literal.{negation};
+ghost use Rattle.cnf.specs.Marks.{mark_of, HasPlace};
 ghost use Rattle.cnf.specs.declared.limits.TheConstants.{VARIABLE_LIMIT};
 ghost use Rattle.propagate.specs.Trail.{literals_of};
 ghost use Rattle.propagate.specs.Fits.{IsFalseClause, IsWithin};
@@ -58,8 +60,8 @@ pub(crate) enum Taking {
 ///
 /// # Errors
 ///
-/// `AllocError` where memory was refused, here or by the guide or the sink. The lines are steps also
-/// then.
+/// `AllocError` where memory was refused, here or by the guide or the sink: the search cannot go
+/// on. The log stays open.
 pub fn search_guided<S: Sink, G: Guide, W: SearchWatch>(
     search: &mut Search,
     input: &Input,
@@ -184,7 +186,8 @@ fn go_on<S: Sink, G: Guide>(
         (S.lines sink.new) budget.old budget.new }
     ensures follows { (first : G) → G.follows first guide.old → G.follows first guide.new }
 {
-    match ask(search, guide)? {
+    let advice = ask(search, guide)?;
+    match advice {
         Advice::Decide(lit) => decide(search, input, sink, guide, budget, lit),
         Advice::Cut(lbd) => cut(search, input, sink, guide, budget, marks, lbd),
         Advice::Explain(_) | Advice::Free => branch(search, input, sink, guide, budget),
@@ -338,7 +341,8 @@ fn cut<S: Sink, G: Guide>(
         (S.lines sink.new) budget.old budget.new }
     ensures follows { (first : G) → G.follows first guide.old → G.follows first guide.new }
 {
-    match take_cut(search, input, sink, budget, marks, guide.cut(), lbd)? {
+    let taking = take_cut(search, input, sink, budget, marks, guide.cut(), lbd)?;
+    match taking {
         Taking::Refused => {
             guide.refused();
             branch(search, input, sink, guide, budget)
@@ -372,7 +376,8 @@ fn take_cut<S: Sink>(
     if !are_apart(marks, variables, lits) {
         return Ok(Taking::Refused);
     }
-    if !sink.cut(lits)? {
+    let taken = sink.cut(lits)?;
+    if !taken {
         return Ok(Taking::Refused);
     }
     budget.count_learned();
@@ -407,10 +412,19 @@ fn are_apart(marks: &mut Marks, variables: u32, lits: &[Lit]) -> bool
         if lit.variable() > variables {
             return false;
         }
-        if marks.is_marked(*lit) || marks.is_marked(lit.negation()) {
+        if is_met(marks, *lit) {
             return false;
         }
         marks.mark(*lit);
     }
     true
+}
+
+/// Whether the literal or its negation is marked.
+fn is_met(marks: &Marks, lit: Lit) -> bool
+    requires { HasPlace (length marks.now) lit }
+    ensures own { result ≡ false → mark_of marks.now lit ≡ false }
+    ensures negated { result ≡ false → mark_of marks.now (negation lit) ≡ false }
+{
+    marks.is_marked(lit) || marks.is_marked(lit.negation())
 }

@@ -7,6 +7,7 @@ pub use cdcl_search::given;
 pub mod answers;
 mod assuming;
 pub mod assumptions;
+pub mod core_finding;
 pub mod guide;
 pub mod guided;
 pub mod outcome;

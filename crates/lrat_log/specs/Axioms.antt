@@ -19,7 +19,7 @@ pub record IsNewClause (c : List Literal) : Type 0 where
 
 -- a clause from outside comes under the next id
 pub record AddsAxiom (id : ℕ) (old : Live) (l : LogLine) (new : Live) : Type 0 where
-  pub axiom : is_axiom l.kind ≡ true
+  pub kind : is_axiom l.kind ≡ true
   pub addable : IsAddable old id l.clause
   pub live : new ≡ with_clause old id l.clause
 

@@ -1,0 +1,76 @@
+use Rattle.std.proofs.Common.{subst, sym, refl}
+use Rattle.cdcl_search.specs.declared.search.Search.{Search}
+use Rattle.cdcl_search.specs.Running.{Runs, StaysOpen}
+use Rattle.cdcl_search.specs.Cores.{HasSubset, IsRefusal, IsShown}
+use Rattle.cdcl.specs.Guiding.{PaysOpen}
+use Rattle.cdcl.proofs.Rounds.{open_log}
+use Rattle.cdcl.proofs.Guiding.{finds_none, finds_fails, open_writes, paid_nothing}
+use Rattle.cdcl.proofs.core_finding.find_core.Goals as goal
+
+pub returns-then-not-is_refused : goal.returns-then-not-is_refused
+returns-then-not-is_refused g c =
+    finds_none c.args.search.now c.args.search.now c.args.input.now c.args.assumptions.now
+    (g.S.Sink.lines c.args.sink.now) c.args.budget.now c.requires.runs refl
+
+pub returns-in_err-refusal : goal.returns-in_err-refusal
+returns-in_err-refusal g c =
+    let p = c.args.input.now in
+    let b = c.args.budget.now in
+    let ls = g.S.Sink.lines c.args.sink.now in
+    finds_fails c.from_residual.result c.refuse.new.self p c.args.assumptions.now ls ls b b
+    c.from_residual.ensures.0 (open_log c.args.search.now p ls c.requires.runs)
+    (paid_nothing p.given ls b)
+
+pub returns-in-Unknown : goal.returns-in-Unknown
+returns-in-Unknown g c =
+    finds_none c.args.search.now c.refuse.new.self c.args.input.now c.args.assumptions.now
+    (g.S.Sink.lines c.args.sink.now) c.args.budget.now c.requires.runs c.refuse.ensures.unchanged
+
+pub returns-in-Shown : goal.returns-in-Shown
+returns-in-Shown g c =
+    let p = c.args.input.now in
+    let b = c.args.budget.now in
+    let ls = g.S.Sink.lines c.args.sink.now in
+    let asked = c.args.assumptions.now in
+    let same = c.refuse.ensures.unchanged in
+    record {
+      runs = subst (λ (s : Search). Runs s p ls) (sym same) c.requires.runs;
+      shown = subst (λ (s : Search). IsShown (s.store).slots asked c.in-Shown.core.items)
+          (sym same)
+          (subst (IsRefusal c.args.search.now asked) c.in-Shown.is
+          c.in_ok-refusal.ensures.refusal);
+      pays = paid_nothing p.given ls b;
+      err = tt;
+    }
+
+pub returns-in_err-learn_core-in-Follows : goal.returns-in_err-learn_core-in-Follows
+returns-in_err-learn_core-in-Follows g c =
+    let p = c.args.input.now in
+    let b = c.args.budget.now in
+    let ls = g.S.Sink.lines c.args.sink.now in
+    let more = g.S.Sink.lines c.learn_core.new.sink in
+    let same = c.in_err-learn_core-in-Follows.ensures.err in
+    finds_fails c.from_residual-in_err-learn_core-in-Follows.result c.learn_core.new.search p
+    c.args.assumptions.now ls more b b c.from_residual-in_err-learn_core-in-Follows.ensures.0
+    (subst (StaysOpen p) (sym same) (open_log c.args.search.now p ls c.requires.runs))
+    (subst (λ x. PaysOpen p.given ls x b b) (sym same) (paid_nothing p.given ls b))
+
+pub returns-in_ok-learn_core-in-Follows : goal.returns-in_ok-learn_core-in-Follows
+returns-in_ok-learn_core-in-Follows g c =
+    let p = c.args.input.now in
+    let ls = g.S.Sink.lines c.args.sink.now in
+    let more = g.S.Sink.lines c.learn_core.new.sink in
+    let n = c.learn_core.new.search in
+    let refusal =
+    subst (IsRefusal c.args.search.now c.args.assumptions.now) c.in-Follows.is
+    c.in_ok-refusal.ensures.refusal in
+    let learns = c.in_ok-learn_core-in-Follows.ensures.learns in
+    record {
+      runs = learns.runs;
+      shown = record {
+        assumed = refusal.assumed;
+        shown = subst (HasSubset n.store.slots) (sym refusal.negated) learns.has;
+      };
+      pays = (1, open_writes p.given ls more 1 learns.writes, c.count_learned.ensures);
+      err = tt;
+    }

@@ -1,0 +1,46 @@
+use Rattle.std.proofs.Common.{subst, sym, ◌∙◌, ap, arith}
+use Rattle.propagate.specs.Trail.{literals_of}
+use Rattle.analyze.specs.Analyzer.{IsFixpoint}
+use Rattle.cdcl_order.specs.Policies.{PolicyState}
+use Rattle.cdcl_search.specs.declared.search.Search.{Search}
+use Rattle.cdcl.proofs.Rounds.{goes_decided}
+use Rattle.cdcl.proofs.Guiding.{guided_breaks, guided_goes, paid_none}
+use Rattle.cdcl.proofs.guided.decide.Goals as goal
+
+pub branch-search-requires-clause-fixpoint : goal.branch-search-requires-clause-fixpoint
+branch-search-requires-clause-fixpoint g c =
+    subst (λ (s : Search). IsFixpoint s.store.slots (literals_of s.engine.trail))
+    (sym (c.decide_open.ensures.stays c.if-not-decide_open.true)) c.requires.fixpoint
+
+pub thin_out-requires : goal.thin_out-requires
+thin_out-requires g c = record {
+  runs = c.decide_open.ensures.runs c.args.input.now (g.S.Sink.lines c.args.sink.now)
+      c.requires.runs;
+}
+
+pub returns-in_err-thin_out : goal.returns-in_err-thin_out
+returns-in_err-thin_out g c =
+    let p = c.args.input.now in
+    let b = c.args.budget.now in
+    let ls = g.S.Sink.lines c.args.sink.now in
+    let more = g.S.Sink.lines c.thin_out.new.sink in
+    guided_breaks c.from_residual.result c.args.search.now c.thin_out.new.search p ls more b b
+    c.from_residual.ensures.0 c.in_err-thin_out.ensures.err
+    (paid_none p.given ls more b c.thin_out.ensures.writes)
+
+pub returns : goal.returns
+returns g c =
+    let s = c.args.search.now in
+    let p = c.args.input.now in
+    let b = c.args.budget.now in
+    let ls = g.S.Sink.lines c.args.sink.now in
+    let more = g.S.Sink.lines c.thin_out.new.sink in
+    let e = c.decide_open.ensures in
+    let r = c.in_ok-thin_out.ensures.leaves in
+    let longer = e.longer c.if-not-decide_open.false in
+    let policy = ap (λ (x : Search). x.policy) e.engine.rest in
+    guided_goes s c.thin_out.new.search p ls more b b
+    (goes_decided s c.thin_out.new.search p more b r.runs (r.variables ∙ e.engine.variables)
+    (ap (λ (x : PolicyState). x.has_learned) (r.policy ∙ policy))
+    (let l = r.long in omega arith) e.within)
+    (paid_none p.given ls more b c.thin_out.ensures.writes)

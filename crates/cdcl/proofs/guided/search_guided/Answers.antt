@@ -1,0 +1,42 @@
+use Rattle.std.proofs.Common.{refl, ◌∙◌}
+use Rattle.cdcl.proofs.Guiding.{guided_fails, paid_nothing, paid_join}
+use Rattle.cdcl.proofs.guided.search_guided.Goals as goal
+
+pub rounds-init : goal.rounds-init
+rounds-init g c = record {
+  runs = c.begin.ensures.runs c.args.input.now (g.S.Sink.lines c.args.sink.now) c.requires.runs;
+  pays = paid_nothing c.args.input.now.given (g.S.Sink.lines c.args.sink.now)
+      c.args.budget.now;
+  follows = λ first f. c.went_back.ensures.follows first f;
+  same_seen = refl;
+}
+
+pub rounds-preserved : goal.rounds-preserved
+rounds-preserved g c = record {
+  runs = (let goes = rw c.in-None.is at c.in_ok-end.ensures.turns.goes in goes.runs);
+  pays =
+      paid_join c.args.input.now.given (g.S.Sink.lines c.args.sink.now)
+      (g.S.Sink.lines c.rounds.sink) (g.S.Sink.lines c.round.new.sink) c.args.budget.now
+      c.rounds.budget c.round.new.budget c.rounds.invariant.pays c.round.ensures.turns.pays;
+  follows = λ first f. c.round.ensures.follows first (c.rounds.invariant.follows first f);
+  same_seen = c.round.ensures.same_seen ∙ c.rounds.invariant.same_seen;
+}
+
+pub returns-in_err-end-clause-search : goal.returns-in_err-end-clause-search
+returns-in_err-end-clause-search g c =
+    guided_fails c.from_residual.result c.round.new.search c.args.input.now
+    (g.S.Sink.lines c.args.sink.now) (g.S.Sink.lines c.round.new.sink) c.args.budget.now
+    c.round.new.budget c.from_residual.ensures.0 c.in_err-end.ensures.turns.err
+    (paid_join c.args.input.now.given (g.S.Sink.lines c.args.sink.now)
+    (g.S.Sink.lines c.rounds.sink) (g.S.Sink.lines c.round.new.sink) c.args.budget.now
+    c.rounds.budget c.round.new.budget c.rounds.invariant.pays c.round.ensures.turns.pays)
+
+pub returns-in-Some-clause-search : goal.returns-in-Some-clause-search
+returns-in-Some-clause-search g c = record {
+  ends = (let ends = rw c.in-Some.is at c.in_ok-end.ensures.turns.ends in ends);
+  pays =
+      paid_join c.args.input.now.given (g.S.Sink.lines c.args.sink.now)
+      (g.S.Sink.lines c.rounds.sink) (g.S.Sink.lines c.round.new.sink) c.args.budget.now
+      c.rounds.budget c.round.new.budget c.rounds.invariant.pays c.round.ensures.turns.pays;
+  err = tt;
+}

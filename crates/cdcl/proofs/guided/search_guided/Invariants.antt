@@ -1,0 +1,18 @@
+use Rattle.std.proofs.Common.{◌≡◌}
+use Rattle.cdcl_search.specs.Running.{Runs}
+use Rattle.cdcl.specs.Turns.{rounds_left}
+use Rattle.cdcl.specs.Guiding.{PaysOpen}
+use Rattle.cdcl.proofs.guided.search_guided.Given as goal
+
+abbrev pub invariant-rounds : goal.invariant-rounds
+invariant-rounds g l = record {
+  runs : Runs l.search l.input (g.S.Sink.lines l.sink);
+  pays : PaysOpen l.input.given (g.S.Sink.lines l.fn.sink) (g.S.Sink.lines l.sink) l.fn.budget
+      l.budget;
+  follows : (first : g.row.G.Denot) → g.G.Guide.follows first l.fn.guide
+      → g.G.Guide.follows first l.guide;
+  same_seen : g.W.SearchWatch.seen l.watch ≡ g.W.SearchWatch.seen l.fn.watch;
+}
+
+abbrev pub decreases-rounds : goal.decreases-rounds
+decreases-rounds g l = rounds_left l.search l.budget

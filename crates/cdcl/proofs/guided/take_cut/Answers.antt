@@ -1,0 +1,104 @@
+use Rattle.std.proofs.Common.{◌≡◌, ◌<◌, List, [], ◌∷◌, ◌++◌, length, refl, sym, ◌∙◌, subst, arith}
+use Rattle.std.proofs.lemmas.Bool.{eqb-true, eqb-false}
+use Rattle.std.proofs.lemmas.List.{nil_from_length}
+use Rattle.cnf.specs.Literal.{Literal}
+use Rattle.lrat_log.specs.Log.{axiom_line}
+use Rattle.lrat_log.specs.Axioms.{IsNewClause}
+use Rattle.cdcl_search.specs.Running.{IsEnded, Runs, StaysOpen}
+use Rattle.cdcl_search.proofs.Laws.{axiom_ends, axiom_stays}
+use Rattle.cdcl.specs.Guiding.{PaysOpen}
+use Rattle.cdcl.proofs.Rounds.{goes_learned, open_log}
+use Rattle.cdcl.proofs.Guiding.{cut_refused, cut_fails, paid_axiom, paid_nothing}
+use Rattle.cdcl.proofs.guided.take_cut.Goals as goal
+
+pub returns-in_err-make_room : goal.returns-in_err-make_room
+returns-in_err-make_room g c =
+    let s = c.args.search.now in
+    let p = c.args.input.now in
+    let b = c.args.budget.now in
+    let ls = g.S.Sink.lines c.args.sink.now in
+    cut_fails c.from_residual.result s s p ls ls b b c.from_residual.ensures.0
+    (open_log s p ls c.requires.runs) (paid_nothing p.given ls b)
+
+pub returns-then-not-are_apart : goal.returns-then-not-are_apart
+returns-then-not-are_apart g c =
+    let ls = g.S.Sink.lines c.args.sink.now in
+    cut_refused c.args.search.now c.args.input.now ls ls c.args.budget.now refl
+
+pub returns-in_err-taken : goal.returns-in_err-taken
+returns-in_err-taken g c =
+    let s = c.args.search.now in
+    let p = c.args.input.now in
+    let b = c.args.budget.now in
+    let ls = g.S.Sink.lines c.args.sink.now in
+    let more = g.S.Sink.lines c.cut.new.self in
+    let same = c.in_err-taken.ensures.err in
+    cut_fails c.from_residual-in_err-taken.result s s p ls more b b
+    c.from_residual-in_err-taken.ensures.0
+    (subst (StaysOpen p) (sym same) (open_log s p ls c.requires.runs))
+    (subst (λ x. PaysOpen p.given ls x b b) (sym same) (paid_nothing p.given ls b))
+
+pub returns-then-not-taken : goal.returns-then-not-taken
+returns-then-not-taken g c =
+    cut_refused c.args.search.now c.args.input.now (g.S.Sink.lines c.args.sink.now)
+    (g.S.Sink.lines c.cut.new.self) c.args.budget.now
+    (c.in_ok-taken.ensures.refused c.if-not-taken.true)
+
+pub returns-then-is_empty : goal.returns-then-is_empty
+returns-then-is_empty g c =
+    let s = c.args.search.now in
+    let p = c.args.input.now in
+    let ls = g.S.Sink.lines c.args.sink.now in
+    let lits = c.args.lits.now in
+    let lines = c.in_ok-taken.ensures.taken c.if-not-taken.false in
+    let none : lits ≡ [] =
+    nil_from_length lits
+    (eqb-true (length lits) 0 (sym c.is_empty.ensures ∙ c.if-is_empty.true)) in
+    let new = c.are_apart.ensures.new c.if-not-are_apart.false in
+    record {
+      takes =
+          subst (IsEnded p) (sym lines)
+          (subst (λ (x : List Literal). IsEnded p (ls ++ axiom_line x ∷ [])) (sym none)
+          (axiom_ends s p ls c.requires.runs (subst IsNewClause none new)));
+      pays =
+          paid_axiom p.given ls (g.S.Sink.lines c.cut.new.self) lits c.args.budget.now
+          c.count_learned.new.self lines c.count_learned.ensures;
+      err = tt;
+    }
+
+pub returns-in_err-take_axiom : goal.returns-in_err-take_axiom
+returns-in_err-take_axiom g c =
+    let s = c.args.search.now in
+    let p = c.args.input.now in
+    let ls = g.S.Sink.lines c.args.sink.now in
+    let more = g.S.Sink.lines c.cut.new.self in
+    let lits = c.args.lits.now in
+    let lines = c.in_ok-taken.ensures.taken c.if-not-taken.false in
+    let long = eqb-false (length lits) 0 (sym c.is_empty.ensures ∙ c.if-is_empty.false) in
+    let some : 0 < length lits = omega (arith, long) in
+    cut_fails c.from_residual-in_err-take_axiom.result s c.take_axiom.new.search p ls more
+    c.args.budget.now c.count_learned.new.self c.from_residual-in_err-take_axiom.ensures.0
+    (subst (StaysOpen p) (sym lines) (axiom_stays s p ls lits c.requires.runs some
+    (c.are_apart.ensures.new c.if-not-are_apart.false)))
+    (paid_axiom p.given ls more lits c.args.budget.now c.count_learned.new.self lines
+    c.count_learned.ensures)
+
+pub returns : goal.returns
+returns g c =
+    let s = c.args.search.now in
+    let p = c.args.input.now in
+    let b = c.args.budget.now in
+    let ls = g.S.Sink.lines c.args.sink.now in
+    let more = g.S.Sink.lines c.cut.new.self in
+    let lines = c.in_ok-taken.ensures.taken c.if-not-taken.false in
+    let e = c.in_ok-take_axiom.ensures in
+    record {
+      takes =
+          goes_learned s c.take_axiom.new.search p more b c.count_learned.new.self
+          (subst (Runs c.take_axiom.new.search p) (sym lines) (e.takes p ls c.requires.runs))
+          e.variables c.count_learned.ensures c.requires.left;
+      pays =
+          paid_axiom p.given ls more c.args.lits.now b c.count_learned.new.self lines
+          c.count_learned.ensures;
+      err = tt;
+    }
