@@ -1,5 +1,5 @@
 -- Turns of a guided search.
-use Rattle.std.proofs.Common.{◌≡◌, ℕ, ◌+◌, ◌<◌, ◌≤◌, true, false, cond, List, [], ◌∷◌, ◌++◌, Option}
+use Rattle.std.proofs.Common.{◌≡◌, ℕ, ◌+◌, ◌≤◌, cond, List, [], ◌∷◌, ◌++◌, Option}
 use Rattle.std.proofs.Common.{Some, None, length, inl, inr, refl, sym, ◌∙◌, ap, subst, arith}
 use Rattle.std.proofs.Common.{append_assoc}
 use Rattle.std.specs.Prelude.{Result, Ok, IsErr, IfSome, IfNone}
@@ -9,8 +9,7 @@ use Rattle.std.proofs.lemmas.List.Sums.{sum_by-append, sum_by-cons}
 use Rattle.std.proofs.lemmas.Result.{IfOk-weaker, IfOk-from_err}
 use Rattle.cnf.specs.Literal.{Literal}
 use Rattle.lrat_log.specs.Log.{LogLine, Given, is_axiom, is_learned, axiom_line}
-use Rattle.lrat_log.specs.Steps.{IsBaseOf, IsLearnedOrShort, LearnsNew, nothing_exempt}
-use Rattle.lrat_log.specs.Steps.{learned_count}
+use Rattle.lrat_log.specs.Steps.{IsLearnedOrShort, LearnsNew, nothing_exempt}
 use Rattle.lrat_log.specs.Axioms.{FollowByRup, TakesNoAxiom}
 use Rattle.lrat_log.proofs.Laws.{when_err, follow_append}
 use Rattle.cdcl_order.specs.Budgets.{BudgetState}

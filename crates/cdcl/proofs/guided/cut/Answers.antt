@@ -2,7 +2,6 @@ use Rattle.std.proofs.Common.{subst, sym}
 use Rattle.propagate.specs.Trail.{literals_of}
 use Rattle.analyze.specs.Analyzer.{IsFixpoint}
 use Rattle.cdcl_search.specs.declared.search.Search.{Search}
-use Rattle.cdcl.specs.Guiding.{IsTaking}
 use Rattle.cdcl.specs.declared.guided.GuidedEnd.TheVariants.{Refuted}
 use Rattle.cdcl.proofs.Guiding.{guided_breaks, guided_ends, guided_goes}
 use Rattle.cdcl.proofs.guided.cut.Goals as goal

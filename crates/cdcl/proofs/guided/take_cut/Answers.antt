@@ -2,7 +2,7 @@ use Rattle.std.proofs.Common.{◌≡◌, ◌<◌, List, [], ◌∷◌, ◌++◌,
 use Rattle.std.proofs.lemmas.Bool.{eqb-true, eqb-false}
 use Rattle.std.proofs.lemmas.List.{nil_from_length}
 use Rattle.cnf.specs.Literal.{Literal}
-use Rattle.lrat_log.specs.Log.{LogLine, axiom_line}
+use Rattle.lrat_log.specs.Log.{axiom_line}
 use Rattle.lrat_log.specs.Axioms.{IsNewClause}
 use Rattle.cdcl_search.specs.Running.{IsEnded, Runs, StaysOpen}
 use Rattle.cdcl_search.proofs.Laws.{axiom_ends, axiom_stays}
