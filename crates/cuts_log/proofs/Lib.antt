@@ -5,3 +5,4 @@ mod Noting
 mod Keeping
 mod Claims
 mod Beginning
+mod JudgedWords
