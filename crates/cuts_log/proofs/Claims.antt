@@ -89,11 +89,16 @@ form_taken old scale facts mid fault open_end small all h e cost =
     let each = recursion_from_All IsCountFact facts all in
     let line = form_of (form_line no_clause scale facts old.forms) old.forms mid fault h e in record {
       open_end = open_end;
-      numbers = (scale_said scale small,
-          All-from_recursion IsNamed (map spelled facts) (facts_spelled facts each));
+      numbers = (
+        scale_said scale small,
+        All-from_recursion IsNamed (map spelled facts) (facts_spelled facts each),
+      );
       middle = mid;
-      right = (ap (λ fs. form_line no_clause scale fs old.forms) (facts_named facts) ∙ line,
-          All-from_recursion (λ (f : NamedFact). f.is_numbered ≡ true) (map spelled facts)
-          (facts_numbered facts each), refl);
+      right = (
+        ap (λ fs. form_line no_clause scale fs old.forms) (facts_named facts) ∙ line,
+        All-from_recursion (λ (f : NamedFact). f.is_numbered ≡ true) (map spelled facts)
+            (facts_numbered facts each),
+        refl,
+      );
       clauses = refl;
     }

@@ -28,10 +28,10 @@ use Rattle.cuts_log.specs.Facts.{named, no_clause}
 use Rattle.cuts_log.specs.Judging.{Follows}
 use Rattle.cuts_log.specs.Stands.{AreNumbered, IsRightWord, TakesWord, with_clause, with_clauses}
 
-abbrev stands_as : CutsState → Standing
+abbrev pub stands_as : CutsState → Standing
 stands_as s = record { forms = s.forms; ended = s.ended }
 
-put_all-stands : (cs : List (List Literal)) (s : CutsState)
+pub put_all-stands : (cs : List (List Literal)) (s : CutsState)
     → stands_as (put_all cs s) ≡ with_clauses cs (stands_as s)
 put_all-stands [] s = refl
 put_all-stands (c ∷ cs) s = put_all-stands cs (put (s.last + 1) c s)
@@ -138,10 +138,12 @@ word_judged k cost le s new (FormLine scale facts) made middle right e =
     let line : judged_word (Some k) (Some (FormLine scale facts)) s ≡ Ok (record s { forms = middle })
     = rw there refl in
     let none : made ≡ [] = right.2 in
-    let plain = e ∙ ap (λ m. with_clauses m (record { forms = middle; ended = s.ended })) none in
-    (record s { forms = middle }, line,
-    subst (λ m. Follows s m new (record s { forms = middle })) (sym none)
-    (follows s middle s.worth s.proved [] new plain))
+    let plain = e ∙ ap (λ m. with_clauses m (record { forms = middle; ended = s.ended })) none in (
+      record s { forms = middle },
+      line,
+      subst (λ m. Follows s m new (record s { forms = middle })) (sym none)
+          (follows s middle s.worth s.proved [] new plain),
+    )
 word_judged k cost le s new (CutLine c) made middle right e =
     let w = right.0 in
     let enough : nat_le k w ≡ true = le_true k w (omega (arith, right.2)) in
@@ -150,9 +152,12 @@ word_judged k cost le s new (CutLine c) made middle right e =
     let line : judged_word (Some k) (Some (CutLine c)) s ≡ Ok next = rw (worth, enough) refl in
     let one : made ≡ c ∷ [] = right.3 in
     let plain = e ∙ ap (λ m. with_clauses m (record { forms = middle; ended = s.ended })) one
-    ∙ ap (λ f. with_clauses (c ∷ []) (record { forms = f; ended = s.ended })) right.4 in
-    (next, line, subst (λ m. Follows s m new next) (sym one)
-    (follows s s.forms (min s.worth w) s.proved (c ∷ []) new plain))
+    ∙ ap (λ f. with_clauses (c ∷ []) (record { forms = f; ended = s.ended })) right.4 in (
+      next,
+      line,
+      subst (λ m. Follows s m new next) (sym one)
+          (follows s s.forms (min s.worth w) s.proved (c ∷ []) new plain),
+    )
 word_judged k cost le s new (BoundLine lower) made middle right e =
     let w = right.0 in
     let worth = right.1 in
@@ -161,9 +166,12 @@ word_judged k cost le s new (BoundLine lower) made middle right e =
     let line : judged_word (Some k) (Some (BoundLine lower)) s ≡ Ok next = rw (worth, enough) refl in
     let none : made ≡ [] = right.3 in
     let plain = e ∙ ap (λ m. with_clauses m (record { forms = middle; ended = s.ended })) none
-    ∙ ap (λ f. with_clauses [] (record { forms = f; ended = s.ended })) right.4 in
-    (next, line, subst (λ m. Follows s m new next) (sym none)
-    (follows s s.forms s.worth (max s.proved (min lower s.worth)) [] new plain))
+    ∙ ap (λ f. with_clauses [] (record { forms = f; ended = s.ended })) right.4 in (
+      next,
+      line,
+      subst (λ m. Follows s m new next) (sym none)
+          (follows s s.forms s.worth (max s.proved (min lower s.worth)) [] new plain),
+    )
 
 -- the tokens of a line say it
 some_of : (x y : Option WordLine) → Some x ≡ Some y → x ≡ y

@@ -6,3 +6,4 @@ mod Keeping
 mod Claims
 mod Beginning
 mod JudgedWords
+mod JudgedLogs

@@ -5,3 +5,4 @@ pub mod Stands
 pub mod Books
 pub mod Logs
 pub mod Judging
+pub mod Vectors
