@@ -1,5 +1,6 @@
 -- The lines of a log are judged one after the other.
-use Rattle.std.proofs.Common.{◌≡◌, ℕ, ◌+◌, ◌≤◌, false, List, [], ◌∷◌, map, Some, Ok, refl, sym, ◌∙◌, ap}
+use Rattle.std.proofs.Common.{◌≡◌, ℕ, ◌+◌, ◌≤◌, false, List, [], ◌∷◌, map, Some, Ok, refl, sym, ◌∙◌}
+use Rattle.std.proofs.Common.{ap}
 use Rattle.std.proofs.Common.{subst}
 use Rattle.cnf.specs.Literal.{Literal}
 use Rattle.cnf.specs.Problem.{Problem}
@@ -36,21 +37,29 @@ lines_judged : (k cost base before n : ℕ) → k ≤ cost → (s : CutsState) (
 lines_judged k cost base before n le s old new [] e h p = (s, refl, e ∙ sym h)
 lines_judged k cost base before n le s old new (Plain l ∷ es) e h p =
     let t = p.0 in
-    let same : stands_as t ≡ h.0 = pair (stands_as t) (with_line l (stands_as s)) p.1.forms p.1.ended
+    let same : stands_as t ≡ h.0 = pair (stands_as t) (with_line l (stands_as s)) p.1.forms
+    p.1.ended
     ∙ ap (with_line l) e ∙ sym h.1.1 in
     let rest = lines_judged k cost base (before + added_count (l ∷ [])) (n + 1) le t h.0 new es same
-    h.2 p.2 in
-    (rest.0, next_line k n s t rest.0 (tokens_at base before (Plain l))
-    (tokens_on base (before + added_count (l ∷ [])) es) p.1.judged rest.1, rest.2)
+    h.2 p.2 in (
+      rest.0,
+      next_line k n s t rest.0 (tokens_at base before (Plain l))
+          (tokens_on base (before + added_count (l ∷ [])) es) p.1.judged rest.1,
+      rest.2,
+    )
 lines_judged k cost base before n le s old new (Word w made ∷ es) e h p =
     let j = taken_judged k cost le s old h.0 w made (ap (λ (x : Standing). x.forms) e)
     (ap (λ (x : Standing). x.ended) e) h.1 in
     let t = j.0 in
     let same : stands_as t ≡ h.0 = pair (stands_as t) h.0 j.2.forms j.2.ended in
-    let rest = lines_judged k cost base (before + added_count (map axiom_line made)) (n + 1) le t h.0
-    new es same h.2 (p t j.1) in
-    (rest.0, next_line k n s t rest.0 (word_tokens w)
-    (tokens_on base (before + added_count (map axiom_line made)) es) j.1 rest.1, rest.2)
+    let rest = lines_judged k cost base (before + added_count (map axiom_line made)) (n + 1) le t
+    h.0
+    new es same h.2 (p t j.1) in (
+      rest.0,
+      next_line k n s t rest.0 (word_tokens w)
+          (tokens_on base (before + added_count (map axiom_line made)) es) j.1 rest.1,
+      rest.2,
+    )
 
 -- before the first line
 start_stands : (p : Problem) → stands_as (cuts_start p) ≡ stand_of p
@@ -63,7 +72,8 @@ start_stands p =
       worth = NUMBER_LIMIT;
       proved = 0;
     } in
-    ap (λ (x : Standing). record x { ended = false }) (put_all-stands (weighted_cnf p).clauses blank)
+    ap (λ (x : Standing). record x { ended = false }) (put_all-stands (weighted_cnf p).clauses
+    blank)
 
 pub logs_judged : (l : LogState) (k : ℕ) → IsKept l → (l.book).failed ≡ false → k ≤ l.cost
     → ArePlainRight k (l.book).base 0 (cuts_start (problem_of l)) (events_of l)

@@ -1,5 +1,6 @@
 -- A line that begins with a word, and that the log took, is judged right.
-use Rattle.std.proofs.Common.{◌≡◌, ℕ, zero, suc, ◌+◌, ◌≤◌, Bool, true, false, List, [], ◌∷◌, ◌++◌, length}
+use Rattle.std.proofs.Common.{◌≡◌, ℕ, zero, suc, ◌+◌, ◌≤◌, Bool, true, false, List, [], ◌∷◌, ◌++◌}
+use Rattle.std.proofs.Common.{length}
 use Rattle.std.proofs.Common.{map, Option, Some, None, Ok, refl, sym, ◌∙◌, ap, subst, arith}
 use Rattle.std.specs.Prelude.{max, min}
 use Rattle.std.proofs.Common.{Result, Err, append_assoc, append-nil, le-leb}
@@ -9,7 +10,8 @@ use Rattle.std.proofs.lemmas.List.Elements.{recursion_from_All}
 use Rattle.cnf.specs.Clause.{is_empty_clause}
 use Rattle.cnf.specs.Literal.{Literal}
 use Rattle.forms.specs.declared.types.NamedFact.{NamedFact as FormFact}
-use Rattle.forms.specs.Forms.{Forms, Numbered, fact_size, facts_size, form_line, heard, less_fact, less_facts}
+use Rattle.forms.specs.Forms.{Forms, Numbered, fact_size, facts_size, form_line, heard, less_fact}
+use Rattle.forms.specs.Forms.{less_facts}
 use Rattle.forms.specs.Forms.{begun, cut_line, bound_line, count_line, more_line}
 use Rattle.forms.specs.declared.faults.LineFault.{LineFault}
 use Rattle.forms.specs.declared.faults.LineFault.TheVariants.{Name, Limit}
@@ -135,7 +137,9 @@ word_judged k cost le s new (FormLine scale facts) made middle right e =
     let each = recursion_from_All (λ (f : NamedFact). f.is_numbered ≡ true) facts right.1 in
     let there = form_alike (listed_at s.live) no_clause scale (map named facts) s.forms
     (numbered_facts facts each) ∙ right.0 in
-    let line : judged_word (Some k) (Some (FormLine scale facts)) s ≡ Ok (record s { forms = middle })
+    let line : judged_word (Some k) (Some (FormLine scale facts)) s ≡ Ok (record s {
+      forms = middle;
+    })
     = rw there refl in
     let none : made ≡ [] = right.2 in
     let plain = e ∙ ap (λ m. with_clauses m (record { forms = middle; ended = s.ended })) none in (
@@ -163,7 +167,8 @@ word_judged k cost le s new (BoundLine lower) made middle right e =
     let worth = right.1 in
     let enough : nat_le lower w ≡ true = le_true lower w right.2 in
     let next : CutsState = record s { proved = max s.proved (min lower s.worth) } in
-    let line : judged_word (Some k) (Some (BoundLine lower)) s ≡ Ok next = rw (worth, enough) refl in
+    let line : judged_word (Some k) (Some (BoundLine lower)) s ≡ Ok next = rw (worth, enough) refl
+    in
     let none : made ≡ [] = right.3 in
     let plain = e ∙ ap (λ m. with_clauses m (record { forms = middle; ended = s.ended })) none
     ∙ ap (λ f. with_clauses [] (record { forms = f; ended = s.ended })) right.4 in (
@@ -187,12 +192,17 @@ closes k s x w e f =
 
 line_said : (k : ℕ) (s : CutsState) (w : WordLine) → HasWordNumbers w → s.ended ≡ false
     → judged_line (Some k) s (word_tokens w) ≡ judged_word (Some k) (Some w) s
-line_said k s (CountLine outputs inputs) h e = closes k s _ (CountLine outputs inputs) e (word_line_read (CountLine outputs inputs) h)
-line_said k s (MoreLine number) h e = closes k s _ (MoreLine number) e (word_line_read (MoreLine number) h)
-line_said k s (GroupLine inputs ids) h e = closes k s _ (GroupLine inputs ids) e (word_line_read (GroupLine inputs ids) h)
-line_said k s (FormLine scale facts) h e = closes k s _ (FormLine scale facts) e (word_line_read (FormLine scale facts) h)
+line_said k s (CountLine outputs inputs) h e = closes k s _ (CountLine outputs inputs) e
+    (word_line_read (CountLine outputs inputs) h)
+line_said k s (MoreLine number) h e = closes k s _ (MoreLine number) e (word_line_read (MoreLine
+    number) h)
+line_said k s (GroupLine inputs ids) h e = closes k s _ (GroupLine inputs ids) e (word_line_read
+    (GroupLine inputs ids) h)
+line_said k s (FormLine scale facts) h e = closes k s _ (FormLine scale facts) e (word_line_read
+    (FormLine scale facts) h)
 line_said k s (CutLine c) h e = closes k s _ (CutLine c) e (word_line_read (CutLine c) h)
-line_said k s (BoundLine lower) h e = closes k s _ (BoundLine lower) e (word_line_read (BoundLine lower) h)
+line_said k s (BoundLine lower) h e = closes k s _ (BoundLine lower) e (word_line_read (BoundLine
+    lower) h)
 
 -- a line that the log took
 pub taken_judged : (k cost : ℕ) → k ≤ cost → (s : CutsState) (old new : Standing) (w : WordLine)
