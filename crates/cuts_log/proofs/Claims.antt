@@ -1,5 +1,6 @@
 -- Lines that the state of forms takes.
-use Rattle.std.proofs.Common.{◌≡◌, ℕ, ◌<◌, ◌≤◌, true, false, Bool, List, [], ◌∷◌, map, Option, Some, None}
+use Rattle.std.proofs.Common.{◌≡◌, ℕ, ◌<◌, ◌≤◌, true, false, Bool, List, [], ◌∷◌, map, Option, Some}
+use Rattle.std.proofs.Common.{None}
 use Rattle.std.proofs.Common.{Result, Ok, Err, leb-true, refl, sym, ◌∙◌, ap}
 use Rattle.std.specs.Prelude.{All, is_some, IfSome}
 use Rattle.std.specs.List.{AllByRecursion}
@@ -82,18 +83,27 @@ form_of line old mid (Some f) h e = absurd (false≢true (sym e))
 
 pub form_taken : (old : Standing) (scale : Option ℕ) (facts : List FormFact) (mid : Forms)
     (fault : Option LineFault) → old.ended ≡ false → IfSome scale (λ d. d < NUMBER_LIMIT)
-    → All IsCountFact facts → IsTaken (form_line no_clause scale facts old.forms) old.forms mid fault
+    → All IsCountFact facts → IsTaken (form_line no_clause scale facts old.forms) old.forms mid
+    fault
     → is_some fault ≡ false
-    → (cost : ℕ) → TakesWord cost old (FormLine scale (map spelled facts)) [] (record old { forms = mid })
+    → (cost : ℕ) → TakesWord cost old (FormLine scale (map spelled facts)) [] (record old {
+      forms =
+          mid;
+    })
 form_taken old scale facts mid fault open_end small all h e cost =
     let each = recursion_from_All IsCountFact facts all in
     let line = form_of (form_line no_clause scale facts old.forms) old.forms mid fault h e in record {
       open_end = open_end;
-      numbers = (scale_said scale small,
-          All-from_recursion IsNamed (map spelled facts) (facts_spelled facts each));
+      numbers = (
+        scale_said scale small,
+        All-from_recursion IsNamed (map spelled facts) (facts_spelled facts each),
+      );
       middle = mid;
-      right = (ap (λ fs. form_line no_clause scale fs old.forms) (facts_named facts) ∙ line,
-          All-from_recursion (λ (f : NamedFact). f.is_numbered ≡ true) (map spelled facts)
-          (facts_numbered facts each), refl);
+      right = (
+        ap (λ fs. form_line no_clause scale fs old.forms) (facts_named facts) ∙ line,
+        All-from_recursion (λ (f : NamedFact). f.is_numbered ≡ true) (map spelled facts)
+            (facts_numbered facts each),
+        refl,
+      );
       clauses = refl;
     }

@@ -1,5 +1,6 @@
 -- The lines, the tokens and the text of events, with one more at the end.
-use Rattle.std.proofs.Common.{◌≡◌, ℕ, ◌+◌, ◌≤◌, List, [], ◌∷◌, ◌++◌, length, map, refl, sym, ◌∙◌, ap}
+use Rattle.std.proofs.Common.{◌≡◌, ℕ, ◌+◌, ◌≤◌, List, [], ◌∷◌, ◌++◌, length, map, refl, sym, ◌∙◌}
+use Rattle.std.proofs.Common.{ap}
 use Rattle.std.proofs.Common.{arith, append_assoc, append-nil, length-append}
 use Rattle.std.specs.List.{flat_map}
 use Rattle.std.proofs.lemmas.Grind.{flat_map-append}
@@ -13,7 +14,8 @@ use Rattle.cuts_log.specs.Events.{Event, lines_in, lines_of, text_of, tokens_at,
 pub added_axioms : (cs : List (List Literal)) → added_count (map axiom_line cs) ≡ length cs
 added_axioms [] = refl
 added_axioms (c ∷ cs) =
-    additions_cons (axiom_line c) (map axiom_line cs) ∙ ap (λ n. 1 + n) (added_axioms cs) ∙ omega arith
+    additions_cons (axiom_line c) (map axiom_line cs) ∙ ap (λ n. 1 + n) (added_axioms cs) ∙ omega
+    arith
 
 pub added-append : (xs ys : List LogLine)
     → added_count (xs ++ ys) ≡ added_count xs + added_count ys
@@ -22,7 +24,8 @@ added-append (x ∷ xs) ys =
     let h = added-append xs ys in
     omega (arith, h, additions_cons x (xs ++ ys), additions_cons x xs)
 
-pub lines_of-push : (es : List Event) (e : Event) → lines_of (es ++ e ∷ []) ≡ lines_of es ++ lines_in e
+pub lines_of-push : (es : List Event) (e : Event) → lines_of (es ++ e ∷ []) ≡ lines_of es ++
+    lines_in e
 lines_of-push es e = flat_map-append lines_in es (e ∷ [])
     ∙ ap (λ z. lines_of es ++ z) (append-nil (lines_in e))
 

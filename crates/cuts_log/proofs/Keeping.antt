@@ -1,5 +1,6 @@
 -- A log with one line more.
-use Rattle.std.proofs.Common.{◌≡◌, ℕ, ◌+◌, ◌<◌, ◌≤◌, true, false, List, [], ◌∷◌, ◌++◌, length, take, min}
+use Rattle.std.proofs.Common.{◌≡◌, ℕ, ◌+◌, ◌<◌, ◌≤◌, true, false, List, [], ◌∷◌, ◌++◌, length, take}
+use Rattle.std.proofs.Common.{min}
 use Rattle.std.proofs.Common.{refl, sym, ◌∙◌, ap, subst, arith, length-append}
 use Rattle.std.proofs.lemmas.Bool.{false≢true}
 use Rattle.std.proofs.lemmas.List.{length-take-le, take_all, take-append-le}
@@ -14,7 +15,8 @@ use Rattle.lrat_read.specs.Words.{BoundLine}
 use Rattle.cuts_log.specs.declared.standing.Standing.{Standing}
 use Rattle.cuts_log.specs.Books.{BookState, FailsAt, IsBook, Notes, failed_book, seen_next}
 use Rattle.cuts_log.specs.Events.{Event, Plain, TraceState, Word, lines_in, lines_of}
-use Rattle.cuts_log.specs.Logs.{Brings, IsKept, LogState, SameLog, events_of, lines_seen, problem_of}
+use Rattle.cuts_log.specs.Logs.{Brings, IsKept, LogState, SameLog, events_of, lines_seen}
+use Rattle.cuts_log.specs.Logs.{problem_of}
 use Rattle.cuts_log.specs.Stands.{IsRightWord, Takes, TakesAll, TakesWord, stand_of}
 use Rattle.cuts_log.proofs.EventLines.{lines_of-push}
 
@@ -81,7 +83,8 @@ kept_next l e s b h works t seen base =
     let es = events_of l in
     let from = stand_of (problem_of l) in
     let next : Takes l.cost h.left e s = subst (λ z. Takes l.cost z e s) (h.standing works) t in
-    let all : TakesAll l.cost from (es ++ e ∷ []) s = takes_push l.cost from h.left s es e h.taken next
+    let all : TakesAll l.cost from (es ++ e ∷ []) s = takes_push l.cost from h.left s es e h.taken
+    next
     in
     let Goes : TraceState → Type 0 = λ z. TakesAll l.cost (stand_of z.problem) z.events s in
     let Based : TraceState → Type 0 = λ z. (l.book).base

@@ -5,3 +5,5 @@ mod Noting
 mod Keeping
 mod Claims
 mod Beginning
+mod JudgedWords
+mod JudgedLogs

@@ -40,7 +40,8 @@ facts_spaced (f ∷ fs) =
     ++ (((if f.is_numbered then 45 ∷ decimal f.number else decimal f.number) ++ 32 ∷ []) ++ z))
     (facts_spaced fs)
     ∙ sym (append_assoc (decimal f.weight ++ 32 ∷ [])
-    ((if f.is_numbered then 45 ∷ decimal f.number else decimal f.number) ++ 32 ∷ []) (facts_text fs))
+    ((if f.is_numbered then 45 ∷ decimal f.number else decimal f.number) ++ 32 ∷ []) (facts_text
+    fs))
 
 pub facts_spelled : (fs : List FormFact)
     → flat_map (λ f. fact_text (spelled f)) fs ≡ facts_text (map spelled fs)
@@ -70,7 +71,8 @@ pub count_text : (n : ℕ) (c : List Literal)
     → ((codes "count " ++ number_text false n) ++ literals_text c) ++ codes "0\n"
     ≡ spaced (word_tokens (CountLine n c))
 count_text n c =
-    ap (λ z. ((codes "count " ++ number_text false n) ++ z) ++ codes "0\n") (sym (literals_spaced c))
+    ap (λ z. ((codes "count " ++ number_text false n) ++ z) ++ codes "0\n") (sym (literals_spaced
+    c))
     ∙ ap (λ z. z ++ codes "0\n")
     (append_assoc (codes "count ") (number_text false n) (with_spaces (map literal_text c)))
     ∙ sym (spaced-last (codes "count" ∷ decimal n ∷ map literal_text c) (codes "0"))
@@ -83,7 +85,8 @@ form_text scale fs =
     ∙ ap (λ z. ((codes "form " ++ (scale_token scale ++ 32 ∷ [])) ++ z) ++ codes "0\n")
     (sym (facts_spaced fs))
     ∙ ap (λ z. z ++ codes "0\n")
-    (append_assoc (codes "form ") (scale_token scale ++ 32 ∷ []) (with_spaces (flat_map fact_tokens fs)))
+    (append_assoc (codes "form ") (scale_token scale ++ 32 ∷ []) (with_spaces (flat_map fact_tokens
+    fs)))
     ∙ sym (spaced-last (codes "form" ∷ scale_token scale ∷ flat_map fact_tokens fs) (codes "0"))
 
 -- additions and deletions
@@ -107,12 +110,15 @@ pub deletion_text : (base last : ℕ) (hs : List Hint)
     ≡ spaced (line_tokens (Deletion last (map (λ h. id_of base (name_of h)) hs)))
 deletion_text base last hs =
     let ids : List (List ℕ) = map decimal (map (λ h. id_of base (name_of h)) hs) in
-    ap (λ z. ((number_text false last ++ codes "d ") ++ z) ++ codes "0\n") (sym (ids_spaced base hs))
-    ∙ ap (λ z. z ++ codes "0\n") (append_assoc (number_text false last) (codes "d ") (with_spaces ids))
+    ap (λ z. ((number_text false last ++ codes "d ") ++ z) ++ codes "0\n") (sym (ids_spaced base
+    hs))
+    ∙ ap (λ z. z ++ codes "0\n") (append_assoc (number_text false last) (codes "d ") (with_spaces
+    ids))
     ∙ sym (spaced-last (decimal last ∷ codes "d" ∷ ids) (codes "0"))
 
 pub addition_text : (base id : ℕ) (c : List Literal) (hs : List Hint)
-    → (((number_text false id ++ literals_text c) ++ codes "0 ") ++ hints_text base hs) ++ codes "0\n"
+    → (((number_text false id ++ literals_text c) ++ codes "0 ") ++ hints_text base hs) ++ codes
+    "0\n"
     ≡ spaced (line_tokens (Addition id c (leading_ids base hs) (group_ids base hs)))
 addition_text base id c hs =
     let lits = map literal_text c in

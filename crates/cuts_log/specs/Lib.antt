@@ -4,3 +4,5 @@ pub mod Facts
 pub mod Stands
 pub mod Books
 pub mod Logs
+pub mod Judging
+pub mod Vectors

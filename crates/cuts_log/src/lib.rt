@@ -4,6 +4,7 @@
 
 mod book;
 mod events;
+pub mod law;
 pub mod log;
 mod out;
 mod spelling;

@@ -3,7 +3,8 @@
 // The state of forms stands beside the text, and each line that begins with a word is put to it
 // first: what the state refuses is not written. The state is the one that the checker keeps, so a
 // search need prove nothing of what it proposes.
-ghost use Rattle.std.specs.Prelude.{◌≡◌, ◌≤◌, true, false, [], map, min, IfOk, OnOk, OnErr, None, Some};
+ghost use Rattle.std.specs.Prelude.{◌≡◌, ◌≤◌, true, false, [], map, min, IfOk, OnOk, OnErr, None};
+ghost use Rattle.std.specs.Prelude.{Some};
 ghost use Rattle.lrat_log.specs.Log.{axiom_line, is_axiom};
 
 use crate::book::Book;

@@ -205,7 +205,8 @@ impl Standing {
         facts: &[NamedFact],
     ) -> Result<bool, AllocError>
         ensures taken { IfOk result (λ taken. taken ≡ true
-            → (cost : ℕ) → TakesWord cost self.old (FormLine scale (map spelled facts.now)) [] self.new) }
+            → (cost : ℕ) → TakesWord cost self.old (FormLine scale (map spelled facts.now)) []
+            self.new) }
         ensures refused { IfOk result (λ taken. taken ≡ false → self.new ≡ self.old) }
     {
         if self.ended || !can_say(scale, facts) {

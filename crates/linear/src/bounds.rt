@@ -9,8 +9,8 @@ ghost use Rattle.linear.specs.Costs.{form_of, width_of, widened, restarted, fixe
 ghost use Rattle.linear.specs.Costs.{HasOneWidth, least, least_where};
 
 use crate::terms::{
-    NOTHING, Term, coefficient as whole_coefficient, coefficient_part, constant_part, least_at, moved, next_stamp, raised,
-    raised_cost, rest_at, scaled, where_false,
+    NOTHING, Term, coefficient as whole_coefficient, coefficient_part, constant_part, least_at,
+    moved, next_stamp, raised, raised_cost, rest_at, scaled, where_false,
 };
 use cnf::types::Lit;
 use std::alloc::{AllocError, Global};

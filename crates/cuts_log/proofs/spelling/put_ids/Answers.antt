@@ -8,5 +8,6 @@ use Rattle.cuts_log.proofs.spelling.put_ids.Goals as goal
 
 pub loop-hint-preserved : goal.loop-hint-preserved
 loop-hint-preserved g c =
-    says_item (λ (h : Hint). number_text false (id_of c.args.base (name_of h))) _ _ _ c.args.hints.now c.loop-hint.hint-index c.hint-item.result
+    says_item (λ (h : Hint). number_text false (id_of c.args.base (name_of h))) _ _ _
+    c.args.hints.now c.loop-hint.hint-index c.hint-item.result
     (search rules) c.hint-item.is c.loop-hint.invariant c.put_id.ensures

@@ -20,6 +20,7 @@ invariant_of-self-2 g c =
     ap (λ (b : BookState). b.failed) c.self.view_is ∙ c.requires.works in
     let room : c.self.inside.lines + length (lines_in e) < LINE_LIMIT =
     omega (arith, ap (λ (b : BookState). b.lines) c.self.view_is, c.requires.room) in
-    let written : (c.put.new.out).failed ≡ false = sym c.has_failed.ensures ∙ c.if-has_failed.false in
+    let written : (c.put.new.out).failed ≡ false = sym c.has_failed.ensures ∙ c.if-has_failed.false
+    in
     rw (c.seen-self-inside.ensures, c.lines.ensures, c.added.ensures, w)
     (notes _ e _ c.self.invariant w room c.put.ensures written)

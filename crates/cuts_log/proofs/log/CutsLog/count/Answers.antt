@@ -9,7 +9,8 @@ invariant_of-self-in_err-note g c =
     let works = sym c.has_failed.ensures.failed ∙ c.if-has_failed.false in
     let yes : c.in-Ok.is_taken ≡ true = search rules in
     let f = c.in_err-note.ensures.err in
-    kept_next _ (Word (CountLine c.args.outputs c.args.inputs.now) c.count.new.made) c.count.new.self c.note.new.self
+    kept_next _ (Word (CountLine c.args.outputs c.args.inputs.now) c.count.new.made)
+    c.count.new.self c.note.new.self
     c.self.invariant works (c.in-Ok.ensures.taken yes c.self.inside.cost) f.seen f.base
 
 pub invariant_of-self-2 : goal.invariant_of-self-2
@@ -17,5 +18,6 @@ invariant_of-self-2 g c =
     let works = sym c.has_failed.ensures.failed ∙ c.if-has_failed.false in
     let yes : c.in-Ok.is_taken ≡ true = search rules in
     let n = c.in_ok-note.ensures.ok in
-    kept_next _ (Word (CountLine c.args.outputs c.args.inputs.now) c.count.new.made) c.count.new.self c.note.new.self
+    kept_next _ (Word (CountLine c.args.outputs c.args.inputs.now) c.count.new.made)
+    c.count.new.self c.note.new.self
     c.self.invariant works (c.in-Ok.ensures.taken yes c.self.inside.cost) n.seen n.base

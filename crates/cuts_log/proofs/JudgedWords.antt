@@ -1,0 +1,218 @@
+-- A line that begins with a word, and that the log took, is judged right.
+use Rattle.std.proofs.Common.{◌≡◌, ℕ, zero, suc, ◌+◌, ◌≤◌, Bool, true, false, List, [], ◌∷◌, ◌++◌}
+use Rattle.std.proofs.Common.{length}
+use Rattle.std.proofs.Common.{map, Option, Some, None, Ok, refl, sym, ◌∙◌, ap, subst, arith}
+use Rattle.std.specs.Prelude.{max, min}
+use Rattle.std.proofs.Common.{Result, Err, append_assoc, append-nil, le-leb}
+use Rattle.std.specs.Prelude.{All, nat_le, not, ◌&&◌, if◌then◌else◌}
+use Rattle.std.specs.List.{AllByRecursion}
+use Rattle.std.proofs.lemmas.List.Elements.{recursion_from_All}
+use Rattle.cnf.specs.Clause.{is_empty_clause}
+use Rattle.cnf.specs.Literal.{Literal}
+use Rattle.forms.specs.declared.types.NamedFact.{NamedFact as FormFact}
+use Rattle.forms.specs.Forms.{Forms, Numbered, fact_size, facts_size, form_line, heard, less_fact}
+use Rattle.forms.specs.Forms.{less_facts}
+use Rattle.forms.specs.Forms.{begun, cut_line, bound_line, count_line, more_line}
+use Rattle.forms.specs.declared.faults.LineFault.{LineFault}
+use Rattle.forms.specs.declared.faults.LineFault.TheVariants.{Name, Limit}
+use Rattle.forms.specs.declared.faults.TheConstants.{MOST_TERMS}
+use Rattle.lrat_machine.specs.declared.verdicts.Cause.{Cause}
+use Rattle.lrat_machine.specs.declared.verdicts.Cause.TheVariants.{TrailingLine}
+use Rattle.cnf.specs.Refute.{Clauses}
+use Rattle.lrat_live.specs.Listed.{listed_at, listed_from}
+use Rattle.lrat_read.specs.Words.{NamedFact, WordLine, CountLine, MoreLine, GroupLine, FormLine}
+use Rattle.lrat_read.specs.Words.{CutLine, BoundLine, word_line_of, word_of, after_word}
+use Rattle.lrat_read.specs.WordTokens.{HasWordNumbers, word_tokens}
+use Rattle.lrat_read.proofs.Laws.{word_line_read}
+use Rattle.lrat_cuts.specs.Cuts.{CutsState, fact_of, judged_line, judged_word, put, put_all}
+use Rattle.cuts_log.specs.declared.standing.Standing.{Standing}
+use Rattle.cuts_log.specs.Facts.{named, no_clause}
+use Rattle.cuts_log.specs.Judging.{Follows}
+use Rattle.cuts_log.specs.Stands.{AreNumbered, IsRightWord, TakesWord, with_clause, with_clauses}
+
+abbrev pub stands_as : CutsState → Standing
+stands_as s = record { forms = s.forms; ended = s.ended }
+
+pub put_all-stands : (cs : List (List Literal)) (s : CutsState)
+    → stands_as (put_all cs s) ≡ with_clauses cs (stands_as s)
+put_all-stands [] s = refl
+put_all-stands (c ∷ cs) s = put_all-stands cs (put (s.last + 1) c s)
+
+put_all-live : (cs : List (List Literal)) (s : CutsState)
+    → (put_all cs s).live ≡ s.live ++ listed_from (s.last + 1) cs
+put_all-live [] s = sym (append-nil s.live)
+put_all-live (c ∷ cs) s =
+    let id = s.last + 1 in
+    put_all-live cs (put id c s) ∙ append_assoc s.live ((id, c) ∷ []) (listed_from (id + 1) cs)
+
+put_all-last : (cs : List (List Literal)) (s : CutsState)
+    → (put_all cs s).last ≡ s.last + length cs
+put_all-last [] s = omega arith
+put_all-last (c ∷ cs) s =
+    let rest = put_all-last cs (put (s.last + 1) c s) in omega (arith, rest)
+
+-- facts of counts are looked up in no clause
+size_alike : (a b : Clauses) (ns : List Numbered) (fs : List FormFact)
+    → AllByRecursion (λ (f : FormFact). f.is_numbered ≡ true) fs
+    → facts_size a ns fs ≡ facts_size b ns fs
+size_alike a b ns [] h = refl
+size_alike a b ns (f ∷ fs) h =
+    let e = size_alike a b ns fs h.1 in rw (h.0, e) refl
+
+less_alike : (a b : Clauses) (s : Forms) (fs : List FormFact)
+    → AllByRecursion (λ (f : FormFact). f.is_numbered ≡ true) fs
+    → less_facts a s fs ≡ less_facts b s fs
+less_alike a b s [] h = refl
+less_alike a b s (f ∷ fs) h =
+    let one : less_fact a s f ≡ less_fact b s f = rw h.0 refl in
+    ap (λ t. less_facts a t fs) one ∙ less_alike a b (less_fact b s f) fs h.1
+
+numbered_facts : (fs : List NamedFact) → AllByRecursion (λ (f : NamedFact). f.is_numbered ≡ true) fs
+    → AllByRecursion (λ (f : FormFact). f.is_numbered ≡ true) (map named fs)
+numbered_facts [] h = tt
+numbered_facts (f ∷ fs) h = (h.0, numbered_facts fs h.1)
+
+abbrev sized : Forms → ℕ → Option ℕ → Result Forms LineFault
+sized after terms None = Err Name
+sized after terms (Some n) = if nat_le (terms + n) MOST_TERMS then Ok after else Err Limit
+
+abbrev formed : Bool → Forms → ℕ → Option ℕ → Result Forms LineFault
+formed without after terms size = if without then Err Name else sized after terms size
+
+abbrev lacks : Option ℕ → Bool → Bool
+lacks None has_form = true && not has_form
+lacks (Some d) has_form = false && not has_form
+
+form_is : (at : Clauses) (scale : Option ℕ) (fs : List FormFact) (s : Forms)
+    → form_line at scale fs s ≡ formed (lacks scale s.has_form)
+    (less_facts at (begun scale s) fs) s.terms (facts_size at s.numbered fs)
+form_is at None fs s = refl
+form_is at (Some d) fs s = refl
+
+form_alike : (a b : Clauses) (scale : Option ℕ) (fs : List FormFact) (s : Forms)
+    → AllByRecursion (λ (f : FormFact). f.is_numbered ≡ true) fs
+    → form_line a scale fs s ≡ form_line b scale fs s
+form_alike a b scale fs s h =
+    let without = lacks scale s.has_form in
+    form_is a scale fs s
+    ∙ ap (formed without (less_facts a (begun scale s) fs) s.terms) (size_alike a b s.numbered fs h)
+    ∙ ap (λ x. formed without x s.terms (facts_size b s.numbered fs))
+    (less_alike a b (begun scale s) fs h)
+    ∙ sym (form_is b scale fs s)
+
+-- clauses that a line makes
+follows : (s : CutsState) (middle : Forms) (worth proved : ℕ) (made : List (List Literal))
+    (new : Standing) → new ≡ with_clauses made (record { forms = middle; ended = s.ended })
+    → Follows s made new
+    (put_all made (record s { forms = middle; worth = worth; proved = proved }))
+follows s middle worth proved made new e =
+    let from : CutsState = record s { forms = middle; worth = worth; proved = proved } in
+    let same = put_all-stands made from ∙ sym e in record {
+      live = put_all-live made from;
+      last = put_all-last made from;
+      forms = ap (λ (x : Standing). x.forms) same;
+      ended = ap (λ (x : Standing). x.ended) same;
+    }
+
+abbrev Judged : ℕ → CutsState → WordLine → List (List Literal) → Standing → Type 0
+Judged k s w made new =
+    (t : CutsState) × (judged_word (Some k) (Some w) s ≡ Ok t) × Follows s made new t
+
+le_true : (a b : ℕ) → a ≤ b → nat_le a b ≡ true
+le_true a b h = le-leb a b h
+
+word_judged : (k cost : ℕ) → k ≤ cost → (s : CutsState) (new : Standing) (w : WordLine)
+    (made : List (List Literal)) (middle : Forms) → IsRightWord cost s.forms w made middle
+    → new ≡ with_clauses made (record { forms = middle; ended = s.ended }) → Judged k s w made new
+word_judged k cost le s new (CountLine outputs inputs) made middle right e =
+    let line : judged_word (Some k) (Some (CountLine outputs inputs)) s
+    ≡ Ok (put_all made (record s { forms = middle })) = rw right refl in
+    (put_all made (record s { forms = middle }), line, follows s middle s.worth s.proved made new e)
+word_judged k cost le s new (MoreLine number) made middle right e =
+    let line : judged_word (Some k) (Some (MoreLine number)) s
+    ≡ Ok (put_all made (record s { forms = middle })) = rw right refl in
+    (put_all made (record s { forms = middle }), line, follows s middle s.worth s.proved made new e)
+word_judged k cost le s new (GroupLine inputs ids) made middle right e = absurd right
+word_judged k cost le s new (FormLine scale facts) made middle right e =
+    let each = recursion_from_All (λ (f : NamedFact). f.is_numbered ≡ true) facts right.1 in
+    let there = form_alike (listed_at s.live) no_clause scale (map named facts) s.forms
+    (numbered_facts facts each) ∙ right.0 in
+    let line : judged_word (Some k) (Some (FormLine scale facts)) s ≡ Ok (record s {
+      forms = middle;
+    })
+    = rw there refl in
+    let none : made ≡ [] = right.2 in
+    let plain = e ∙ ap (λ m. with_clauses m (record { forms = middle; ended = s.ended })) none in (
+      record s { forms = middle },
+      line,
+      subst (λ m. Follows s m new (record s { forms = middle })) (sym none)
+          (follows s middle s.worth s.proved [] new plain),
+    )
+word_judged k cost le s new (CutLine c) made middle right e =
+    let w = right.0 in
+    let enough : nat_le k w ≡ true = le_true k w (omega (arith, right.2)) in
+    let worth = right.1 in
+    let next : CutsState = put (s.last + 1) c (record s { worth = min s.worth w }) in
+    let line : judged_word (Some k) (Some (CutLine c)) s ≡ Ok next = rw (worth, enough) refl in
+    let one : made ≡ c ∷ [] = right.3 in
+    let plain = e ∙ ap (λ m. with_clauses m (record { forms = middle; ended = s.ended })) one
+    ∙ ap (λ f. with_clauses (c ∷ []) (record { forms = f; ended = s.ended })) right.4 in (
+      next,
+      line,
+      subst (λ m. Follows s m new next) (sym one)
+          (follows s s.forms (min s.worth w) s.proved (c ∷ []) new plain),
+    )
+word_judged k cost le s new (BoundLine lower) made middle right e =
+    let w = right.0 in
+    let worth = right.1 in
+    let enough : nat_le lower w ≡ true = le_true lower w right.2 in
+    let next : CutsState = record s { proved = max s.proved (min lower s.worth) } in
+    let line : judged_word (Some k) (Some (BoundLine lower)) s ≡ Ok next = rw (worth, enough) refl
+    in
+    let none : made ≡ [] = right.3 in
+    let plain = e ∙ ap (λ m. with_clauses m (record { forms = middle; ended = s.ended })) none
+    ∙ ap (λ f. with_clauses [] (record { forms = f; ended = s.ended })) right.4 in (
+      next,
+      line,
+      subst (λ m. Follows s m new next) (sym none)
+          (follows s s.forms s.worth (max s.proved (min lower s.worth)) [] new plain),
+    )
+
+-- the tokens of a line say it
+some_of : (x y : Option WordLine) → Some x ≡ Some y → x ≡ y
+some_of x y e = cc
+
+abbrev said : ℕ → CutsState → Option WordLine → Bool → Result CutsState Cause
+said k s line ended = if ended then Err TrailingLine else judged_word (Some k) line s
+
+closes : (k : ℕ) (s : CutsState) (x : Option WordLine) (w : WordLine) → s.ended ≡ false
+    → Some x ≡ Some (Some w) → said k s x s.ended ≡ judged_word (Some k) (Some w) s
+closes k s x w e f =
+    ap (said k s x) e ∙ ap (λ o. judged_word (Some k) o s) (some_of x (Some w) f)
+
+line_said : (k : ℕ) (s : CutsState) (w : WordLine) → HasWordNumbers w → s.ended ≡ false
+    → judged_line (Some k) s (word_tokens w) ≡ judged_word (Some k) (Some w) s
+line_said k s (CountLine outputs inputs) h e = closes k s _ (CountLine outputs inputs) e
+    (word_line_read (CountLine outputs inputs) h)
+line_said k s (MoreLine number) h e = closes k s _ (MoreLine number) e (word_line_read (MoreLine
+    number) h)
+line_said k s (GroupLine inputs ids) h e = closes k s _ (GroupLine inputs ids) e (word_line_read
+    (GroupLine inputs ids) h)
+line_said k s (FormLine scale facts) h e = closes k s _ (FormLine scale facts) e (word_line_read
+    (FormLine scale facts) h)
+line_said k s (CutLine c) h e = closes k s _ (CutLine c) e (word_line_read (CutLine c) h)
+line_said k s (BoundLine lower) h e = closes k s _ (BoundLine lower) e (word_line_read (BoundLine
+    lower) h)
+
+-- a line that the log took
+pub taken_judged : (k cost : ℕ) → k ≤ cost → (s : CutsState) (old new : Standing) (w : WordLine)
+    (made : List (List Literal)) → s.forms ≡ old.forms → s.ended ≡ old.ended
+    → TakesWord cost old w made new
+    → (t : CutsState) × (judged_line (Some k) s (word_tokens w) ≡ Ok t) × Follows s made new t
+taken_judged k cost le s old new w made forms ended t =
+    let open_end = ended ∙ t.open_end in
+    let right = subst (λ f. IsRightWord cost f w made t.middle) (sym forms) t.right in
+    let clauses = t.clauses
+    ∙ ap (λ b. with_clauses made (record { forms = t.middle; ended = b })) (sym ended) in
+    let j = word_judged k cost le s new w made t.middle right clauses in
+    (j.0, line_said k s w t.numbers open_end ∙ j.1, j.2)

@@ -1,0 +1,53 @@
+-- What a line of a log is judged as, by the definition of the checker.
+use Rattle.std.specs.Prelude.{◌≡◌, ℕ, ◌+◌, ◌≤◌, false, List, [], ◌∷◌, ◌++◌, length, map, Some, Ok}
+use Rattle.cnf.specs.Literal.{Literal}
+use Rattle.lrat_live.specs.Listed.{listed_from}
+use Rattle.lrat_log.specs.Log.{LogLine, axiom_line}
+use Rattle.lrat_log.specs.Steps.{added_count}
+use Rattle.lrat_read.specs.Words.{WordLine}
+use Rattle.lrat_read.specs.WordTokens.{word_tokens}
+use Rattle.lrat_cuts.specs.Cuts.{CutsState, cuts_start, judged_line, judged_lines}
+use Rattle.cuts_log.specs.declared.standing.Standing.{Standing}
+use Rattle.cuts_log.specs.Events.{Event, Plain, Word, tokens_at, tokens_on}
+use Rattle.cuts_log.specs.Logs.{IsKept, LogState, events_of, problem_of}
+use Rattle.cuts_log.specs.Stands.{TakesWord, with_line}
+
+-- the checker stands as the log does, with these clauses more
+pub record Follows (old : CutsState) (made : List (List Literal)) (s : Standing) (new : CutsState) :
+    Type 0 where
+  pub live : new.live ≡ old.live ++ listed_from (old.last + 1) made
+  pub last : new.last ≡ old.last + length made
+  pub forms : new.forms ≡ s.forms
+  pub ended : new.ended ≡ s.ended
+
+-- an addition or a deletion is judged right, and then the checker stands as the log does
+pub record IsRightPlain (k base before : ℕ) (old : CutsState) (l : LogLine) (new : CutsState) :
+    Type 0 where
+  pub judged : judged_line (Some k) old (tokens_at base before (Plain l)) ≡ Ok new
+  pub forms : new.forms ≡ (with_line l (record { forms = old.forms; ended = old.ended })).forms
+  pub ended : new.ended ≡ (with_line l (record { forms = old.forms; ended = old.ended })).ended
+
+-- so is each where it stands
+abbrev pub ArePlainRight : ℕ → ℕ → ℕ → CutsState → List Event → Type 0
+ArePlainRight k base before s [] = Unit {0}
+ArePlainRight k base before s (Plain l ∷ es) = (t : CutsState) × IsRightPlain k base before s l t
+    × ArePlainRight k base (before + added_count (l ∷ [])) t es
+ArePlainRight k base before s (Word w made ∷ es) = (t : CutsState)
+    → judged_line (Some k) s (word_tokens w) ≡ Ok t
+    → ArePlainRight k base (before + added_count (map axiom_line made)) t es
+
+-- a line that was taken is right for each cost up to the one that it was taken for
+abbrev pub WordsAreRight : Type 0
+WordsAreRight = (k cost : ℕ) → k ≤ cost → (s : CutsState) (old new : Standing) (w : WordLine)
+    (made : List (List Literal)) → s.forms ≡ old.forms → s.ended ≡ old.ended
+    → TakesWord cost old w made new
+    → (t : CutsState) × (judged_line (Some k) s (word_tokens w) ≡ Ok t) × Follows s made new t
+
+-- a log that has not failed is judged right line by line, for each cost up to that of its cuts,
+-- where its additions and deletions are; and then the checker stands as it does
+abbrev pub LogsAreRight : Type 0
+LogsAreRight = (l : LogState) (k : ℕ) → IsKept l → (l.book).failed ≡ false → k ≤ l.cost
+    → ArePlainRight k (l.book).base 0 (cuts_start (problem_of l)) (events_of l)
+    → (t : CutsState) × (judged_lines (Some k) (cuts_start (problem_of l)) 1
+    (tokens_on (l.book).base 0 (events_of l)) ≡ Ok t)
+    × (t.forms ≡ (l.standing).forms) × (t.ended ≡ (l.standing).ended)
