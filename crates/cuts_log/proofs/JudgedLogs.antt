@@ -1,8 +1,6 @@
 -- The lines of a log are judged one after the other.
 use Rattle.std.proofs.Common.{◌≡◌, ℕ, ◌+◌, ◌≤◌, false, List, [], ◌∷◌, map, Some, Ok, refl, sym, ◌∙◌}
 use Rattle.std.proofs.Common.{ap}
-use Rattle.std.proofs.Common.{subst}
-use Rattle.cnf.specs.Literal.{Literal}
 use Rattle.cnf.specs.Problem.{Problem}
 use Rattle.bound.specs.Weighted.{weighted_cnf, weights_of}
 use Rattle.forms.specs.Forms.{forms_of}
@@ -15,7 +13,7 @@ use Rattle.cuts_log.specs.declared.standing.Standing.{Standing}
 use Rattle.cuts_log.specs.Events.{Event, Plain, Word, tokens_at, tokens_on}
 use Rattle.cuts_log.specs.Judging.{ArePlainRight}
 use Rattle.cuts_log.specs.Logs.{IsKept, LogState, events_of, problem_of}
-use Rattle.cuts_log.specs.Stands.{TakesAll, stand_of, with_clauses, with_line}
+use Rattle.cuts_log.specs.Stands.{TakesAll, stand_of, with_line}
 use Rattle.cuts_log.proofs.JudgedWords.{put_all-stands, stands_as, taken_judged}
 
 -- what lines come to, where the checker stands at first as the log did

@@ -1,11 +1,9 @@
 -- A log with one line more.
-use Rattle.std.proofs.Common.{◌≡◌, ℕ, ◌+◌, ◌<◌, ◌≤◌, true, false, List, [], ◌∷◌, ◌++◌, length, take}
-use Rattle.std.proofs.Common.{min}
+use Rattle.std.proofs.Common.{◌≡◌, ℕ, ◌+◌, ◌<◌, ◌≤◌, false, List, [], ◌∷◌, ◌++◌, length, take}
 use Rattle.std.proofs.Common.{refl, sym, ◌∙◌, ap, subst, arith, length-append}
 use Rattle.std.proofs.lemmas.Bool.{false≢true}
 use Rattle.std.proofs.lemmas.List.{length-take-le, take_all, take-append-le}
 use Rattle.cnf.specs.Literal.{Literal}
-use Rattle.cnf.specs.declared.limits.TheConstants.{NUMBER_LIMIT}
 use Rattle.bound.specs.Weighted.{weighted_cnf}
 use Rattle.forms.specs.Forms.{Forms}
 use Rattle.lrat_log.specs.declared.log.TheConstants.{LINE_LIMIT}
@@ -17,7 +15,7 @@ use Rattle.cuts_log.specs.Books.{BookState, FailsAt, IsBook, Notes, failed_book,
 use Rattle.cuts_log.specs.Events.{Event, Plain, TraceState, Word, lines_in, lines_of}
 use Rattle.cuts_log.specs.Logs.{Brings, IsKept, LogState, SameLog, events_of, lines_seen}
 use Rattle.cuts_log.specs.Logs.{problem_of}
-use Rattle.cuts_log.specs.Stands.{IsRightWord, Takes, TakesAll, TakesWord, stand_of}
+use Rattle.cuts_log.specs.Stands.{IsRightWord, Takes, TakesAll, stand_of}
 use Rattle.cuts_log.proofs.EventLines.{lines_of-push}
 
 pub takes_push : (cost : ℕ) (s mid new : Standing) (es : List Event) (e : Event)

@@ -1,7 +1,7 @@
 -- A book with one line more.
-use Rattle.std.proofs.Common.{◌≡◌, ℕ, ◌+◌, ◌<◌, ◌≤◌, true, false, List, [], ◌∷◌, ◌++◌, length, refl}
+use Rattle.std.proofs.Common.{◌≡◌, ℕ, ◌+◌, ◌<◌, true, false, List, [], ◌∷◌, ◌++◌, length, refl}
 use Rattle.std.proofs.Common.{sym}
-use Rattle.std.proofs.Common.{◌∙◌, ap, subst, arith, Option}
+use Rattle.std.proofs.Common.{subst, arith, Option}
 use Rattle.std.proofs.lemmas.Bool.{false≢true}
 use Rattle.text.specs.Writing.{spaced}
 use Rattle.lrat_log.specs.declared.log.TheConstants.{LINE_LIMIT}
