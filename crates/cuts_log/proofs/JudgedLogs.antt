@@ -21,7 +21,7 @@ abbrev AreJudged : ℕ → ℕ → ℕ → ℕ → CutsState → List Event → 
 AreJudged k base before n s es new = (t : CutsState)
     × (judged_lines (Some k) s n (tokens_on base before es) ≡ Ok t) × (stands_as t ≡ new)
 
-pair : (a b : Standing) → a.forms ≡ b.forms → a.ended ≡ b.ended → a ≡ b
+pub pair : (a b : Standing) → a.forms ≡ b.forms → a.ended ≡ b.ended → a ≡ b
 pair a b f g = λ i. record { forms = f i; ended = g i }
 
 next_line : (k n : ℕ) (s t u : CutsState) (ts : List (List ℕ)) (more : List (List (List ℕ)))
@@ -60,7 +60,7 @@ lines_judged k cost base before n le s old new (Word w made ∷ es) e h p =
     )
 
 -- before the first line
-start_stands : (p : Problem) → stands_as (cuts_start p) ≡ stand_of p
+pub start_stands : (p : Problem) → stands_as (cuts_start p) ≡ stand_of p
 start_stands p =
     let blank : CutsState = record {
       live = [];

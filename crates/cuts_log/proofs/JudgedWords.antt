@@ -23,6 +23,7 @@ use Rattle.lrat_read.specs.Words.{NamedFact, WordLine, CountLine, MoreLine, Grou
 use Rattle.lrat_read.specs.Words.{CutLine, BoundLine}
 use Rattle.lrat_read.specs.WordTokens.{HasWordNumbers, word_tokens}
 use Rattle.lrat_read.proofs.Laws.{word_line_read}
+use Rattle.lrat_cuts.proofs.Laws.{put_all-last, put_all-live}
 use Rattle.lrat_cuts.specs.Cuts.{CutsState, judged_line, judged_word, put, put_all}
 use Rattle.cuts_log.specs.declared.standing.Standing.{Standing}
 use Rattle.cuts_log.specs.Facts.{named, no_clause}
@@ -36,19 +37,6 @@ pub put_all-stands : (cs : List (List Literal)) (s : CutsState)
     → stands_as (put_all cs s) ≡ with_clauses cs (stands_as s)
 put_all-stands [] s = refl
 put_all-stands (c ∷ cs) s = put_all-stands cs (put (s.last + 1) c s)
-
-put_all-live : (cs : List (List Literal)) (s : CutsState)
-    → (put_all cs s).live ≡ s.live ++ listed_from (s.last + 1) cs
-put_all-live [] s = sym (append-nil s.live)
-put_all-live (c ∷ cs) s =
-    let id = s.last + 1 in
-    put_all-live cs (put id c s) ∙ append_assoc s.live ((id, c) ∷ []) (listed_from (id + 1) cs)
-
-put_all-last : (cs : List (List Literal)) (s : CutsState)
-    → (put_all cs s).last ≡ s.last + length cs
-put_all-last [] s = omega arith
-put_all-last (c ∷ cs) s =
-    let rest = put_all-last cs (put (s.last + 1) c s) in omega (arith, rest)
 
 -- facts of counts are looked up in no clause
 size_alike : (a b : Clauses) (ns : List Numbered) (fs : List FormFact)
