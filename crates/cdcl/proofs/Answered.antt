@@ -13,13 +13,14 @@ use Rattle.lrat_log.specs.Log.{LogLine, Given}
 use Rattle.lrat_log.specs.Steps.{IsLogOver, IsAcceptedLog, StaysLogOver}
 use Rattle.lrat_log.specs.Steps.{AddsNoEmptyClause, adds_empty_clause}
 use Rattle.lrat_log.specs.Steps.{IsLearnedOrShort, given_of}
+use Rattle.lrat_log.specs.Axioms.{StaysOpenLogOver}
 use Rattle.lrat_log.proofs.Laws.{accepted_log}
 use Rattle.cdcl_search.specs.declared.search.Search.{Search}
 use Rattle.cdcl_search.specs.declared.input.Input.{Input}
 use Rattle.cdcl.specs.declared.outcome.Outcome.{Outcome}
 use Rattle.cdcl.specs.declared.outcome.Outcome.TheVariants.{Sat, Unsat, Limit}
 use Rattle.cdcl.specs.Solving.{SolverState, given_to, lines_since}
-use Rattle.cdcl_search.specs.Running.{is_refuted, Writes, IsInput, Runs, IsEnded, StaysOpen}
+use Rattle.cdcl_search.specs.Running.{is_refuted, Writes, IsInput, Runs, StaysOpen}
 use Rattle.cdcl_order.specs.Budgets.{BudgetState}
 use Rattle.cdcl.specs.declared.searching.End.{End}
 use Rattle.cdcl.specs.declared.searching.End.TheVariants.{Satisfied}
@@ -59,9 +60,10 @@ log_now p ls i stays =
     subst (λ g. IsLogOver g ls) (append-nil p.given ∙ sym (given_seen p i))
     (stays [] (All-nil (λ g. greatest_variable g.1 ≤ length (p.frozen).items)))
 
-pub ended_log : (p : Input) (ls : List LogLine) → IsInput p → IsEnded p ls
+pub ended_log : (p : Input) (ls : List LogLine) → IsInput p
+    → StaysLogOver (length (p.frozen).items) p.given ls → is_refuted ls ≡ true
     → IsAcceptedLog (seen_given p) ls
-ended_log p ls i e = accepted_log (seen_given p) ls (log_now p ls i e.stays) e.refuted
+ended_log p ls i stays refuted = accepted_log (seen_given p) ls (log_now p ls i stays) refuted
 
 pub not_plain : (s : Search) (p : Input) (ls : List LogLine) (A : List Literal) → IsInput p
     → Runs s p ls → IsFixpoint (s.store).slots A
@@ -80,32 +82,34 @@ not_refuted (l ∷ ls) h =
     or_from (adds_empty_clause l) (list_any adds_empty_clause ls) h.0 (not_refuted ls h.1)
 
 pub solver_runs : (s : Search) (p : Input) (ls : List LogLine) (refuted failed : Bool)
-    → IsInput p → Runs s p ls → refuted ≡ false → IsSolver s p ls refuted failed
-solver_runs s p ls refuted failed i r e =
+    → IsInput p → StaysLogOver (length (p.frozen).items) p.given ls → Runs s p ls
+    → refuted ≡ false → IsSolver s p ls refuted failed
+solver_runs s p ls refuted failed i stays r e =
     let log = r.running.recorded.log in
     record {
       input = i;
-      lines = log.stays;
+      lines = stays;
       refuted_is = e ∙ sym (not_refuted ls log.unrefuted);
       running = λ f u. r;
     }
 
 pub solver_fails : (s : Search) (p : Input) (ls : List LogLine) (refuted : Bool) → IsInput p
-    → StaysOpen p ls → refuted ≡ false → IsSolver s p ls refuted true
-solver_fails s p ls refuted i o e =
+    → StaysLogOver (length (p.frozen).items) p.given ls → StaysOpen p ls → refuted ≡ false
+    → IsSolver s p ls refuted true
+solver_fails s p ls refuted i stays o e =
     record {
       input = i;
-      lines = o.stays;
+      lines = stays;
       refuted_is = e ∙ sym (not_refuted ls o.unrefuted);
       running = λ f u. absurd (true≢false f);
     }
 
 -- what an end or an answer says
-pub answered_log : (s : Search) (p : Input) (ls : List LogLine) (b : BudgetState) (o : Outcome)
-    → IsInput p → IsAnswer s p ls b o → IsLogOver (seen_given p) ls
-answered_log s p ls b (Sat bits) i a = log_now p ls i a.runs.running.recorded.log.stays
-answered_log s p ls b Unsat i a = log_now p ls i a.stays
-answered_log s p ls b Limit i a = log_now p ls i a.runs.running.recorded.log.stays
+pub answered_open : (s : Search) (p : Input) (ls : List LogLine) (b : BudgetState) (o : Outcome)
+    → IsAnswer s p ls b o → StaysOpenLogOver (length (p.frozen).items) p.given ls
+answered_open s p ls b (Sat bits) a = a.runs.running.recorded.log.stays
+answered_open s p ls b Unsat a = a.stays
+answered_open s p ls b Limit a = a.runs.running.recorded.log.stays
 
 pub plain_unsat : (s : Search) (p : Input) (ls : List LogLine) (b : BudgetState) (o : Outcome)
     → IsInput p → IsAnswer s p ls b o

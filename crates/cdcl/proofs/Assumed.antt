@@ -6,7 +6,8 @@ use Rattle.std.proofs.lemmas.Bool.{both_ways, false≢true, true≢false}
 use Rattle.cnf.specs.Literal.{Literal}
 use Rattle.cnf.specs.Refute.{IsRefutedByHints}
 use Rattle.lrat_log.specs.Log.{LogLine, id_of}
-use Rattle.lrat_log.specs.Steps.{IsAcceptedLog, StaysLogOver, IsLogOver}
+use Rattle.lrat_log.specs.Steps.{IsAcceptedLog, StaysLogOver}
+use Rattle.lrat_log.specs.Axioms.{StaysOpenLogOver}
 use Rattle.cdcl_order.specs.Budgets.{BudgetState, left_of}
 use Rattle.cdcl_search.specs.declared.search.Search.{Search}
 use Rattle.cdcl_search.specs.declared.input.Input.{Input}
@@ -14,7 +15,7 @@ use Rattle.cdcl.specs.declared.outcome.Assumed.{Assumed}
 use Rattle.cdcl.specs.declared.outcome.Assumed.TheVariants.{Sat, Unsat, Core, Open, Limit}
 use Rattle.cdcl.specs.declared.outcome.SolveFault.TheVariants.{Memory, Failed}
 use Rattle.cdcl.specs.Solving.{SolverState, SatisfyGiven, IsLiveRefuted}
-use Rattle.cdcl_search.specs.Running.{is_refuted, IsInput, IsEnded, StaysOpen, Runs}
+use Rattle.cdcl_search.specs.Running.{is_refuted, IsInput, StaysOpen, Runs}
 use Rattle.cdcl_search.specs.Invariant.{name_at}
 use Rattle.cdcl.specs.Turns.{Pays, IsPlain}
 use Rattle.cdcl.specs.Outcomes.{IsSolver}
@@ -25,7 +26,7 @@ use Rattle.cdcl.specs.Answering.{IsAssumed, is_unsat}
 use Rattle.cdcl.proofs.Answered.{seen_given, given_seen, log_now, ended_log, view_of, written_short}
 use Rattle.cdcl.proofs.Answered.{solver_runs}
 use Rattle.cdcl.proofs.Solved.{grows_by, new_since, learned_since}
-use Rattle.cdcl_search.proofs.Laws.{writes_none}
+use Rattle.cdcl_search.proofs.Laws.{stays_written, writes_none}
 
 -- what an answer says
 
@@ -57,13 +58,13 @@ sat_of s p ls b asked Open i a = tt
 sat_of s p ls b asked Limit i a = tt
 
 unsat_of : (s : Search) (p : Input) (ls : List LogLine) (b : BudgetState) (asked : List Literal)
-    (o : Assumed) → IsInput p → IsAssumed s p ls b asked o
-    → OnAssumedUnsat (Ok o) (IsAcceptedLog (seen_given p) ls)
-unsat_of s p ls b asked (Sat bits) i a = tt
-unsat_of s p ls b asked Unsat i a = ended_log p ls i a
-unsat_of s p ls b asked (Core core) i a = tt
-unsat_of s p ls b asked Open i a = tt
-unsat_of s p ls b asked Limit i a = tt
+    (o : Assumed) → IsInput p → StaysLogOver (length (p.frozen).items) p.given ls
+    → IsAssumed s p ls b asked o → OnAssumedUnsat (Ok o) (IsAcceptedLog (seen_given p) ls)
+unsat_of s p ls b asked (Sat bits) i stays a = tt
+unsat_of s p ls b asked Unsat i stays a = ended_log p ls i stays a.refuted
+unsat_of s p ls b asked (Core core) i stays a = tt
+unsat_of s p ls b asked Open i stays a = tt
+unsat_of s p ls b asked Limit i stays a = tt
 
 core_of : (s : Search) (p : Input) (ls : List LogLine) (b : BudgetState) (asked : List Literal)
     (o : Assumed) → IsInput p → IsAssumed s p ls b asked o
@@ -91,13 +92,14 @@ on_runs s p ls b asked (Core core) a other = a.runs
 on_runs s p ls b asked Open a other = a
 on_runs s p ls b asked Limit a other = a.0
 
-log_of : (s : Search) (p : Input) (ls : List LogLine) (b : BudgetState) (asked : List Literal)
-    (o : Assumed) → IsInput p → IsAssumed s p ls b asked o → IsLogOver (seen_given p) ls
-log_of s p ls b asked (Sat bits) i a = log_now p ls i a.runs.running.recorded.log.stays
-log_of s p ls b asked Unsat i a = log_now p ls i a.stays
-log_of s p ls b asked (Core core) i a = log_now p ls i a.runs.running.recorded.log.stays
-log_of s p ls b asked Open i a = log_now p ls i a.running.recorded.log.stays
-log_of s p ls b asked Limit i a = log_now p ls i a.0.running.recorded.log.stays
+pub open_of : (s : Search) (p : Input) (ls : List LogLine) (b : BudgetState)
+    (asked : List Literal) (o : Assumed) → IsAssumed s p ls b asked o
+    → StaysOpenLogOver (length (p.frozen).items) p.given ls
+open_of s p ls b asked (Sat bits) a = a.runs.running.recorded.log.stays
+open_of s p ls b asked Unsat a = a.stays
+open_of s p ls b asked (Core core) a = a.runs.running.recorded.log.stays
+open_of s p ls b asked Open a = a.running.recorded.log.stays
+open_of s p ls b asked Limit a = a.0.running.recorded.log.stays
 
 -- what a caller sees of a plain refutation
 plain_seen : (p : Input) → IsInput p
@@ -110,20 +112,23 @@ plain_seen p i h =
 
 -- the solver after an answer
 pub assuming_solver : (s : Search) (p : Input) (ls : List LogLine) (b : BudgetState)
-    (asked : List Literal) (o : Assumed) (failed : Bool) → IsInput p → IsAssumed s p ls b asked o
+    (asked : List Literal) (o : Assumed) (failed : Bool) → IsInput p
+    → StaysLogOver (length (p.frozen).items) p.given ls → IsAssumed s p ls b asked o
     → IsSolver s p ls (is_unsat o) failed
-assuming_solver s p ls b asked (Sat bits) failed i a =
-    solver_runs s p ls false failed i a.runs refl
-assuming_solver s p ls b asked Unsat failed i a = record {
+assuming_solver s p ls b asked (Sat bits) failed i stays a =
+    solver_runs s p ls false failed i stays a.runs refl
+assuming_solver s p ls b asked Unsat failed i stays a = record {
   input = i;
-  lines = a.stays;
+  lines = stays;
   refuted_is = sym a.refuted;
   running = λ f u. absurd (true≢false u);
 }
-assuming_solver s p ls b asked (Core core) failed i a =
-    solver_runs s p ls false failed i a.runs refl
-assuming_solver s p ls b asked Open failed i a = solver_runs s p ls false failed i a refl
-assuming_solver s p ls b asked Limit failed i a = solver_runs s p ls false failed i a.0 refl
+assuming_solver s p ls b asked (Core core) failed i stays a =
+    solver_runs s p ls false failed i stays a.runs refl
+assuming_solver s p ls b asked Open failed i stays a =
+    solver_runs s p ls false failed i stays a refl
+assuming_solver s p ls b asked Limit failed i stays a =
+    solver_runs s p ls false failed i stays a.0 refl
 
 module _ {S : Type 0} (lines : S → List LogLine) {p : Input} {sink : S} {failed : Bool}
     {old : SolverState S} (i : IsInput p) (same : view_of p sink failed ≡ old)
@@ -131,19 +136,23 @@ module _ {S : Type 0} (lines : S → List LogLine) {p : Input} {sink : S} {faile
   -- the search has answered
   pub assuming_answered : (s : Search) (more : S) (had left : BudgetState)
       (o : Assumed) → failed ≡ false → is_refuted (lines sink) ≡ false
+      → StaysLogOver (length (p.frozen).items) p.given (lines sink)
       → IsAssumed s p (lines more) left asked o
       → (IsLiveRefuted p.given (lines sink) → o ≡ Unsat) → (IsPlain p → o ≡ Unsat)
       → Pays p.given (lines sink) (lines more) had left
       → SolvesAssuming (Ok o) old (view_of p more failed) asked (lines old.sink) (lines more)
       had left
-  assuming_answered s more had left o works unrefuted a live plain pays =
+  assuming_answered s more had left o works unrefuted stays a live plain pays =
       let before = lines sink in
       let after = lines more in
       let w = pays.1 in
+      let now : StaysLogOver (length (p.frozen).items) p.given after =
+      stays_written (length (p.frozen).items) p.given before after pays.0 stays w
+      (open_of s p after left asked o a) in
       subst (λ (v : SolverState S). SolvesAssuming (Ok o) v (view_of p more failed) asked
       (lines v.sink) after had left) same (record {
         sat = sat_of s p after left asked o i a;
-        unsat = unsat_of s p after left asked o i a;
+        unsat = unsat_of s p after left asked o i now a;
         core = core_of s p after left asked o i a;
         limit = limit_of s p after left asked o a;
         refuted = λ h. ap Ok (plain (plain_seen p i h));
@@ -154,7 +163,7 @@ module _ {S : Type 0} (lines : S → List LogLine) {p : Input} {sink : S} {faile
         fails = (λ e. absurd (false≢true e), λ f. absurd (both_ways failed works f));
         given = (refl, refl, refl);
         grows = grows_by p before after pays.0 i w;
-        lines = log_of s p after left asked o i a;
+        lines = log_now p after i now;
         stays_open =
             λ other. let r = on_runs s p after left asked o a (λ u. other (ap Ok u)) in
             r.running.recorded.log.unrefuted;
@@ -169,14 +178,17 @@ module _ {S : Type 0} (lines : S → List LogLine) {p : Input} {sink : S} {faile
 
   -- memory was refused
   pub assuming_refused : (more : S) (had left : BudgetState)
-      → failed ≡ false → is_refuted (lines sink) ≡ false → StaysOpen p (lines more)
+      → failed ≡ false → is_refuted (lines sink) ≡ false
+      → StaysLogOver (length (p.frozen).items) p.given (lines sink) → StaysOpen p (lines more)
       → Pays p.given (lines sink) (lines more) had left
       → SolvesAssuming (Err Memory) old (view_of p more true) asked (lines old.sink) (lines more)
       had left
-  assuming_refused more had left works unrefuted stays pays =
+  assuming_refused more had left works unrefuted stays left_open pays =
       let before = lines sink in
       let after = lines more in
       let w = pays.1 in
+      let now : StaysLogOver (length (p.frozen).items) p.given after =
+      stays_written (length (p.frozen).items) p.given before after pays.0 stays w left_open.stays in
       subst (λ (v : SolverState S). SolvesAssuming (Err Memory) v (view_of p more true) asked
       (lines v.sink) after had left) same (record {
         sat = tt;
@@ -190,7 +202,7 @@ module _ {S : Type 0} (lines : S → List LogLine) {p : Input} {sink : S} {faile
         fails = (λ e. refl, λ f. refl);
         given = (refl, refl, refl);
         grows = grows_by p before after pays.0 i w;
-        lines = log_now p after i stays.stays;
+        lines = log_now p after i now;
         stays_open = tt;
         short = written_short p.given before after pays.0 w;
         new = new_since p before after pays.0 i w;
@@ -232,16 +244,18 @@ module _ {S : Type 0} (lines : S → List LogLine) {p : Input} {sink : S} {faile
       })
 
   -- the empty clause was added before
-  pub assuming_refuted : (b : BudgetState) → failed ≡ false → IsEnded p (lines sink)
+  pub assuming_refuted : (b : BudgetState) → failed ≡ false
+      → StaysLogOver (length (p.frozen).items) p.given (lines sink)
+      → is_refuted (lines sink) ≡ true
       → SolvesAssuming (Ok Unsat) old old asked (lines old.sink) (lines old.sink) b b
-  assuming_refuted b works ended =
+  assuming_refuted b works stays refuted =
       let before = lines sink in
       let w = writes_none p.given before in
       subst (λ (v : SolverState S). SolvesAssuming (Ok Unsat) v v asked (lines v.sink)
       (lines v.sink) b b) same
       (record {
         sat = tt;
-        unsat = ended_log p before i ended;
+        unsat = ended_log p before i stays refuted;
         core = tt;
         limit = tt;
         refuted = λ h. refl;
@@ -251,7 +265,7 @@ module _ {S : Type 0} (lines : S → List LogLine) {p : Input} {sink : S} {faile
         fails = (λ e. absurd (false≢true e), λ f. absurd (both_ways failed works f));
         given = (refl, refl, refl);
         grows = grows_by p before before 0 i w;
-        lines = log_now p before i ended.stays;
+        lines = log_now p before i stays;
         stays_open = λ other. absurd (other refl);
         short = written_short p.given before before 0 w;
         new = new_since p before before 0 i w;

@@ -36,7 +36,7 @@ use Rattle.cdcl_search.specs.Starts.{IsLiveWithin, IsStarted}
 use Rattle.clauses.proofs.Laws.{stands}
 use Rattle.cdcl_search.proofs.Laws.{live_below}
 use Rattle.cdcl.proofs.FirstNames.{names_start}
-use Rattle.lrat_log.proofs.Laws.{base_of, clauses_given}
+use Rattle.lrat_log.proofs.Laws.{base_of, clauses_given, stays_open}
 
 -- Lists of places.
 
@@ -261,8 +261,8 @@ first_runs s p ls cs slots additions n unnamed t h given firsts stays open_log c
       recorded = record {
         log =
             record {
-              stays = subst (λ x. StaysLogOver (length (p.frozen).items) x ls)
-                  (sym given) stays;
+              stays = stays_open (length (p.frozen).items) p.given ls
+                  (subst (λ x. StaysLogOver (length (p.frozen).items) x ls) (sym given) stays);
               unrefuted = unrefuted ls open_log;
               counted = t.counted ∙ counted;
             };

@@ -16,11 +16,11 @@ use Rattle.cdcl.specs.declared.outcome.SolveFault.{SolveFault}
 use Rattle.cdcl.specs.declared.outcome.SolveFault.TheVariants.{Memory, Failed}
 use Rattle.cdcl.specs.Solving.{SolverState, Solves, lines_since, OnSat, OnUnsat, OnLimit}
 use Rattle.cdcl.specs.Solving.{SatisfyGiven, IsLiveRefuted, Answer, answer_count}
-use Rattle.cdcl_search.specs.Running.{is_refuted, Writes, IsInput, IsEnded, StaysOpen}
+use Rattle.cdcl_search.specs.Running.{is_refuted, Writes, IsInput, StaysOpen}
 use Rattle.cdcl.specs.Outcomes.{IsAnswer, PaysFor}
 use Rattle.cdcl.proofs.Answered.{seen_given, given_seen, log_now, ended_log, plain_unsat, view_of}
-use Rattle.cdcl.proofs.Answered.{answered_log, since_more, written_short}
-use Rattle.cdcl_search.proofs.Laws.{writes_none}
+use Rattle.cdcl.proofs.Answered.{answered_open, since_more, written_short}
+use Rattle.cdcl_search.proofs.Laws.{stays_written, writes_none}
 
 -- what an answer says
 
@@ -34,10 +34,11 @@ sat_of s p ls b Unsat i a = tt
 sat_of s p ls b Limit i a = tt
 
 unsat_of : (s : Search) (p : Input) (ls : List LogLine) (b : BudgetState) (o : Outcome)
-    → IsInput p → IsAnswer s p ls b o → OnUnsat (Ok o) (IsAcceptedLog (seen_given p) ls)
-unsat_of s p ls b (Sat bits) i a = tt
-unsat_of s p ls b Unsat i a = ended_log p ls i a
-unsat_of s p ls b Limit i a = tt
+    → IsInput p → StaysLogOver (length (p.frozen).items) p.given ls → IsAnswer s p ls b o
+    → OnUnsat (Ok o) (IsAcceptedLog (seen_given p) ls)
+unsat_of s p ls b (Sat bits) i stays a = tt
+unsat_of s p ls b Unsat i stays a = ended_log p ls i stays a.refuted
+unsat_of s p ls b Limit i stays a = tt
 
 limit_of : (s : Search) (p : Input) (ls : List LogLine) (b : BudgetState) (o : Outcome)
     → IsAnswer s p ls b o → OnLimit (Ok o) (left_of b ≡ 0)
@@ -82,18 +83,22 @@ module _ {S : Type 0} (lines : S → List LogLine) {p : Input} {sink : S} {faile
   -- the search has answered
   pub has_answered : (s : Search) (more : S) (had left : BudgetState)
       (o seen : Outcome) → o ≡ seen → failed ≡ false → is_refuted (lines sink) ≡ false
+      → StaysLogOver (length (p.frozen).items) p.given (lines sink)
       → IsAnswer s p (lines more) left o → (IsLiveRefuted p.given (lines sink) → o ≡ Unsat)
       → PaysFor {E = AllocError} (Ok o) p.given (lines sink) (lines more) had left
       → Solves (Ok seen) old (view_of p more failed) (lines old.sink) (lines more) had left
-  has_answered s more had left o seen is works unrefuted a live pays =
+  has_answered s more had left o seen is works unrefuted stays a live pays =
       let before = lines sink in
       let after = lines more in
       let w = pays.1 in
+      let now : StaysLogOver (length (p.frozen).items) p.given after =
+      stays_written (length (p.frozen).items) p.given before after pays.0 stays w
+      (answered_open s p after left o a) in
       subst (λ x. Solves (Ok x) old (view_of p more failed) (lines old.sink) after had left) is
       (subst (λ (v : SolverState S). Solves (Ok o) v (view_of p more failed) (lines v.sink) after
       had left) same (record {
         sat = sat_of s p after left o i a;
-        unsat = unsat_of s p after left o i a;
+        unsat = unsat_of s p after left o i now a;
         limit = limit_of s p after left o a;
         refuted = λ h. ap Ok (plain_unsat s p after left o i a h);
         propagates =
@@ -103,7 +108,7 @@ module _ {S : Type 0} (lines : S → List LogLine) {p : Input} {sink : S} {faile
         fails = (λ e. absurd (false≢true e), λ f. absurd (both_ways failed works f));
         given = (refl, refl, refl);
         grows = grows_by p before after pays.0 i w;
-        lines = answered_log s p after left o i a;
+        lines = log_now p after i now;
         stays_open = open_of s p after left o a;
         short = written_short p.given before after pays.0 w;
         new = new_since p before after pays.0 i w;
@@ -117,13 +122,16 @@ module _ {S : Type 0} (lines : S → List LogLine) {p : Input} {sink : S} {faile
 
   -- memory was refused
   pub has_refused : (more : S) (had left : BudgetState)
-      → failed ≡ false → is_refuted (lines sink) ≡ false → StaysOpen p (lines more)
+      → failed ≡ false → is_refuted (lines sink) ≡ false
+      → StaysLogOver (length (p.frozen).items) p.given (lines sink) → StaysOpen p (lines more)
       → PaysFor {E = SolveFault} (Err Memory) p.given (lines sink) (lines more) had left
       → Solves (Err Memory) old (view_of p more true) (lines old.sink) (lines more) had left
-  has_refused more had left works unrefuted stays pays =
+  has_refused more had left works unrefuted stays left_open pays =
       let before = lines sink in
       let after = lines more in
       let w = pays.1 in
+      let now : StaysLogOver (length (p.frozen).items) p.given after =
+      stays_written (length (p.frozen).items) p.given before after pays.0 stays w left_open.stays in
       subst (λ (v : SolverState S). Solves (Err Memory) v (view_of p more true) (lines v.sink) after
       had left) same (record {
         sat = tt;
@@ -136,7 +144,7 @@ module _ {S : Type 0} (lines : S → List LogLine) {p : Input} {sink : S} {faile
         fails = (λ e. refl, λ f. refl);
         given = (refl, refl, refl);
         grows = grows_by p before after pays.0 i w;
-        lines = log_now p after i stays.stays;
+        lines = log_now p after i now;
         stays_open = tt;
         short = written_short p.given before after pays.0 w;
         new = new_since p before after pays.0 i w;
@@ -176,15 +184,17 @@ module _ {S : Type 0} (lines : S → List LogLine) {p : Input} {sink : S} {faile
       })
 
   -- the empty clause was added before
-  pub was_refuted : (b : BudgetState) → failed ≡ false → IsEnded p (lines sink)
+  pub was_refuted : (b : BudgetState) → failed ≡ false
+      → StaysLogOver (length (p.frozen).items) p.given (lines sink)
+      → is_refuted (lines sink) ≡ true
       → Solves (Ok Unsat) old old (lines old.sink) (lines old.sink) b b
-  was_refuted b works ended =
+  was_refuted b works stays refuted =
       let before = lines sink in
       let w = writes_none p.given before in
       subst (λ (v : SolverState S). Solves (Ok Unsat) v v (lines v.sink) (lines v.sink) b b) same
       (record {
         sat = tt;
-        unsat = ended_log p before i ended;
+        unsat = ended_log p before i stays refuted;
         limit = tt;
         refuted = λ h. refl;
         propagates = λ h. refl;
@@ -193,7 +203,7 @@ module _ {S : Type 0} (lines : S → List LogLine) {p : Input} {sink : S} {faile
         fails = (λ e. absurd (false≢true e), λ f. absurd (both_ways failed works f));
         given = (refl, refl, refl);
         grows = grows_by p before before 0 i w;
-        lines = log_now p before i ended.stays;
+        lines = log_now p before i stays;
         stays_open = λ other. absurd (other refl);
         short = written_short p.given before before 0 w;
         new = new_since p before before 0 i w;

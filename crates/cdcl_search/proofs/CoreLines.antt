@@ -2,8 +2,7 @@
 use Rattle.std.proofs.Common.{◌≡◌, ℕ, ◌+◌, ◌<◌, ◌≤◌, ◌-◌, ◌||◌, true, false, List}
 use Rattle.std.proofs.Common.{[], ◌∷◌, ◌++◌}
 use Rattle.std.proofs.Common.{length, take, map, Option, Some, refl, sym, ◌∙◌, ap, subst}
-use Rattle.std.proofs.Common.{arith, not}
-use Rattle.std.proofs.Common.{◌&&◌}
+use Rattle.std.proofs.Common.{arith}
 use Rattle.std.specs.Prelude.{All, Contains}
 use Rattle.std.specs.List.{AllByRecursion}
 use Rattle.std.proofs.Common.{get_or, drop, inl, inr}
@@ -12,7 +11,7 @@ use Rattle.std.proofs.lemmas.List.{take_all, take_more}
 use Rattle.std.proofs.lemmas.List.Elements.{All-nil, All-cons, All-head, All-tail, All-push}
 use Rattle.std.proofs.lemmas.List.Elements.{recursion_from_All}
 use Rattle.cnf.specs.Literal.{Literal, negation}
-use Rattle.cnf.specs.Clause.{contains_literal, has_repeat, is_subset, is_empty_clause}
+use Rattle.cnf.specs.Clause.{contains_literal, has_repeat, is_subset}
 use Rattle.cnf.proofs.Laws.{all_at, contains_front, contains_negation, subset_from}
 use Rattle.clauses.specs.Slots.{Slots, clause_at}
 use Rattle.clauses.specs.Within.{Within}
@@ -29,22 +28,18 @@ use Rattle.analyze.proofs.Laws.{level_is, tail_is}
 use Rattle.analyze.proofs.Laws.{low_kept, decided_zero, decided_reasons, decided_deep, decided_all}
 use Rattle.lrat_log.specs.declared.lines.Hint.{Hint}
 use Rattle.lrat_log.specs.declared.lines.Name.{Name}
-use Rattle.lrat_log.specs.declared.lines.Name.TheVariants.{Added}
 use Rattle.lrat_log.specs.declared.lines.Kind.TheVariants.{Learned}
 use Rattle.lrat_log.specs.Log.{LogLine}
 use Rattle.lrat_log.specs.Steps.{IsBaseOf, IsNewTo, log_live, nothing_exempt}
 use Rattle.cdcl_search.specs.declared.input.Input.{Input}
 use Rattle.cdcl_search.specs.declared.search.Search.{Search}
-use Rattle.cdcl_search.specs.Invariant.{HasUnit, NotesUnits, IsRunning, zero_of}
+use Rattle.cdcl_search.specs.Invariant.{HasUnit, NotesUnits, zero_of}
 use Rattle.cdcl_search.specs.Hinting.{AreHintsOf, AreNoted, Serves}
-use Rattle.cdcl_search.specs.Running.{LogsLine, HasRoom, Runs, tables_of}
+use Rattle.cdcl_search.specs.Running.{Runs}
 use Rattle.cdcl_search.specs.Cores.{HasSubset, AreAssumed, IsShown, IsCoreClause}
 use Rattle.cdcl_search.proofs.LogLines.{AddsByHints}
 use Rattle.cdcl_search.proofs.LearnedLines.{new_to_log}
 use Rattle.cdcl_search.proofs.Lessons.{adds_lesson, false_small, small_literals}
-use Rattle.cdcl_search.proofs.Moves.{with_addition, run_add}
-use Rattle.cdcl_search.proofs.Placing.{room_stored, running_same, tables_same}
-use Rattle.cdcl_search.proofs.Units.{units_add}
 
 -- Negations.
 
@@ -203,43 +198,6 @@ core_new s p ls clause lits r k is base above =
     new_to_log (s.store).slots (s.names).items base (log_live p.given base ls) lits
     (r.running.recorded.names.live base above)
     (λ q d at. ap (is_subset d) is ∙ k.new q d at)
-
--- the search at level 0, with the clause
-pub runs_core : (m n : Search) (p : Input) (ls now : List LogLine) (l : LogLine) (k : Literal)
-    (others : List Literal)
-    → IsRunning m.engine (m.store).slots p.stack (tables_of m) (p.frozen).items p.first
-    p.given ls
-    → HasRoom m → All (λ x. x ≤ m.additions + 1) (m.stamps).items
-    → depth_of (m.engine).trail ≡ 0 → l.clause ≡ k ∷ others → AddsByHints p.given ls l
-    → LogsLine m n ls now l → Runs n p now
-runs_core m n p ls now l k others run room past flat split adds added =
-    let stored = added.stored in
-    let more = added.additions in
-    let few = added.few in
-    let slots = (m.store).slots in
-    let t = tables_of m in
-    let ran =
-    run_add m.engine n.engine slots p.stack t (p.frozen).items p.first p.given ls l t.units
-    t.noted run adds
-    (ap (λ b. not b && is_empty_clause l.clause) adds.adds ∙ ap is_empty_clause split)
-    (omega arith) stored.attached (stored.trail, stored.variables) stored.works stored.fits
-    (λ level below. absurd (omega arith)) refl
-    (units_add slots l.clause (zero_of (m.engine).trail) (depth_of (m.engine).trail) t.units
-    t.noted run.units) in
-    subst (Runs n p) (sym added.lines)
-    (record {
-      running = running_same n.engine n.engine (slots ++ Some l.clause ∷ []) (n.store).slots p.stack
-          (with_addition t (m.units).items m.noted) (tables_of n) (p.frozen).items p.first
-          p.given (ls ++ l ∷ [])
-          refl stored.slots
-          (tables_same (with_addition t (m.units).items m.noted) (tables_of n)
-          stored.names (ap (λ x. x.items) stored.units) stored.noted stored.kept more)
-          ran;
-      room = room_stored m n (Added (m.additions + 1)) l.clause room stored;
-      past = subst (λ x. All (λ y. y ≤ n.additions) x.items) (sym stored.stamps)
-          (subst (λ x. All (λ y. y ≤ x) (m.stamps).items) (sym more) past);
-      few = few;
-    })
 
 pub core_has : (slots now : Slots) (lits c : List Literal) → now ≡ slots ++ Some lits ∷ []
     → lits ≡ c → HasSubset now c

@@ -18,7 +18,7 @@ use Rattle.cdcl_search.specs.declared.input.Input.{Input}
 use Rattle.cdcl_search.specs.Hinting.{AreHintsOf, AreNoted}
 use Rattle.cdcl_search.specs.Invariant.{HasUnit, zero_of}
 use Rattle.cdcl_search.specs.Running.{Runs, IsEnded}
-use Rattle.cdcl_search.proofs.LogLines.{AddsByHints}
+use Rattle.cdcl_search.proofs.LogLines.{AddsByHints, by_hints}
 use Rattle.cdcl_search.proofs.LearnedLines.{adds_learned}
 use Rattle.cdcl_search.proofs.ZeroLines.{refutes_empty}
 use Rattle.cdcl_search.proofs.MoreMoves.{answer_unsat}
@@ -63,5 +63,7 @@ is_ended s p ls hints run adds =
     let w =
     answer_unsat (length (p.frozen).items) p.given ls
     (record { kind = Empty; clause = []; hints = hints }) run.running.recorded.log.stays
-    run.running.recorded.log.unrefuted adds refl in
+    run.running.recorded.log.unrefuted
+    (by_hints (length (p.frozen).items) p.given ls
+    (record { kind = Empty; clause = []; hints = hints }) adds) refl in
     record { stays = w.0; refuted = w.1 }

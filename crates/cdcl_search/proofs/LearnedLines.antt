@@ -20,7 +20,8 @@ use Rattle.lrat_log.specs.Steps.{log_live, IsNewTo, IsByRup, nothing_exempt}
 use Rattle.analyze.specs.Analyzer.{IsAsserting, IsRefutedBy}
 use Rattle.clauses.specs.Within.{Within}
 use Rattle.cdcl_search.specs.Invariant.{NamesWhatIsLive, NamesStore, name_at, zero_of}
-use Rattle.cdcl_search.proofs.LogLines.{IsNewClause, AddsByHints, leading-plain, groups-plain}
+use Rattle.lrat_log.specs.Axioms.{IsNewClause}
+use Rattle.cdcl_search.proofs.LogLines.{AddsByHints, leading-plain, groups-plain}
 use Rattle.cdcl_search.proofs.Named.{refutes_named}
 use Rattle.cdcl_search.specs.Hinting.{plain_hints, Serves, AreUnits}
 use Rattle.cdcl_search.proofs.Zero.{AreOpen, refutes_served, refutes_after_units}

@@ -1,6 +1,6 @@
 -- What a conflict teaches: its line is a step, and the search goes on with its clause.
 use Rattle.std.proofs.Common.{◌≡◌, ℕ, ◌+◌, ◌-◌, ◌<◌, ◌≤◌, ◌^◌, true, List, [], ◌∷◌, ◌++◌, Option}
-use Rattle.std.proofs.Common.{Some, refl, sym, ap, subst, arith}
+use Rattle.std.proofs.Common.{length, refl, sym, ◌∙◌, ap, subst, arith}
 use Rattle.std.specs.Prelude.{All, IfSome}
 use Rattle.std.specs.List.{AllByRecursion}
 use Rattle.std.proofs.lemmas.List.{take_all}
@@ -8,17 +8,17 @@ use Rattle.std.proofs.lemmas.List.Elements.{All-nil, All-cons, All-head, All-tai
 use Rattle.std.proofs.lemmas.List.Elements.{All-from_recursion, recursion_from_All}
 use Rattle.cnf.specs.Literal.{Literal, negation}
 use Rattle.cnf.specs.Clause.{greatest_variable}
-use Rattle.cnf.specs.Refute.{Leads, Refutes, IsFalseUnder}
+use Rattle.cnf.specs.Refute.{Leads, Refutes, IsFalseUnder, IsUnit}
 use Rattle.cnf.proofs.Laws.{all_weaker, all_append, all_at}
 use Rattle.clauses.specs.Slots.{Slots, clause_at, IsLive}
 use Rattle.propagate.specs.Trail.{Assigned, literals_of, depth_of, kept_to, HasReasons, level_of}
 use Rattle.propagate.specs.Watches.{EngineState, is_attached}
 use Rattle.propagate.specs.Fits.{Fits, IsWithin, IsFalseClause}
-use Rattle.propagate.proofs.Laws.{kept_low, no_tautology}
+use Rattle.propagate.proofs.Laws.{kept_kept, kept_low, no_tautology}
 use Rattle.analyze.specs.Analyzer.{IsAsserting, IsConflict, IsRefutedBy, greatest_level}
+use Rattle.analyze.proofs.Laws.{learned_fixpoint}
 use Rattle.lrat_log.specs.declared.lines.Hint.{Hint}
 use Rattle.lrat_log.specs.declared.lines.Name.{Name}
-use Rattle.lrat_log.specs.declared.lines.Name.TheVariants.{Added}
 use Rattle.lrat_log.specs.declared.lines.Kind.TheVariants.{Learned}
 use Rattle.lrat_log.specs.Log.{LogLine, Given}
 use Rattle.cdcl_search.specs.declared.search.Search.{Search}
@@ -27,12 +27,10 @@ use Rattle.cdcl_search.specs.Invariant.{HasUnit, NotesUnits, NamesStore, Searche
 use Rattle.cdcl_search.specs.Invariant.{zero_of}
 use Rattle.cdcl_search.specs.Hinting.{AreHintsOf, AreNoted}
 use Rattle.cdcl_search.specs.Running.{LogsLine, HasRoom, Runs, tables_of}
-use Rattle.cdcl_search.proofs.LogLines.{AddsByHints}
+use Rattle.cdcl_search.proofs.LogLines.{AddsByHints, by_hints}
 use Rattle.cdcl_search.proofs.LearnedLines.{adds_learned, refutes_alone, no_tautology_false}
 use Rattle.cdcl_search.proofs.Conflicts.{is_conflict, serves_zero}
-use Rattle.cdcl_search.proofs.Moves.{with_addition}
-use Rattle.cdcl_search.proofs.MoreMoves.{run_learn}
-use Rattle.cdcl_search.proofs.Placing.{room_stored, running_same, tables_same}
+use Rattle.cdcl_search.proofs.Added.{runs_added}
 
 -- hints that refute are live
 leads_live : (slots : Slots) (A : List Literal) (hs : List ℕ) (B : List Literal)
@@ -177,27 +175,13 @@ pub runs_learned : (m n : Search) (p : Input) (ls now : List LogLine) (l : LogLi
     → (m.engine).trail ≡ kept_to back T → AddsByHints p.given ls l
     → LogsLine m n ls now l → Runs n p now
 runs_learned m n p ls now l T back run room past w trail adds added =
-    let stored = added.stored in
-    let more = added.additions in
-    let few = added.few in
-    let slots = (m.store).slots in
     let low : depth_of (m.engine).trail ≤ back =
     subst (λ X. depth_of X ≤ back) (sym trail) (kept_low back T) in
-    let ran = run_learn m.engine n.engine slots p.stack (tables_of m) (p.frozen).items p.first
-    p.given ls l T back run w (back_low T l.clause back w) trail low adds (omega arith)
-    stored.attached (stored.trail, stored.variables) stored.works stored.fits in
-    subst (Runs n p) (sym added.lines)
-    (record {
-      running = running_same n.engine n.engine (slots ++ Some l.clause ∷ []) (n.store).slots p.stack
-          (with_addition (tables_of m) (m.units).items m.noted) (tables_of n)
-          (p.frozen).items p.first
-          p.given (ls ++ l ∷ [])
-          refl stored.slots
-          (tables_same (with_addition (tables_of m) (m.units).items m.noted) (tables_of n)
-          stored.names (ap (λ x. x.items) stored.units) stored.noted stored.kept more)
-          ran;
-      room = room_stored m n (Added (m.additions + 1)) l.clause room stored;
-      past = subst (λ x. All (λ y. y ≤ n.additions) x.items) (sym stored.stamps)
-          (subst (λ x. All (λ y. y ≤ x) (m.stamps).items) (sym more) past);
-      few = few;
-    })
+    runs_added m n p ls now l _ w.others run room past
+    (λ level below.
+    let kept : kept_to level (m.engine).trail ≡ kept_to level T = ap (kept_to level) trail
+    ∙ kept_kept level back T (omega arith) in
+    subst (λ X. (IsFalseUnder l.clause (literals_of X) → ⊥)
+    × ((k : Literal) → IsUnit l.clause (literals_of X) k → ⊥)) (sym kept)
+    (learned_fixpoint T l.clause back w level (omega arith) (back_low T l.clause back w)))
+    w.split (by_hints (length (p.frozen).items) p.given ls l adds) added

@@ -9,6 +9,8 @@ mod Keeping
 mod LearnedLines
 mod ZeroLines
 mod Moves
+mod Added
+mod Ranked
 mod MoreGiven
 mod MoreMoves
 mod Conflicts
@@ -22,6 +24,7 @@ mod HintNames
 mod NotedUnits
 mod EngineMoves
 mod EmptyLine
+mod OutsideClauses
 mod Started
 mod Lessons
 mod Taking

@@ -1,23 +1,23 @@
 -- One more line: a log stays a log where the line is a step over what is live.
-use Rattle.std.proofs.Common.{◌≡◌, ℕ, ◌+◌, ◌<◌, ◌^◌, Bool, true, false, List, [], ◌∷◌, ◌++◌, map}
-use Rattle.std.proofs.Common.{Some, inl, refl, sym, ◌∙◌, ap, subst, arith}
+use Rattle.std.proofs.Common.{◌≡◌, ℕ, ◌+◌, Bool, true, false, List, [], ◌∷◌, ◌++◌, map}
+use Rattle.std.proofs.Common.{Some, inl, inr, refl, sym, ◌∙◌, ap, subst, arith}
 use Rattle.std.specs.Prelude.{nat_eq, if◌then◌else◌, All}
 use Rattle.std.specs.List.{AllByRecursion, IsDistinct}
-use Rattle.std.proofs.lemmas.List.Elements.{All-push, All-from_recursion}
+use Rattle.std.proofs.lemmas.List.Elements.{All-nil, All-push, All-from_recursion}
 use Rattle.cnf.specs.Literal.{Literal, negation}
-use Rattle.cnf.specs.Clause.{has_repeat, is_tautology, greatest_variable}
 use Rattle.cnf.specs.Refute.{Refutes}
-use Rattle.cnf.specs.Lrat.{Addition, Deletion, Live, with_clause, without_ids, Chain, Step}
+use Rattle.cnf.specs.Lrat.{Addition, Deletion, Live, with_clause, without_ids, Step}
 use Rattle.cnf.specs.Lrat.{IsAddable}
 use Rattle.lrat_log.specs.declared.lines.Name.{Name}
-use Rattle.lrat_log.specs.Log.{LogLine, Given, start_over, is_delete, id_of, name_of, leading_ids}
-use Rattle.lrat_log.specs.Log.{group_ids, numbered_line, numbered_on, numbered_lines}
-use Rattle.lrat_log.specs.Steps.{live_after, log_live, added_count, IsBaseOf, AreSteps}
-use Rattle.lrat_log.specs.Steps.{StaysLogOver, AddsNoEmptyClause, IsOwnGroup}
-use Rattle.lrat_log.proofs.Laws.{steps_from_chain}
+use Rattle.lrat_log.specs.Log.{LogLine, Given, is_delete, axiom_line, id_of, name_of, leading_ids}
+use Rattle.lrat_log.specs.Log.{group_ids, numbered_line}
+use Rattle.lrat_log.specs.Steps.{live_after, log_live, added_count, IsBaseOf}
+use Rattle.lrat_log.specs.Steps.{AddsNoEmptyClause, IsOwnGroup}
+use Rattle.lrat_log.specs.Axioms.{IsNewClause, IsOpenStep, StaysOpenLogOver}
+use Rattle.lrat_log.proofs.Laws.{open_steps_push}
 use Rattle.cdcl_search.specs.Hinting.{plain_hints}
-use Rattle.lrat_log.proofs.Laws.{chain_join, stops_push, live_more, base_front}
-use Rattle.lrat_log.proofs.Laws.{refutes_covered, ids_covered, numbered_on-append}
+use Rattle.lrat_log.proofs.Laws.{stops_push, live_more, base_front}
+use Rattle.lrat_log.proofs.Laws.{refutes_covered, ids_covered}
 use Rattle.cdcl_search.proofs.Chains.{live_of, last-live_of, live_of-append}
 
 -- hints that are plain
@@ -40,43 +40,20 @@ own-plain : (ns : List Name) → AllByRecursion IsOwnGroup (plain_hints ns)
 own-plain [] = tt
 own-plain (n ∷ ns) = (tt, own-plain ns)
 
--- a clause that may be added
-pub record IsNewClause (c : List Literal) : Type 0 where
-  pub no_repeat : has_repeat c ≡ false
-  pub no_tautology : is_tautology c ≡ false
-  pub small : greatest_variable c < 2 ^ 27
-
--- the line at the end
-step_at_end : (given : Given) (base : ℕ) (ls : List LogLine) (l : LogLine) (after : Live)
-    → AreSteps (start_over given base) (numbered_lines base ls)
-    → Step (live_of given base ls) (numbered_line base (added_count ls) l) after
-    → AreSteps (start_over given base) (numbered_lines base (ls ++ l ∷ []))
-step_at_end given base ls l after w s =
-    let e : numbered_lines base (ls ++ l ∷ []) ≡ numbered_lines base ls ++ numbered_on base
-    (0 + added_count ls) (l ∷ []) = numbered_on-append base 0 ls (l ∷ []) in
-    let z : 0 + added_count ls ≡ added_count ls = omega arith in
-    let last : Chain (live_of given base ls) (numbered_on base (added_count ls) (l ∷ [])) after =
-    (after, s, refl) in
-    steps_from_chain (start_over given base) (numbered_lines base (ls ++ l ∷ [])) after
-    (subst (λ x. Chain (start_over given base) x after)
-    (sym (e ∙ ap (λ k. numbered_lines base ls ++ numbered_on base k (l ∷ [])) z))
-    (chain_join (start_over given base) (live_of given base ls) after (numbered_lines base ls)
-    (numbered_on base (added_count ls) (l ∷ [])) w last))
-
 -- the line over names, which is a step wherever the clauses that are live here are live
 abbrev StepsWhere : Given → List LogLine → LogLine → Type 0
 StepsWhere given ls l = (more : Given) (base : ℕ) → IsBaseOf (given ++ more) base
-    → (after : Live) × Step (live_of (given ++ more) base ls)
-    (numbered_line base (added_count ls) l) after
+    → (after : Live) × IsOpenStep base (added_count ls) (live_of (given ++ more) base ls) l after
 
 log_push : (variables : ℕ) (given : Given) (ls : List LogLine) (l : LogLine)
-    → StaysLogOver variables given ls → AddsNoEmptyClause ls
-    → All IsOwnGroup l.hints → StepsWhere given ls l → StaysLogOver variables given (ls ++ l ∷ [])
+    → StaysOpenLogOver variables given ls → AddsNoEmptyClause ls
+    → All IsOwnGroup l.hints → StepsWhere given ls l
+    → StaysOpenLogOver variables given (ls ++ l ∷ [])
 log_push variables given ls l stays unrefuted own steps more small =
     let old = stays more small in
     record {
       steps = λ base above. let s = steps more base above in
-          step_at_end (given ++ more) base ls l s.0 (old.steps base above) s.1;
+          open_steps_push (given ++ more) base ls l s.0 (old.steps base above) s.1;
       stops = stops_push ls l unrefuted;
       groups = All-push (λ k. All IsOwnGroup k.hints) ls l old.groups own;
     }
@@ -101,7 +78,17 @@ deletion_line : (d : Bool) (base before : ℕ) (c : List Literal) (ns : List Nam
 deletion_line true base before c ns e = ap (λ x. Deletion (base + before) x) (names-plain base ns)
 deletion_line false base before c ns e = absurd (cc)
 
--- what is known of a line that adds
+-- a clause may be added under the next id
+next_addable : (given : Given) (base : ℕ) (ls : List LogLine) (c : List Literal) → IsNewClause c
+    → IsAddable (live_of given base ls) (base + added_count ls + 1) c
+next_addable given base ls c new = record {
+  rising = omega (arith, last-live_of given base ls);
+  no_repeat = new.no_repeat;
+  no_tautology = new.no_tautology;
+  small = new.small;
+}
+
+-- what is known of a line that follows by hints
 pub record AddsByHints (given : Given) (ls : List LogLine) (l : LogLine) : Type 0 where
   pub names : List Name
   pub adds : is_delete l.kind ≡ false
@@ -125,8 +112,8 @@ line_of_deletion base before l ns d e =
     ∙ deletion_line (is_delete l.kind) base before l.clause ns d
 
 pub log_add : (variables : ℕ) (given : Given) (ls : List LogLine) (l : LogLine)
-    → StaysLogOver variables given ls → AddsNoEmptyClause ls → AddsByHints given ls l
-    → StaysLogOver variables given (ls ++ l ∷ [])
+    → StaysOpenLogOver variables given ls → AddsNoEmptyClause ls → AddsByHints given ls l
+    → StaysOpenLogOver variables given (ls ++ l ∷ [])
 log_add variables given ls l stays unrefuted a =
     log_push variables given ls l stays unrefuted
     (subst (All IsOwnGroup) (sym a.plain) (All-from_recursion IsOwnGroup (plain_hints a.names)
@@ -134,25 +121,61 @@ log_add variables given ls l stays unrefuted a =
     (λ more base above.
     let id : ℕ = base + added_count ls + 1 in
     let live = live_of (given ++ more) base ls in
-    let addable : IsAddable live id l.clause =
-    record {
-      rising = omega (arith, last-live_of (given ++ more) base ls);
-      no_repeat = a.clause.no_repeat;
-      no_tautology = a.clause.no_tautology;
-      small = a.clause.small;
-    } in
+    let addable = next_addable (given ++ more) base ls l.clause a.clause in
     let r =
     refutes_covered (log_live given base ls) (log_live (given ++ more) base ls)
     (live_more given more base ls) (map negation l.clause) (map (id_of base) a.names)
     (a.refutes base (base_front given more base above)) in (
       with_clause live id l.clause,
-      subst (λ x. Step live x (with_clause live id l.clause))
+      inr (subst (λ x. Step live x (with_clause live id l.clause))
           (sym (line_of_addition base (added_count ls) l a.names a.adds a.plain)) (
             addable,
             inl (refl, r),
             refl,
-          ),
+          )),
     ))
+
+-- a clause from outside
+log_axiom : (variables : ℕ) (given : Given) (ls : List LogLine) (c : List Literal)
+    → StaysOpenLogOver variables given ls → AddsNoEmptyClause ls → IsNewClause c
+    → StaysOpenLogOver variables given (ls ++ axiom_line c ∷ [])
+log_axiom variables given ls c stays unrefuted new =
+    log_push variables given ls (axiom_line c) stays unrefuted (All-nil IsOwnGroup)
+    (λ more base above.
+    let live = live_of (given ++ more) base ls in (
+      with_clause live (base + added_count ls + 1) c,
+      inl (record {
+        kind = refl;
+        addable = next_addable (given ++ more) base ls c new;
+        live = refl;
+      }),
+    ))
+
+-- a line that adds, under which a log stays one
+pub record AddsLine (variables : ℕ) (given : Given) (ls : List LogLine) (l : LogLine) : Type 0 where
+  pub names : List Name
+  pub adds : is_delete l.kind ≡ false
+  pub plain : l.hints ≡ plain_hints names
+  pub stays : StaysOpenLogOver variables given ls → AddsNoEmptyClause ls
+      → StaysOpenLogOver variables given (ls ++ l ∷ [])
+
+pub by_hints : (variables : ℕ) (given : Given) (ls : List LogLine) (l : LogLine)
+    → AddsByHints given ls l → AddsLine variables given ls l
+by_hints variables given ls l a = record {
+  names = a.names;
+  adds = a.adds;
+  plain = a.plain;
+  stays = λ stays unrefuted. log_add variables given ls l stays unrefuted a;
+}
+
+pub from_outside : (variables : ℕ) (given : Given) (ls : List LogLine) (c : List Literal)
+    → IsNewClause c → AddsLine variables given ls (axiom_line c)
+from_outside variables given ls c new = record {
+  names = [];
+  adds = refl;
+  plain = refl;
+  stays = λ stays unrefuted. log_axiom variables given ls c stays unrefuted new;
+}
 
 -- a deletion of live names
 pub record DeletesNames (given : Given) (ls : List LogLine) (l : LogLine) : Type 0 where
@@ -165,8 +188,8 @@ pub record DeletesNames (given : Given) (ls : List LogLine) (l : LogLine) : Type
       (map (id_of base) names)
 
 pub log_delete : (variables : ℕ) (given : Given) (ls : List LogLine) (l : LogLine)
-    → StaysLogOver variables given ls → AddsNoEmptyClause ls → DeletesNames given ls l
-    → StaysLogOver variables given (ls ++ l ∷ [])
+    → StaysOpenLogOver variables given ls → AddsNoEmptyClause ls → DeletesNames given ls l
+    → StaysOpenLogOver variables given (ls ++ l ∷ [])
 log_delete variables given ls l stays unrefuted a =
     log_push variables given ls l stays unrefuted
     (subst (All IsOwnGroup) (sym a.plain) (All-from_recursion IsOwnGroup (plain_hints a.names)
@@ -176,13 +199,13 @@ log_delete variables given ls l stays unrefuted a =
     let ids : List ℕ = map (id_of base) a.names in
     let b = base_front given more base above in (
       without_ids live ids,
-      subst (λ x. Step live x (without_ids live ids))
+      inr (subst (λ x. Step live x (without_ids live ids))
           (sym (line_of_deletion base (added_count ls) l a.names a.deletes a.plain)) (
             a.apart base b,
             ids_covered (log_live given base ls) (log_live (given ++ more) base ls)
                 (live_more given more base ls) ids (a.live base b),
             refl,
-          ),
+          )),
     ))
 
 -- what is live after the line

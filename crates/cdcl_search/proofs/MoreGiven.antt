@@ -2,7 +2,7 @@
 use Rattle.std.proofs.Common.{◌≡◌, ◌≢◌, ℕ, zero, suc, ◌+◌, ◌<◌, ◌≤◌, false, List, [], ◌∷◌, ◌++◌}
 use Rattle.std.proofs.Common.{length, Some, None, inl, inr, refl, sym, ◌∙◌, ap, subst, arith}
 use Rattle.std.proofs.Common.{append_assoc}
-use Rattle.std.specs.Prelude.{◌==◌, nat_eq, if◌then◌else◌}
+use Rattle.std.specs.Prelude.{◌==◌, nat_eq, if◌then◌else◌, All}
 use Rattle.std.specs.List.{AllByRecursion, list_any}
 use Rattle.std.proofs.lemmas.Bool.{cases_Bool, cases_eq, eqb-true, eq-eqb, ne_eqb, cond-false}
 use Rattle.std.proofs.lemmas.Bool.{cond-true, or_from, both_ways}
@@ -12,28 +12,44 @@ use Rattle.std.proofs.lemmas.Option.{none-some, same_Some}
 use Rattle.cnf.specs.Literal.{Literal}
 use Rattle.cnf.specs.Clause.{greatest_variable}
 use Rattle.cnf.specs.Refute.{Clauses}
-use Rattle.cnf.specs.Lrat.{ProofLine, Addition, Deletion, Live, with_clause, without_ids, Chain}
+use Rattle.cnf.specs.Lrat.{ProofLine, Addition, Deletion, Live, with_clause, without_ids}
 use Rattle.clauses.specs.Slots.{Slots, clause_at}
 use Rattle.lrat_log.specs.declared.lines.Name.{Name}
 use Rattle.lrat_log.specs.declared.lines.Name.TheVariants.{Formula, Added}
 use Rattle.lrat_log.specs.Log.{LogLine, Given, given_at, start_over, id_of, numbered_lines}
-use Rattle.lrat_log.specs.Steps.{live_after, log_live, IsBaseOf, StaysLogOver, IsLogOver, AreSteps}
+use Rattle.lrat_log.specs.Steps.{live_after, log_live, IsBaseOf, IsLogOver, StaysLogOver}
+use Rattle.lrat_log.specs.Axioms.{OpenChain, IsOpenLogOver, StaysOpenLogOver}
 use Rattle.cdcl_search.specs.Invariant.{name_at, NamesWhatIsLive, NamesStore}
 use Rattle.lrat_log.proofs.Laws.{base_more}
-use Rattle.lrat_log.proofs.Laws.{base_front}
+use Rattle.lrat_log.proofs.Laws.{base_front, LiveChain, live_chain}
 use Rattle.cdcl_search.proofs.Places.{live_within, clause_kept, clause_cases}
 use Rattle.clauses.proofs.Laws.{clause_new}
 
--- a log that stays one where clauses are given later
-pub log_given : (variables : ℕ) (given : Given) (n : Name) (c : List Literal) (ls : List LogLine)
-    → greatest_variable c ≤ variables → StaysLogOver variables given ls
-    → StaysLogOver variables (given ++ (n, c) ∷ []) ls
-log_given variables given n c ls small stays more later =
-    subst (λ g. IsLogOver g ls) (sym (append_assoc given ((n, c) ∷ []) more))
+-- what stays where clauses are given later
+stays_given : (P : Given → Type 0) (variables : ℕ) (given : Given) (n : Name) (c : List Literal)
+    → greatest_variable c ≤ variables
+    → ((more : Given) → All (λ g. greatest_variable g.1 ≤ variables) more → P (given ++ more))
+    → (more : Given) → All (λ g. greatest_variable g.1 ≤ variables) more
+    → P ((given ++ (n, c) ∷ []) ++ more)
+stays_given P variables given n c small stays more later =
+    subst P (sym (append_assoc given ((n, c) ∷ []) more))
     (stays ((n, c) ∷ more) (All-cons (λ g. greatest_variable g.1 ≤ variables) (
       n,
       c,
     ) more small later))
+
+-- a log, and one that takes clauses from outside
+pub log_given : (variables : ℕ) (given : Given) (n : Name) (c : List Literal) (ls : List LogLine)
+    → greatest_variable c ≤ variables → StaysLogOver variables given ls
+    → StaysLogOver variables (given ++ (n, c) ∷ []) ls
+log_given variables given n c ls small stays =
+    stays_given (λ g. IsLogOver g ls) variables given n c small stays
+
+pub open_given : (variables : ℕ) (given : Given) (n : Name) (c : List Literal) (ls : List LogLine)
+    → greatest_variable c ≤ variables → StaysOpenLogOver variables given ls
+    → StaysOpenLogOver variables (given ++ (n, c) ∷ []) ls
+open_given variables given n c ls small stays =
+    stays_given (λ g. IsOpenLogOver g ls) variables given n c small stays
 
 pub base_last : (given : Given) (i : ℕ) (c : List Literal) (base : ℕ)
     → IsBaseOf (given ++ (Formula i, c) ∷ []) base → i ≤ base
@@ -126,32 +142,36 @@ one_without i c old new ids out h = (
 )
 
 one_after : (i : ℕ) (c : List Literal) (ls : List ProofLine) (old new left : Live)
-    → Chain old ls left → i ≤ old.last → HasOneMore i c old.clause_at new.clause_at
+    → LiveChain old ls left → i ≤ old.last → HasOneMore i c old.clause_at new.clause_at
     → HasOneMore i c (live_after old ls).clause_at (live_after new ls).clause_at
 one_after i c [] old new left w low h = h
 one_after i c (Addition id d hints groups ∷ ls) old new left w low h =
     let above = w.1.0.rising in
     one_after i c ls (with_clause old id d) (with_clause new id d) left
-    (subst (λ x. Chain x ls left) w.1.2 w.2) (omega arith)
+    (subst (λ x. LiveChain x ls left) w.1.1 w.2) (omega arith)
     (one_with i c old new id d (omega arith) h)
 one_after i c (Deletion lead ids ∷ ls) old new left w low h =
     one_after i c ls (without_ids old ids) (without_ids new ids) left
-    (subst (λ x. Chain x ls left) w.1.2 w.2) low
+    (subst (λ x. LiveChain x ls left) w.1.2 w.2) low
     (one_without i c old new ids (not_named old.clause_at i ids h.0 w.1.1) h)
 
 pub live_given : (given : Given) (i : ℕ) (c : List Literal) (base : ℕ) (ls : List LogLine)
-    → given_at given i ≡ None → i ≤ base → AreSteps (start_over given base) (numbered_lines base ls)
+    → given_at given i ≡ None → i ≤ base
+    → OpenChain base 0 (start_over given base) ls
+    (live_after (start_over given base) (numbered_lines base ls))
     → HasOneMore i c (log_live given base ls) (log_live (given ++ (Formula i, c) ∷ []) base ls)
 live_given given i c base ls fresh low steps =
     one_after i c (numbered_lines base ls) (start_over given base)
     (start_over (given ++ (Formula i, c) ∷ []) base)
-    (live_after (start_over given base) (numbered_lines base ls)) steps low
+    (live_after (start_over given base) (numbered_lines base ls))
+    (live_chain base 0 (start_over given base)
+    (live_after (start_over given base) (numbered_lines base ls)) ls steps) low
     (fresh, given_one given i c fresh)
 
 -- the clause comes to the store under its name
 module _ (slots : Slots) (names : List Name) (given : Given) (ls : List LogLine) (i : ℕ)
     (c : List Literal) (variables : ℕ)
-    (fresh : given_at given i ≡ None) (stays : StaysLogOver variables given ls)
+    (fresh : given_at given i ≡ None) (stays : StaysOpenLogOver variables given ls)
     (old : NamesStore slots names given ls) where
   abbrev more : Given
   more = given ++ (Formula i, c) ∷ []
@@ -175,8 +195,8 @@ module _ (slots : Slots) (names : List Name) (given : Given) (ls : List LogLine)
     one : HasOneMore i c (log_live given base ls) (log_live more base ls)
     one =
         let same : given ++ [] ≡ given = append-nil given in
-        let log : IsLogOver given ls =
-        subst (λ g. IsLogOver g ls) same
+        let log : IsOpenLogOver given ls =
+        subst (λ g. IsOpenLogOver g ls) same
         (stays [] (All-nil (λ g. greatest_variable g.1 ≤ variables))) in
         live_given given i c base ls fresh (base_last given i c base above) (log.steps base front)
 

@@ -8,38 +8,35 @@ use Rattle.std.specs.List.{AllByRecursion, slice_get, list_any}
 use Rattle.std.specs.List.Sorted.{IsStrictlyIncreasing}
 use Rattle.std.proofs.lemmas.Bool.{or_left, or_right, or_cases}
 use Rattle.std.proofs.lemmas.List.{get_or-set_other, length-set, map_push, take-append-le}
-use Rattle.std.proofs.lemmas.List.{append-nil}
 use Rattle.std.proofs.lemmas.List.Elements.{All-push, All-head, All-tail, Contains-push_cases}
-use Rattle.std.proofs.lemmas.List.Elements.{All-nil}
 use Rattle.std.proofs.lemmas.Option.{same_Some, unwrap_or-slice_get}
 use Rattle.cnf.specs.Literal.{Literal, Assignment, literal_value}
 use Rattle.cnf.specs.Clause.{clause_value, Satisfies, greatest_variable, is_empty_clause}
 use Rattle.cnf.specs.Lrat.{IsId}
-use Rattle.cnf.specs.Refute.{IsUnit, IsFalseUnder, IsRefutedByHints}
+use Rattle.cnf.specs.Refute.{IsRefutedByHints}
 use Rattle.cnf.specs.Bits.{assignment_of}
 use Rattle.clauses.specs.Slots.{Slots, clause_at, Renaming, IsRenaming}
-use Rattle.propagate.specs.Trail.{Assigned, literals_of, depth_of, kept_to}
+use Rattle.propagate.specs.Trail.{depth_of}
 use Rattle.propagate.specs.Watches.{EngineState, SetsAttached}
 use Rattle.propagate.specs.Fits.{Fits, MovesAttached, renamed_trail, renamed_reason}
-use Rattle.propagate.proofs.Laws.{NoTautology, kept_kept}
+use Rattle.propagate.proofs.Laws.{NoTautology}
 use Rattle.lrat_log.specs.declared.lines.Name.{Name}
 use Rattle.lrat_log.specs.declared.lines.Name.TheVariants.{Formula}
 use Rattle.lrat_log.specs.Log.{LogLine, Given, given_at, number_in}
-use Rattle.lrat_log.specs.Steps.{StaysLogOver, IsLogOver, IsAcceptedLog, AddsNoEmptyClause}
-use Rattle.lrat_log.specs.Steps.{adds_empty_clause, IsBaseOf, log_live, IsNewTo}
+use Rattle.lrat_log.specs.Steps.{AddsNoEmptyClause, adds_empty_clause, IsBaseOf, log_live, IsNewTo}
 use Rattle.lrat_log.specs.Steps.{nothing_exempt}
-use Rattle.lrat_log.proofs.Laws.{accepted_log}
+use Rattle.lrat_log.specs.Axioms.{StaysOpenLogOver}
 use Rattle.eliminate.specs.Elimination.{StackState, Removed, extended, IsFree, becomes_true}
 use Rattle.analyze.specs.Analyzer.{IsAsserting}
 use Rattle.cdcl_search.specs.Running.{is_refuted}
 use Rattle.cdcl_search.specs.Giving.{IsFrozen}
 use Rattle.cdcl_search.specs.Invariant.{Tables, name_at, NamesStore, Searches, NotesUnits, zero_of}
 use Rattle.cdcl_search.specs.Invariant.{KeepsPlain, IsRunning}
-use Rattle.cdcl_search.proofs.LogLines.{AddsByHints, log_add}
+use Rattle.cdcl_search.proofs.LogLines.{AddsByHints, AddsLine, by_hints}
 use Rattle.cdcl_search.proofs.Named.{names_move}
-use Rattle.cdcl_search.proofs.MoreGiven.{log_given, names_given}
+use Rattle.cdcl_search.proofs.MoreGiven.{open_given, names_given}
 use Rattle.cdcl_search.proofs.Fixpoint.{searches_move, searches_add}
-use Rattle.analyze.proofs.Laws.{learned_fixpoint, is_new}
+use Rattle.analyze.proofs.Laws.{is_new}
 use Rattle.cdcl_search.proofs.LearnedLines.{new_to_log}
 use Rattle.cdcl_search.proofs.Units.{units_add, units_note, units_move}
 use Rattle.cdcl_search.proofs.Keeping.{leads_back, keeps_plain, kept_move, empty_move, empty_add}
@@ -181,7 +178,7 @@ run_given e f slots stack t frozen first given ls i c r flat within fresh id fix
     record {
       recorded = record {
         log = record {
-          stays = log_given (length frozen) given (Formula i) c ls small d.log.stays;
+          stays = open_given (length frozen) given (Formula i) c ls small d.log.stays;
           unrefuted = d.log.unrefuted;
           counted = d.log.counted;
         };
@@ -205,32 +202,7 @@ run_given e f slots stack t frozen first given ls i c r flat within fresh id fix
           t.noted r.units);
     }
 
--- What is learned from a conflict under the trail T, once the engine has gone back.
-
-pub run_learn : (e f : EngineState) (slots : Slots) (stack : StackState) (t : Tables)
-    (frozen : List Bool) (first : ℕ) (given : Given) (ls : List LogLine) (l : LogLine)
-    (T : List Assigned) (back : ℕ)
-    → IsRunning e slots stack t frozen first given ls → IsAsserting T l.clause back
-    → back ≤ depth_of T → e.trail ≡ kept_to back T → depth_of e.trail ≤ back
-    → AddsByHints given ls l → t.additions + 1 < 2 ^ 62
-    → SetsAttached e f (length slots) true → (f.trail ≡ e.trail) × (f.variables ≡ e.variables)
-    → f.failed ≡ false → Fits f (slots ++ Some l.clause ∷ [])
-    → IsRunning f (slots ++ Some l.clause ∷ []) stack (with_addition t t.units t.noted) frozen first
-    given (ls ++ l ∷ [])
-run_learn e f slots stack t frozen first given ls l T back r w within trail low adds room sets same
-    works fits =
-    run_add e f slots stack t frozen first given ls l t.units t.noted r adds
-    (ap (λ b. not b && is_empty_clause l.clause) adds.adds ∙ ap is_empty_clause w.split) room sets
-    same works fits
-    (λ level below.
-    let kept : kept_to level e.trail ≡ kept_to level T = ap (kept_to level) trail
-    ∙ kept_kept level back T (omega arith) in
-    subst (λ X. (IsFalseUnder l.clause (literals_of X) → ⊥)
-    × ((k : Literal) → IsUnit l.clause (literals_of X) k → ⊥)) (sym kept)
-    (learned_fixpoint T l.clause back w level (omega arith) within))
-    refl (units_add slots l.clause (zero_of e.trail) (depth_of e.trail) t.units t.noted r.units)
-
--- and nothing live was a subset of it
+-- Nothing live is a subset of what is learned.
 pub learn_is_new : (e : EngineState) (slots : Slots) (names : List Name) (given : Given)
     (ls : List LogLine) (l : LogLine) (back : ℕ) → Searches e slots
     → NamesStore slots names given ls
@@ -259,7 +231,8 @@ pub run_note : (e f : EngineState) (slots : Slots) (stack : StackState) (t : Tab
 run_note e f slots stack t frozen first given ls l k r flat left at one apart ones room_k adds room
     sets same works fits =
     run_add e f slots stack t frozen first given ls l
-    (set t.units (k.variable - 1) (Some (length slots))) (t.noted + 1) r adds
+    (set t.units (k.variable - 1) (Some (length slots))) (t.noted + 1) r
+    (by_hints (length frozen) given ls l adds)
     (ap (λ b. not b && is_empty_clause l.clause) adds.adds ∙ ap is_empty_clause one) room sets
     same works fits
     (λ level below. absurd (omega arith))
@@ -279,18 +252,12 @@ any_push [] l e = or_left (adds_empty_clause l) false e
 any_push (k ∷ ls) l e =
     or_right (adds_empty_clause k) (list_any adds_empty_clause (ls ++ l ∷ [])) (any_push ls l e)
 
--- the empty clause, by hints: the log is accepted, and the solver's word for it
+-- the empty clause, by hints: the solver's word for it
 pub answer_unsat : (variables : ℕ) (given : Given) (ls : List LogLine) (l : LogLine)
-    → StaysLogOver variables given ls → AddsNoEmptyClause ls → AddsByHints given ls l
-    → l.clause ≡ []
-    → StaysLogOver variables given (ls ++ l ∷ []) × (is_refuted (ls ++ l ∷ []) ≡ true)
-    × IsAcceptedLog given (ls ++ l ∷ [])
+    → StaysOpenLogOver variables given ls → AddsNoEmptyClause ls
+    → AddsLine variables given ls l → l.clause ≡ []
+    → StaysOpenLogOver variables given (ls ++ l ∷ []) × (is_refuted (ls ++ l ∷ []) ≡ true)
 answer_unsat variables given ls l stays unrefuted adds none =
-    let after = log_add variables given ls l stays unrefuted adds in
     let empty : adds_empty_clause l ≡ true = ap (λ b. not b && is_empty_clause l.clause) adds.adds
     ∙ ap is_empty_clause none in
-    let now : IsLogOver given (ls ++ l ∷ []) =
-    subst (λ g. IsLogOver g (ls ++ l ∷ [])) (append-nil given)
-    (after [] (All-nil (λ g. greatest_variable g.1 ≤ variables))) in
-    let some = any_push ls l empty in
-    (after, some, accepted_log given (ls ++ l ∷ []) now some)
+    (adds.stays stays unrefuted, any_push ls l empty)

@@ -22,7 +22,7 @@ use Rattle.cdcl_search.specs.Invariant.{zero_of, IsRecorded, IsRunning}
 use Rattle.analyze.specs.Analyzer.{IsFixpoint}
 use Rattle.cdcl_search.proofs.Chains.{count_push_addition, count_push_deletion}
 use Rattle.cdcl_search.specs.Hinting.{plain_hints}
-use Rattle.cdcl_search.proofs.LogLines.{AddsByHints, DeletesNames, log_add, log_delete}
+use Rattle.cdcl_search.proofs.LogLines.{AddsLine, DeletesNames, log_delete}
 use Rattle.cdcl_search.proofs.Named.{names_add, names_delete}
 use Rattle.cdcl_search.proofs.Fixpoint.{searches_propagate, searches_decide, searches_backtrack}
 use Rattle.cdcl_search.proofs.Fixpoint.{searches_add}
@@ -90,7 +90,7 @@ with_addition t units noted =
 pub recorded_add : (slots : Slots) (stack : StackState) (t : Tables) (frozen : List Bool)
     (first : ℕ) (given : Given) (ls : List LogLine) (l : LogLine) (units : List (Option ℕ))
     (noted : ℕ)
-    → IsRecorded slots stack t frozen first given ls → AddsByHints given ls l
+    → IsRecorded slots stack t frozen first given ls → AddsLine (length frozen) given ls l
     → adds_empty_clause l ≡ false → t.additions + 1 < 2 ^ 62 → length units ≡ length t.units
     → IsRecorded (slots ++ Some l.clause ∷ []) stack (with_addition t units noted) frozen first
     given (ls ++ l ∷ [])
@@ -98,7 +98,7 @@ recorded_add slots stack t frozen first given ls l units noted r adds goes_on ro
     let n : Name = Added (t.additions + 1) in
     record {
       log = record {
-        stays = log_add (length frozen) given ls l r.log.stays r.log.unrefuted adds;
+        stays = adds.stays r.log.stays r.log.unrefuted;
         unrefuted = open_push ls l r.log.unrefuted goes_on;
         counted = ap (λ k. k + 1) r.log.counted ∙ sym (count_push_addition ls l adds.adds);
       };
@@ -119,7 +119,7 @@ recorded_add slots stack t frozen first given ls l units noted r adds goes_on ro
 pub run_add : (e f : EngineState) (slots : Slots) (stack : StackState) (t : Tables)
     (frozen : List Bool) (first : ℕ) (given : Given) (ls : List LogLine) (l : LogLine)
     (units : List (Option ℕ)) (noted : ℕ)
-    → IsRunning e slots stack t frozen first given ls → AddsByHints given ls l
+    → IsRunning e slots stack t frozen first given ls → AddsLine (length frozen) given ls l
     → adds_empty_clause l ≡ false → t.additions + 1 < 2 ^ 62
     → SetsAttached e f (length slots) true → (f.trail ≡ e.trail) × (f.variables ≡ e.variables)
     → f.failed ≡ false → Fits f (slots ++ Some l.clause ∷ [])

@@ -2,13 +2,15 @@
 use Rattle.std.proofs.Common.{◌≡◌, ℕ, ◌+◌, true, false, cond, List, [], ◌∷◌, ◌++◌, inl, inr, sym}
 use Rattle.std.proofs.Common.{◌∙◌, ap, subst, refl, arith, append_assoc, append-nil}
 use Rattle.std.specs.Prelude.{length, Result, Ok, Err, OnOk, OnErr, IsErr}
-use Rattle.std.proofs.lemmas.Bool.{false≢true}
+use Rattle.std.proofs.lemmas.Bool.{both_ways, false≢true}
 use Rattle.std.proofs.lemmas.List.Elements.{All-nil, All-cons, All-append}
 use Rattle.std.proofs.lemmas.List.Sums.{sum_by-append, sum_by-cons}
-use Rattle.lrat_log.specs.Log.{LogLine, Given, is_learned}
+use Rattle.lrat_log.specs.declared.lines.Kind.TheVariants.{Delete}
+use Rattle.lrat_log.specs.Log.{LogLine, Given, is_learned, is_delete, is_axiom}
 use Rattle.lrat_log.specs.Steps.{IsBaseOf, learned_count, IsLearnedOrShort, IsShortLine, LearnsNew}
-use Rattle.lrat_log.specs.Steps.{nothing_exempt, IsNewTo, log_live}
-use Rattle.lrat_log.proofs.Laws.{when_err}
+use Rattle.lrat_log.specs.Steps.{StaysLogOver, nothing_exempt, IsNewTo, IsByRup, log_live}
+use Rattle.lrat_log.specs.Axioms.{FollowByRup, StaysOpenLogOver}
+use Rattle.lrat_log.proofs.Laws.{follow_append, own_append, stays_own, when_err}
 use Rattle.cdcl_search.specs.declared.input.Input.{Input}
 use Rattle.cdcl_search.specs.Invariant.{IsOpenLog}
 use Rattle.cdcl_search.specs.Running.{Writes}
@@ -24,6 +26,8 @@ writes_none given ls =
       short = All-nil IsLearnedOrShort;
       learned_is = refl;
       new = λ base above. tt;
+      own = tt;
+      follows = λ base above. tt;
     }
 
 learns_join : (given : Given) (base : ℕ) (before ls ms : List LogLine)
@@ -50,28 +54,56 @@ writes_join given a b c m n v w = record {
   new =
       λ base above. learns_join given base a v.more w.more (v.new base above)
       (subst (λ x. LearnsNew nothing_exempt given base x w.more) v.grows (w.new base above));
+  own = own_append v.more w.more v.own w.own;
+  follows =
+      λ base above. follow_append given base a v.more w.more (v.follows base above)
+      (subst (λ x. FollowByRup given base x w.more) v.grows (w.follows base above));
 }
+
+rup_line : (given : Given) (ls : List LogLine) (l : LogLine) → AddsByHints given ls l
+    → (base : ℕ) → IsBaseOf given base → IsByRup base (log_live given base ls) l
+rup_line given ls l adds base above =
+    by_rup base (log_live given base ls) l adds.names adds.plain (adds.refutes base above)
 
 one_count : (l : LogLine) → learned_count (l ∷ []) ≡ cond (is_learned l.kind) 1 0 + 0
 one_count l = sum_by-cons (λ (k : LogLine). cond (is_learned k.kind) 1 0) l []
 
--- a line of at most one literal, which is not a learned one
-pub writes_short : (given : Given) (ls : List LogLine) (l : LogLine) → is_learned l.kind ≡ false
-    → IsShortLine l → Writes given ls (ls ++ l ∷ []) 0
-writes_short given ls l other short = record {
+-- a line that is not learned
+writes_other : (given : Given) (ls : List LogLine) (l : LogLine) → is_learned l.kind ≡ false
+    → IsShortLine l → is_axiom l.kind ≡ false
+    → ((base : ℕ) → IsBaseOf given base → is_delete l.kind ≡ false
+    → IsByRup base (log_live given base ls) l)
+    → Writes given ls (ls ++ l ∷ []) 0
+writes_other given ls l other short own follows = record {
   more = l ∷ [];
   grows = refl;
   short = All-cons IsLearnedOrShort l [] (inr short) (All-nil IsLearnedOrShort);
   learned_is = one_count l ∙ ap (λ b. cond b 1 0 + 0) other;
   new = λ base above. (λ e. absurd (let f : ◌≡◌ true false = sym e ∙ other in cc), tt);
+  own = (own, tt);
+  follows = λ base above. (λ adds inside. follows base above adds, tt);
 }
+
+-- one of at most one literal that follows by hints
+pub writes_short : (given : Given) (ls : List LogLine) (l : LogLine) → is_learned l.kind ≡ false
+    → IsShortLine l → is_axiom l.kind ≡ false → AddsByHints given ls l
+    → Writes given ls (ls ++ l ∷ []) 0
+writes_short given ls l other short own adds =
+    writes_other given ls l other short own (λ base above is. rup_line given ls l adds base above)
+
+-- a deletion
+pub writes_deletion : (given : Given) (ls : List LogLine) (l : LogLine) → l.kind ≡ Delete
+    → IsShortLine l → Writes given ls (ls ++ l ∷ []) 0
+writes_deletion given ls l is short =
+    writes_other given ls l (ap is_learned is) short (ap is_axiom is)
+    (λ base above adds. absurd (both_ways _ adds (ap is_delete is)))
 
 -- a learned line
 pub writes_learned : (given : Given) (ls : List LogLine) (l : LogLine) → is_learned l.kind ≡ true
-    → AddsByHints given ls l
+    → is_axiom l.kind ≡ false → AddsByHints given ls l
     → ((base : ℕ) → IsBaseOf given base → IsNewTo nothing_exempt (log_live given base ls) l.clause)
     → Writes given ls (ls ++ l ∷ []) 1
-writes_learned given ls l learned adds new = record {
+writes_learned given ls l learned own adds new = record {
   more = l ∷ [];
   grows = refl;
   short = All-cons IsLearnedOrShort l [] (inl learned) (All-nil IsLearnedOrShort);
@@ -80,11 +112,22 @@ writes_learned given ls l learned adds new = record {
       λ base above. (
         λ e. (
           new base above,
-          by_rup base (log_live given base ls) l adds.names adds.plain (adds.refutes base above),
+          rup_line given ls l adds base above,
         ),
         tt,
       );
+  own = (own, tt);
+  follows = λ base above. (λ is inside. rup_line given ls l adds base above, tt);
 }
+
+-- a log stays one where lines came, since none is from outside
+pub stays_written : (variables : ℕ) (given : Given) (before after : List LogLine) (n : ℕ)
+    → StaysLogOver variables given before → Writes given before after n
+    → StaysOpenLogOver variables given after → StaysLogOver variables given after
+stays_written variables given before after n stays w loose =
+    subst (StaysLogOver variables given) (sym w.grows)
+    (stays_own variables given before w.more stays
+    (subst (StaysOpenLogOver variables given) w.grows loose) w.own)
 
 -- what follows from either end of a call
 pub either : {T E A B C : Type 0} (r : Result T E) → OnOk r A → OnErr r B → (A → C) → (B → C) → C

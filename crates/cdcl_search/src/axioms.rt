@@ -7,6 +7,7 @@ ghost use Rattle.cdcl_search.specs.Running.{CanAttach};
 
 use crate::levelling::level_for;
 use crate::search::Search;
+use clauses::store::CRef;
 use cnf::types::Lit;
 use lrat_log::lines::{Name, Number};
 use std::alloc::AllocError;
@@ -29,13 +30,28 @@ pub fn take_axiom(search: &mut Search, lits: &[Lit], lbd: Option<u32>) -> Result
         (search.new.engine.variables ≡ search.old.engine.variables) }
     ensures additions { OnOk result (search.new.additions ≡ search.old.additions + 1) }
 {
+    let reference = attach_axiom(search, lits)?;
+    if let Some(lbd) = lbd {
+        search.policy.note_learned(reference, lits.len(), lbd);
+    }
+    Ok(())
+}
+
+/// Attaches the clause under the name of the next addition, at the highest level that is possible.
+fn attach_axiom(search: &mut Search, lits: &[Lit]) -> Result<CRef, AllocError>
+    requires can { CanAttach search.old lits.now }
+    requires new { IsNewClause lits.now }
+    requires some { 0 < length lits.now }
+    requires few { search.old.additions + 1 < LINE_LIMIT }
+    ensures takes { OnOk result (TakesAxiom search.old search.new lits.now) }
+    ensures variables { OnOk result
+        (search.new.engine.variables ≡ search.old.engine.variables) }
+    ensures additions { OnOk result (search.new.additions ≡ search.old.additions + 1) }
+{
     let level = level_for(&search.engine, lits);
     search.backtrack(level);
     let name = Name::Added(Number::new(search.additions + 1));
     let reference = search.attach_clause(name, lits)?;
     search.additions += 1;
-    if let Some(lbd) = lbd {
-        search.policy.note_learned(reference, lits.len(), lbd);
-    }
-    Ok(())
+    Ok(reference)
 }

@@ -1,6 +1,7 @@
-//! The state of a conflict-driven search (CDCL), and its moves: it starts, takes a clause,
-//! propagates, decides, learns, notes what is true at level 0, deletes and says which assumptions
-//! clash. Each move keeps the log right. What to do next is up to `cdcl`.
+//! The state of a conflict-driven search (CDCL), and its moves: it starts, takes a clause that was
+//! given or comes from outside the log, propagates, decides, learns, notes what is true at level 0,
+//! deletes and says which assumptions clash. Each move keeps the log right. What to do next is up
+//! to `cdcl`.
 #![tactic(auto)]
 
 pub mod axioms;

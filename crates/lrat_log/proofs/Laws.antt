@@ -3,6 +3,8 @@ pub use Rattle.lrat_log.proofs.Accepting.{accepted_log}
 pub use Rattle.lrat_log.proofs.Additions.{additions_cons, additions_few, additions_push}
 pub use Rattle.lrat_log.proofs.Additions.{last_numbered}
 pub use Rattle.lrat_log.proofs.Additions.{numbered_on-append}
+pub use Rattle.lrat_log.proofs.Axioms.{LiveChain, axiom_adds, follow_append, live_chain, open_log}
+pub use Rattle.lrat_log.proofs.Axioms.{open_steps_push, own_append, own_log, stays_open, stays_own}
 pub use Rattle.lrat_log.proofs.GivenNumbers.{base_more, base_of, clauses_given, given_at-given_of}
 pub use Rattle.lrat_log.proofs.GivenNumbers.{given_on, numbered_right}
 pub use Rattle.lrat_log.proofs.Growing.{base_front, chain_join, ids_covered, live_after-append}

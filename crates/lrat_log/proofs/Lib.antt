@@ -1,5 +1,6 @@
 mod Accepting
 mod Additions
+mod Axioms
 mod Flat
 mod GivenNumbers
 mod Growing

@@ -10,7 +10,7 @@ use Rattle.lrat_log.specs.declared.heads.FarHead.{FarHead}
 use Rattle.lrat_log.specs.declared.heads.LineHead.{LineHead}
 use Rattle.lrat_log.specs.declared.lines.Kind.{Kind}
 use Rattle.lrat_log.specs.declared.lines.Kind.TheVariants.{Learned, Unit, Resolvent, Definition}
-use Rattle.lrat_log.specs.declared.lines.Kind.TheVariants.{Weaker, Delete, Empty}
+use Rattle.lrat_log.specs.declared.lines.Kind.TheVariants.{Weaker, Delete, Empty, Axiom}
 use Rattle.lrat_log.specs.Heads.{Ends, base_at, near_head, near_heads, far_head}
 use Rattle.lrat_log.specs.Heads.{kind_at, number_of}
 use Rattle.lrat_log.proofs.Parts.{Stands, stands_first, stands_last}
@@ -69,6 +69,7 @@ kind_at-number_of Definition = refl
 kind_at-number_of Weaker = refl
 kind_at-number_of Delete = refl
 kind_at-number_of Empty = refl
+kind_at-number_of Axiom = refl
 
 module _ (bs : List Ends) (ws : List ℕ) (h : LineHead) where
   -- a line that begins a block

@@ -1,4 +1,4 @@
-use Rattle.std.proofs.Common.{◌≡◌, ◌+◌, ◌≤◌, true, refl, sym, ◌∙◌, ap, subst}
+use Rattle.std.proofs.Common.{◌≡◌, ◌+◌, ◌≤◌, true, length, refl, sym, ◌∙◌, ap, subst}
 use Rattle.std.proofs.Common.{arith}
 use Rattle.std.specs.Prelude.{All}
 use Rattle.propagate.specs.Trail.{depth_of, kept_to}
@@ -15,7 +15,9 @@ use Rattle.cdcl_search.proofs.HintNames.{hint_ids}
 use Rattle.cdcl_search.proofs.Written.{writes_learned}
 use Rattle.cdcl_search.proofs.Lessons.{refutes_live, live_attached}
 use Rattle.cdcl_search.proofs.EngineMoves.{runs_chosen}
-use Rattle.cdcl_search.proofs.CoreLines.{zero_noted, core_within, core_adds, core_new, runs_core}
+use Rattle.cdcl_search.proofs.Added.{runs_added}
+use Rattle.cdcl_search.proofs.LogLines.{by_hints}
+use Rattle.cdcl_search.proofs.CoreLines.{zero_noted, core_within, core_adds, core_new}
 use Rattle.cdcl_search.proofs.CoreLines.{core_has}
 use Rattle.cdcl_search.proofs.cores.learn_core.Goals as goal
 
@@ -101,15 +103,16 @@ returns-clause-learns g c =
     (subst (All (λ x. x ≤ s.additions + 1)) (sym stamps) c.hints_of.ensures.past) in
     let added = c.in_ok-reference.ensures.added in
     let written =
-    runs_core m n p ls (g.S.Sink.lines c.add_line.new.sink) l _ k.final.others moved
-    c.backtrack.ensures.moves.ready.room past flat (c.as_slice-lits.ensures ∙ k.final.split) adds
-    added in
+    runs_added m n p ls (g.S.Sink.lines c.add_line.new.sink) l _ k.final.others moved
+    c.backtrack.ensures.moves.ready.room past (λ level below. absurd (omega arith))
+    (c.as_slice-lits.ensures ∙ k.final.split)
+    (by_hints (length p.frozen.items) p.given ls l adds) added in
     record {
       runs = runs_chosen n c.note_learned.new.self p _
           (ap (λ x. x.variables) c.note_learned.ensures.same_view) written;
       writes =
           subst (λ x. Writes p.given ls x 1) (sym added.lines)
-          (writes_learned p.given ls l refl adds
+          (writes_learned p.given ls l refl refl adds
           (core_new s p ls c.args.clause.now lits c.requires.runs k c.as_slice-lits.ensures));
       has = core_has m.store.slots n.store.slots lits c.args.clause.now.lits.items
           added.stored.slots c.as_slice-lits.ensures;

@@ -156,7 +156,7 @@ returns-clause-learns g c =
       variables = added.stored.variables ∙ same;
       writes =
           subst (λ x. Writes p.given ls x 1) (sym added.lines)
-          (writes_learned p.given ls l refl lesson.adds
+          (writes_learned p.given ls l refl refl lesson.adds
           (λ base above. learn_is_new s.engine s.store.slots s.names.items p.given ls l
           learned.back_level run.searches run.recorded.names lesson.asserting c.requires.deep
           base above));

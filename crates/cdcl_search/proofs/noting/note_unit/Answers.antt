@@ -185,5 +185,5 @@ returns-clause-notes g c =
       slots = stored.slots ∙ ap (λ x. slots ++ Some (x ∷ []) ∷ []) first;
       writes =
           subst (λ x. Writes c.args.input.now.given ls x 0) (sym added.lines)
-          (writes_short c.args.input.now.given ls l refl (omega arith));
+          (writes_short c.args.input.now.given ls l refl (omega arith) refl adds);
     }

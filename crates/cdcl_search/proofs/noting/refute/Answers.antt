@@ -74,7 +74,7 @@ returns g c =
           either c.append.result c.append.ensures.ok c.append.ensures.err
           (λ a. subst (λ x. Writes p.given old x 0) (sym a)
           (writes_join p.given old ls (ls ++ l ∷ []) 0 0 e.writes
-          (writes_short p.given ls l refl (omega arith))))
+          (writes_short p.given ls l refl (omega arith) refl adds)))
           (λ b. subst (λ x. Writes p.given old x 0) (sym b) e.writes);
       err =
           on_err_weaker c.append.result (λ b. subst (StaysOpen p) (sym b)

@@ -13,7 +13,7 @@ use Rattle.cdcl_search.specs.Invariant.{name_at}
 use Rattle.cdcl_search.specs.Deletions.{IsDeleting}
 use Rattle.cdcl_search.proofs.Places.{live_within, clause_gone, clause_left}
 use Rattle.cdcl_search.specs.Running.{Writes}
-use Rattle.cdcl_search.proofs.Written.{writes_none, writes_short}
+use Rattle.cdcl_search.proofs.Written.{writes_none, writes_deletion}
 use Rattle.cdcl_search.proofs.Deleting.{named_at, deleting_line, deleting_more}
 use Rattle.cdcl_search.proofs.reducing.delete.Goals as goal
 
@@ -103,5 +103,5 @@ returns-clause-deletes g c =
       policy = c.count_deleted.ensures.same_view;
       writes =
           subst (λ x. Writes p.given ls x 0) (sym written)
-          (writes_short p.given ls l refl (omega arith));
+          (writes_deletion p.given ls l refl (omega arith));
     }
