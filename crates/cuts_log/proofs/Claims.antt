@@ -92,7 +92,8 @@ pub form_taken : (old : Standing) (scale : Option ℕ) (facts : List FormFact) (
     })
 form_taken old scale facts mid fault open_end small all h e cost =
     let each = recursion_from_All IsCountFact facts all in
-    let line = form_of (form_line no_clause scale facts old.forms) old.forms mid fault h e in record {
+    let line =
+    form_of (form_line no_clause scale facts old.forms) old.forms mid fault h e in record {
       open_end = open_end;
       numbers = (
         scale_said scale small,

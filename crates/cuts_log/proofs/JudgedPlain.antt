@@ -1,6 +1,6 @@
 -- An addition that follows by its hints alone, or a deletion, is judged right.
-use Rattle.std.proofs.Common.{◌≡◌, ℕ, ◌+◌, ◌<◌, ◌≤◌, Bool, true, false, List, [], ◌∷◌, ◌++◌, map, Option}
-use Rattle.std.proofs.Common.{Some, None, Result, Ok, Err, refl, sym, ◌∙◌, ap, subst, arith, inl, inr, cond}
+use Rattle.std.proofs.Common.{◌≡◌, ℕ, ◌<◌, ◌≤◌, Bool, true, false, List, [], ◌∷◌, ◌++◌, map, Option}
+use Rattle.std.proofs.Common.{Some, None, Result, Ok, Err, refl, sym, ◌∙◌, ap, subst, arith, cond}
 use Rattle.std.specs.Prelude.{All, nat_eq, nat_le, not, ◌==◌, ◌||◌, if◌then◌else◌, IsSome, is_some}
 use Rattle.std.specs.List.{AllByRecursion, IsDistinct, list_any}
 use Rattle.std.proofs.lemmas.Bool.{eq-eqb, false≢true, lt-leb, ne_eqb}
@@ -15,9 +15,10 @@ use Rattle.lrat_live.specs.Listed.{Listed, listed_at, without_id}
 use Rattle.lrat_live.proofs.Laws.{listed_at-push, listed_at-without}
 use Rattle.lrat_read.specs.Form.{Parsed, Malformed, groups_of, leading, line_of}
 use Rattle.lrat_read.specs.Form.{Addition as ParsedAddition, Deletion as ParsedDeletion}
-use Rattle.lrat_read.specs.Words.{WordLine, after_word, word_line_of, word_of}
+use Rattle.lrat_read.specs.Words.{WordLine, after_word, word_of}
 use Rattle.lrat_read.specs.declared.words.Word.{Word}
-use Rattle.lrat_read.proofs.Laws.{groups_of-signed_hints, leading-signed_hints, line_read, parsed_no_word}
+use Rattle.lrat_read.proofs.Laws.{groups_of-signed_hints, leading-signed_hints, line_read}
+use Rattle.lrat_read.proofs.Laws.{parsed_no_word}
 use Rattle.lrat_read.proofs.Laws.{signed_hints}
 use Rattle.lrat_machine.specs.Rup.{deleted_from, rup_fault}
 use Rattle.lrat_machine.specs.Steps.{live_of}
@@ -46,16 +47,15 @@ abbrev line_by : List (List ℕ) → Option Word → Option (Option WordLine)
 line_by us None = None
 line_by us (Some w) = Some (after_word w us)
 
-no_word : (us : List (List ℕ)) (o : Option Word) → line_by us o ≡ None → o ≡ None
-no_word us None e = refl
-no_word us (Some w) e = absurd (cc)
-
 plain_line : (k : ℕ) (s : CutsState) (ts : List (List ℕ)) (p : Parsed) → line_of ts ≡ p
     → (p ≡ Malformed → ⊥) → s.ended ≡ false → judged_line (Some k) s ts ≡ judged_plain p s
 plain_line k s [] p e n open_end = absurd (n (sym e))
 plain_line k s (t ∷ us) p e n open_end =
     let none : word_of t ≡ None =
-    no_word us (word_of t) (parsed_no_word (t ∷ us) (λ z. n (sym e ∙ z))) in
+    elim (word_of t) as (λ o. line_by us o ≡ None → o ≡ None) [
+      | None ↦ λ e. refl
+      | Some w ↦ λ e. absurd (cc)
+    ] (parsed_no_word (t ∷ us) (λ z. n (sym e ∙ z))) in
     ap (λ o. said_by k s us t o s.ended) none ∙ ap (said_by k s us t None) open_end
     ∙ ap (λ x. judged_plain x s) e
 

@@ -1,6 +1,6 @@
 -- A whole log, from the clauses of the formula on.
-use Rattle.std.proofs.Common.{◌≡◌, ℕ, zero, suc, ◌+◌, ◌≤◌, false, List, [], ◌∷◌, ◌++◌, length, Some, Ok}
-use Rattle.std.proofs.Common.{refl, sym, ◌∙◌, ap, subst, arith}
+use Rattle.std.proofs.Common.{◌≡◌, ℕ, zero, suc, ◌≤◌, false, List, [], ◌∷◌, length, Some, Ok}
+use Rattle.std.proofs.Common.{refl, sym, ◌∙◌, subst, arith}
 use Rattle.std.specs.Prelude.{All, slice_get}
 use Rattle.std.specs.List.{AllByRecursion}
 use Rattle.std.proofs.lemmas.List.Elements.{All-append, recursion_from_All}
@@ -15,10 +15,10 @@ use Rattle.bound.specs.Weighted.{weighted_cnf, weights_of}
 use Rattle.bound.proofs.Laws.{kept_once}
 use Rattle.forms.specs.Forms.{forms_of}
 use Rattle.text.specs.LratText.{HasNumbers}
-use Rattle.lrat_live.specs.Listed.{Listed, listed_at, listed_from}
+use Rattle.lrat_live.specs.Listed.{listed_from}
 use Rattle.lrat_live.proofs.Laws.{listed_from-all, listed_numbered}
 use Rattle.lrat_log.specs.Axioms.{FollowByRup, IsOpenLogOver}
-use Rattle.lrat_log.specs.Log.{LogLine, numbered_lines, start_over}
+use Rattle.lrat_log.specs.Log.{numbered_lines, start_over}
 use Rattle.lrat_log.specs.Steps.{given_of}
 use Rattle.lrat_log.proofs.Laws.{base_of, given_at-given_of}
 use Rattle.lrat_cuts.specs.Cuts.{CutsState, cuts_start, judged_lines, put_all}

@@ -1,28 +1,30 @@
 -- The additions and deletions of a log are judged right, where they are steps apart from clauses
 -- from outside, and follow by their hints alone.
-use Rattle.std.proofs.Common.{◌≡◌, ℕ, ◌+◌, ◌≤◌, Bool, true, false, not, List, [], ◌∷◌, ◌++◌, length, map}
-use Rattle.std.proofs.Common.{Some, Result, Ok, refl, sym, ◌∙◌, ap, subst, arith, inl, inr, append_assoc}
+use Rattle.std.proofs.Common.{◌≡◌, ℕ, ◌+◌, ◌≤◌, Bool, true, false, not, List, [], ◌∷◌, ◌++◌, length}
+use Rattle.std.proofs.Common.{map}
+use Rattle.std.proofs.Common.{Some, Result, Ok, refl, sym, ◌∙◌, ap, subst, arith, inl, inr}
+use Rattle.std.proofs.Common.{append_assoc}
 use Rattle.std.proofs.Common.{append-nil, ◌&&◌}
-use Rattle.std.specs.Prelude.{if◌then◌else◌, nat_eq}
-use Rattle.std.specs.List.{AllByRecursion, IsDistinct}
+use Rattle.std.specs.Prelude.{if◌then◌else◌}
+use Rattle.std.specs.List.{AllByRecursion}
 use Rattle.std.proofs.lemmas.Bool.{both_ways, cases_Bool, cond-false, cond-true}
 use Rattle.cnf.specs.Clause.{is_empty_clause}
-use Rattle.cnf.specs.Literal.{Literal, negation}
-use Rattle.cnf.specs.Lrat.{IsAddable, Live, ProofLine, Addition, Deletion, Step, with_clause}
+use Rattle.cnf.specs.Literal.{Literal}
+use Rattle.cnf.specs.Lrat.{IsAddable, Live, Addition, Deletion, Step, with_clause}
+use Rattle.cnf.specs.Lrat.{ProofLine}
 use Rattle.cnf.specs.Lrat.{without_ids}
-use Rattle.cnf.specs.Refute.{Refutes}
 use Rattle.text.specs.LratText.{HasNumbers, line_tokens}
 use Rattle.lrat_live.specs.Listed.{Listed, listed_from}
 use Rattle.lrat_log.specs.Axioms.{FollowByRup, IsOpenStep, OpenChain}
-use Rattle.lrat_log.specs.Log.{Given, LogLine, axiom_line, group_ids, id_of, is_axiom, is_delete}
+use Rattle.lrat_log.specs.Log.{Given, LogLine, axiom_line, id_of, is_axiom, is_delete}
 use Rattle.lrat_log.specs.Log.{leading_ids, name_of, numbered_line, numbered_lines, numbered_on}
 use Rattle.lrat_log.specs.Log.{start_over}
 use Rattle.lrat_log.specs.Steps.{IsByRup, StopsAtEmptyClause, added_count, adds_empty_clause}
-use Rattle.lrat_log.specs.Steps.{live_after, log_live}
+use Rattle.lrat_log.specs.Steps.{live_after}
 use Rattle.lrat_log.proofs.Laws.{additions_push, live_after-append, numbered_on-append}
 use Rattle.lrat_cuts.specs.Cuts.{CutsState, judged_line, put}
 use Rattle.cuts_log.specs.declared.standing.Standing.{Standing}
-use Rattle.cuts_log.specs.Events.{Event, Plain, Word, lines_of, tokens_at}
+use Rattle.cuts_log.specs.Events.{Event, Plain, Word, lines_of}
 use Rattle.cuts_log.specs.Judging.{ArePlainRight, Follows, IsRightPlain}
 use Rattle.cuts_log.specs.Stands.{TakesAll, with_clause as with_one, with_clauses, with_line}
 use Rattle.cuts_log.proofs.JudgedPlain.{Matches, addition_judged, deletion_judged, matches_put}
@@ -45,33 +47,35 @@ Follow base before live (l ∷ ls) =
     (is_delete l.kind ≡ false → is_axiom l.kind ≡ false → IsByRup base live.clause_at l)
     × Follow base (next_of l before) (live_next base before l live) ls
 
-abbrev after : Given → ℕ → List LogLine → Live
-after given base done = live_after (start_over given base) (numbered_lines base done)
-
 next_count : (d : Bool) (n : ℕ) → n + (if not d then 1 else 0) ≡ (if d then n else n + 1)
 next_count true n = omega arith
 next_count false n = refl
 
-pub follow_on : (given : Given) (base : ℕ) (done ls : List LogLine) → FollowByRup given base done ls
-    → Follow base (added_count done) (after given base done) ls
+pub follow_on : (given : Given) (base : ℕ) (done ls : List LogLine)
+    → FollowByRup given base done ls → Follow base (added_count done)
+    (live_after (start_over given base) (numbered_lines base done)) ls
 follow_on given base done [] f = tt
 follow_on given base done (l ∷ ls) f =
     let start = start_over given base in
     let n = added_count done in
+    let old = live_after start (numbered_lines base done) in
+    let new = live_after start (numbered_lines base (done ++ l ∷ [])) in
     let more : numbered_lines base (done ++ l ∷ []) ≡ numbered_lines base done
     ++ numbered_line base n l ∷ [] = numbered_on-append base 0 done (l ∷ [])
     ∙ ap (λ k. numbered_lines base done ++ numbered_line base k l ∷ []) (omega arith) in
-    let live : after given base (done ++ l ∷ []) ≡ live_next base n l (after given base done) =
-    ap (live_after start) more
+    let live : new ≡ live_next base n l old = ap (live_after start) more
     ∙ live_after-append start (numbered_lines base done) (numbered_line base n l ∷ []) in
     let count : added_count (done ++ l ∷ []) ≡ next_of l n =
-    additions_push done l ∙ next_count (is_delete l.kind) n in
-    (f.0, subst (λ k. Follow base k (live_next base n l (after given base done)) ls) count
-    (subst (λ x. Follow base (added_count (done ++ l ∷ [])) x ls) live
-    (follow_on given base (done ++ l ∷ []) ls f.1)))
+    additions_push done l ∙ next_count (is_delete l.kind) n in (
+      f.0,
+      subst (λ k. Follow base k (live_next base n l old) ls) count
+          (subst (λ x. Follow base (added_count (done ++ l ∷ [])) x ls) live
+          (follow_on given base (done ++ l ∷ []) ls f.1)),
+    )
 
 -- what is known of live clauses, and of the lines that are left
-pub record Left (base before : ℕ) (es : Listed) (last : ℕ) (live : Live) (ls : List LogLine) : Type 0 where
+pub record Left (base before : ℕ) (es : Listed) (last : ℕ) (live : Live) (ls : List LogLine) : Type
+    0 where
   pub matches : Matches es last live
   pub last_is : last ≡ base + before
   pub stops : StopsAtEmptyClause ls
@@ -106,10 +110,11 @@ record Goes (k base before : ℕ) (s : CutsState) (l : LogLine) (ls : List LogLi
   live : Live
   stands : Stands base (next_of l before) next live ls
 
-own_step : (base before : ℕ) (old new : Live) (l : LogLine) → IsOpenStep base before old l new
-    → is_axiom l.kind ≡ false → Step old (numbered_line base before l) new
-own_step base before old new l (inl a) own = absurd (both_ways _ own a.kind)
-own_step base before old new l (inr s) own = s
+step_as : (base before : ℕ) (old new : Live) (l : LogLine) (x : ProofLine)
+    → numbered_line base before l ≡ x → is_axiom l.kind ≡ false
+    → IsOpenStep base before old l new → Step old x new
+step_as base before old new l x is own (inl a) = absurd (both_ways _ own a.kind)
+step_as base before old new l x is own (inr s) = subst (λ y. Step old y new) is s
 
 abbrev ids_in : ℕ → LogLine → List ℕ
 ids_in base l = map (λ h. id_of base (name_of h)) l.hints
@@ -125,7 +130,7 @@ deletes_on k base before s live l ls own d st =
     cond-true (is_delete l.kind) _ _ d in
     let same : next_of l before ≡ before = cond-true (is_delete l.kind) _ _ d in
     let mid = h.chain.0 in
-    let step = subst (λ x. Step live x mid) is (own_step base before live mid l h.chain.1 own) in
+    let step = step_as base before live mid l _ is own h.chain.1 in
     let open_now = open_end s.ended l ls st.ended in
     let j = deletion_judged k s live (base + before) ids h.matches open_now step.0 step.1
     (subst HasNumbers is h.numbers.0) in
@@ -170,7 +175,7 @@ adds_on k base before s live l ls own d st =
     cond-false (is_delete l.kind) _ _ d ∙ ap (Addition id c hints) rup.0 in
     let same : next_of l before ≡ before + 1 = cond-false (is_delete l.kind) _ _ d in
     let mid = h.chain.0 in
-    let step = subst (λ x. Step live x mid) is (own_step base before live mid l h.chain.1 own) in
+    let step = step_as base before live mid l _ is own h.chain.1 in
     let open_now = open_end s.ended l ls st.ended in
     let j = addition_judged k s live id c hints h.matches open_now step.0 rup.1
     (subst HasNumbers is h.numbers.0) in
@@ -216,16 +221,19 @@ axiom_is : (base before : ℕ) (old new : Live) (c : List Literal)
 axiom_is base before old new c (inl a) = (a.addable, a.live)
 axiom_is base before old new c (inr s) = (s.0, s.2)
 
-pub axioms_on : (base before : ℕ) (made : List (List Literal)) (es : Listed) (last : ℕ) (live : Live)
+pub axioms_on : (base before : ℕ) (made : List (List Literal)) (es : Listed) (last : ℕ) (live :
+    Live)
     (ls : List LogLine) → Left base before es last live (map axiom_line made ++ ls)
     → (mid : Live) × Left base (before + length made) (es ++ listed_from (last + 1) made)
     (last + length made) mid ls
 axioms_on base before [] es last live ls h =
     let same : before ≡ before + 0 = omega arith in
-    let here : last ≡ last + 0 = omega arith in
-    (live, subst (λ x. Left base (before + 0) x (last + 0) live ls) (sym (append-nil es))
-    (subst (λ n. Left base (before + 0) es n live ls) here
-    (subst (λ n. Left base n es last live ls) same h)))
+    let here : last ≡ last + 0 = omega arith in (
+      live,
+      subst (λ x. Left base (before + 0) x (last + 0) live ls) (sym (append-nil es))
+          (subst (λ n. Left base (before + 0) es n live ls) here
+          (subst (λ n. Left base n es last live ls) same h)),
+    )
 axioms_on base before (c ∷ cs) es last live ls h =
     let id = base + before + 1 in
     let a = axiom_is base before live h.chain.0 c h.chain.1 in
@@ -245,12 +253,15 @@ axioms_on base before (c ∷ cs) es last live ls h =
     (c ∷ cs) = append_assoc es ((id, c) ∷ []) (listed_from (id + 1) cs)
     ∙ ap (λ i. es ++ (i, c) ∷ listed_from (i + 1) cs) here in
     let longer : id + length cs ≡ last + length (c ∷ cs) = omega (arith, here) in
-    let further : before + 1 + length cs ≡ before + length (c ∷ cs) = omega arith in
-    (rest.0, subst (λ x. Left base (before + length (c ∷ cs)) x (last + length (c ∷ cs)) rest.0 ls)
-    listed (subst (λ n. Left base (before + length (c ∷ cs))
-    ((es ++ (id, c) ∷ []) ++ listed_from (id + 1) cs) n rest.0 ls) longer
-    (subst (λ n. Left base n ((es ++ (id, c) ∷ []) ++ listed_from (id + 1) cs) (id + length cs)
-    rest.0 ls) further rest.1)))
+    let further : before + 1 + length cs ≡ before + length (c ∷ cs) = omega arith in (
+      rest.0,
+      subst (λ x. Left base (before + length (c ∷ cs)) x (last + length (c ∷ cs)) rest.0 ls)
+          listed (subst (λ n. Left base (before + length (c ∷ cs))
+          ((es ++ (id, c) ∷ []) ++ listed_from (id + 1) cs) n rest.0 ls) longer
+          (subst (λ n. Left base n ((es ++ (id, c) ∷ []) ++ listed_from (id + 1) cs) (id + length
+          cs)
+          rest.0 ls) further rest.1)),
+    )
 
 -- the last clause that a word makes may be the empty one
 stops_end : (made : List (List Literal)) (s : Standing) (ls : List LogLine) → s.ended ≡ false
@@ -281,15 +292,18 @@ word_on : (base before : ℕ) (s t : CutsState) (live : Live) (made : List (List
 word_on base before s t live made new es middle is f st =
     let g = axioms_on base before made s.live s.last live (lines_of es) st.lines in
     let n = before + length made in
-    let at_live = subst (λ x. Left base n x (s.last + length made) g.0 (lines_of es)) (sym f.live) g.1 in
+    let at_live = subst (λ x. Left base n x (s.last + length made) g.0 (lines_of es)) (sym f.live)
+    g.1 in
     let at_last = subst (λ x. Left base n t.live x g.0 (lines_of es)) (sym f.last) at_live in
     let count : n ≡ before + added_count (map axiom_line made) =
-    ap (λ x. before + x) (sym (added_axioms made)) in
-    (g.0, record {
-      lines = subst (λ x. Left base x t.live t.last g.0 (lines_of es)) count at_last;
-      ended = λ e. stops_end made (record { forms = middle; ended = false }) (lines_of es) refl
-          st.lines.stops (sym (ap (λ (x : Standing). x.ended) is) ∙ sym f.ended ∙ e);
-    })
+    ap (λ x. before + x) (sym (added_axioms made)) in (
+      g.0,
+      record {
+        lines = subst (λ x. Left base x t.live t.last g.0 (lines_of es)) count at_last;
+        ended = λ e. stops_end made (record { forms = middle; ended = false }) (lines_of es) refl
+            st.lines.stops (sym (ap (λ (x : Standing). x.ended) is) ∙ sym f.ended ∙ e);
+      },
+    )
 
 pub steps_right : (k cost base before : ℕ) → k ≤ cost → (s : CutsState) (old new : Standing)
     (es : List Event) (live : Live) → stands_as s ≡ old → TakesAll cost old es new
@@ -300,7 +314,8 @@ steps_right k cost base before le s old new (Plain l ∷ es) live same h st =
     let next : stands_as g.next ≡ h.0 =
     pair (stands_as g.next) (with_line l (stands_as s)) g.right.forms g.right.ended
     ∙ ap (with_line l) same ∙ sym h.1.1 in
-    let rest = steps_right k cost base (next_of l before) le g.next h.0 new es g.live next h.2 g.stands
+    let rest = steps_right k cost base (next_of l before) le g.next h.0 new es g.live next h.2
+    g.stands
     in (g.next, g.right, subst (λ n. ArePlainRight k base n g.next es) (count_one before l) rest)
 steps_right k cost base before le s old new (Word w made ∷ es) live same h st = λ t e.
     let w_taken = h.1 in
@@ -312,5 +327,6 @@ steps_right k cost base before le s old new (Word w made ∷ es) live same h st 
     ∙ ap (λ b. with_clauses made (record { forms = w_taken.middle; ended = b })) w_taken.open_end in
     let g = word_on base before s t live made h.0 es w_taken.middle clauses f st in
     let next : stands_as t ≡ h.0 = pair (stands_as t) h.0 f.forms f.ended in
-    steps_right k cost base (before + added_count (map axiom_line made)) le t h.0 new es g.0 next h.2
+    steps_right k cost base (before + added_count (map axiom_line made)) le t h.0 new es g.0 next
+    h.2
     g.1

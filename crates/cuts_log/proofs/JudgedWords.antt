@@ -1,9 +1,8 @@
 -- A line that begins with a word, and that the log took, is judged right.
-use Rattle.std.proofs.Common.{◌≡◌, ℕ, ◌+◌, ◌≤◌, Bool, true, false, List, [], ◌∷◌, ◌++◌}
-use Rattle.std.proofs.Common.{length}
+use Rattle.std.proofs.Common.{◌≡◌, ℕ, ◌+◌, ◌≤◌, Bool, true, false, List, [], ◌∷◌}
 use Rattle.std.proofs.Common.{map, Option, Some, None, Ok, refl, sym, ◌∙◌, ap, subst, arith}
 use Rattle.std.specs.Prelude.{max, min}
-use Rattle.std.proofs.Common.{Result, Err, append_assoc, append-nil, le-leb}
+use Rattle.std.proofs.Common.{Result, Err, le-leb}
 use Rattle.std.specs.Prelude.{nat_le, not, ◌&&◌, if◌then◌else◌}
 use Rattle.std.specs.List.{AllByRecursion}
 use Rattle.std.proofs.lemmas.List.Elements.{recursion_from_All}
@@ -18,7 +17,7 @@ use Rattle.forms.specs.declared.faults.TheConstants.{MOST_TERMS}
 use Rattle.lrat_machine.specs.declared.verdicts.Cause.{Cause}
 use Rattle.lrat_machine.specs.declared.verdicts.Cause.TheVariants.{TrailingLine}
 use Rattle.cnf.specs.Refute.{Clauses}
-use Rattle.lrat_live.specs.Listed.{listed_at, listed_from}
+use Rattle.lrat_live.specs.Listed.{listed_at}
 use Rattle.lrat_read.specs.Words.{NamedFact, WordLine, CountLine, MoreLine, GroupLine, FormLine}
 use Rattle.lrat_read.specs.Words.{CutLine, BoundLine}
 use Rattle.lrat_read.specs.WordTokens.{HasWordNumbers, word_tokens}
