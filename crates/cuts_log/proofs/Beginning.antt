@@ -1,5 +1,5 @@
 -- A log before its first line.
-use Rattle.std.proofs.Common.{◌≡◌, ℕ, false, List, [], length, Option, refl, sym, ◌∙◌, ap, subst}
+use Rattle.std.proofs.Common.{◌≡◌, ℕ, false, List, length, Option, refl, sym, ◌∙◌, ap, subst}
 use Rattle.std.proofs.Common.{arith}
 use Rattle.cnf.specs.Formula.{Cnf}
 use Rattle.cnf.specs.Literal.{Literal}

@@ -1,5 +1,5 @@
 -- Lines that the state of forms takes.
-use Rattle.std.proofs.Common.{◌≡◌, ℕ, ◌<◌, ◌≤◌, true, false, Bool, List, [], ◌∷◌, map, Option, Some}
+use Rattle.std.proofs.Common.{◌≡◌, ℕ, ◌<◌, ◌≤◌, true, false, List, [], ◌∷◌, map, Option, Some}
 use Rattle.std.proofs.Common.{None}
 use Rattle.std.proofs.Common.{Result, Ok, Err, leb-true, refl, sym, ◌∙◌, ap}
 use Rattle.std.specs.Prelude.{All, is_some, IfSome}
@@ -17,7 +17,7 @@ use Rattle.lrat_read.specs.Words.{NamedFact, CountLine, CutLine, FormLine}
 use Rattle.lrat_read.specs.WordTokens.{IsNamed, IsScale}
 use Rattle.cuts_log.specs.declared.standing.Standing.{Standing}
 use Rattle.cuts_log.specs.Facts.{IsCountFact, is_worth, named, no_clause, spelled}
-use Rattle.cuts_log.specs.Stands.{AreNumbered, TakesWord, with_clause, with_clauses}
+use Rattle.cuts_log.specs.Stands.{TakesWord, with_clause, with_clauses}
 
 made_of : (line : Result Made LineFault) (old mid : Forms) (made : List (List Literal))
     (fault : Option LineFault) → IsMade line old mid made fault → is_some fault ≡ false
@@ -92,7 +92,8 @@ pub form_taken : (old : Standing) (scale : Option ℕ) (facts : List FormFact) (
     })
 form_taken old scale facts mid fault open_end small all h e cost =
     let each = recursion_from_All IsCountFact facts all in
-    let line = form_of (form_line no_clause scale facts old.forms) old.forms mid fault h e in record {
+    let line =
+    form_of (form_line no_clause scale facts old.forms) old.forms mid fault h e in record {
       open_end = open_end;
       numbers = (
         scale_said scale small,

@@ -1,12 +1,12 @@
 -- The lines, the tokens and the text of events, with one more at the end.
 use Rattle.std.proofs.Common.{◌≡◌, ℕ, ◌+◌, ◌≤◌, List, [], ◌∷◌, ◌++◌, length, map, refl, sym, ◌∙◌}
 use Rattle.std.proofs.Common.{ap}
-use Rattle.std.proofs.Common.{arith, append_assoc, append-nil, length-append}
+use Rattle.std.proofs.Common.{arith, append-nil, length-append}
 use Rattle.std.specs.List.{flat_map}
 use Rattle.std.proofs.lemmas.Grind.{flat_map-append}
 use Rattle.cnf.specs.Literal.{Literal}
 use Rattle.text.specs.Writing.{spaced}
-use Rattle.lrat_log.specs.Log.{LogLine, axiom_line, is_delete}
+use Rattle.lrat_log.specs.Log.{LogLine, axiom_line}
 use Rattle.lrat_log.specs.Steps.{added_count}
 use Rattle.lrat_log.proofs.Laws.{additions_cons, additions_few}
 use Rattle.cuts_log.specs.Events.{Event, lines_in, lines_of, text_of, tokens_at, tokens_on}

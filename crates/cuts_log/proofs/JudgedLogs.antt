@@ -1,8 +1,6 @@
 -- The lines of a log are judged one after the other.
 use Rattle.std.proofs.Common.{◌≡◌, ℕ, ◌+◌, ◌≤◌, false, List, [], ◌∷◌, map, Some, Ok, refl, sym, ◌∙◌}
 use Rattle.std.proofs.Common.{ap}
-use Rattle.std.proofs.Common.{subst}
-use Rattle.cnf.specs.Literal.{Literal}
 use Rattle.cnf.specs.Problem.{Problem}
 use Rattle.bound.specs.Weighted.{weighted_cnf, weights_of}
 use Rattle.forms.specs.Forms.{forms_of}
@@ -15,7 +13,7 @@ use Rattle.cuts_log.specs.declared.standing.Standing.{Standing}
 use Rattle.cuts_log.specs.Events.{Event, Plain, Word, tokens_at, tokens_on}
 use Rattle.cuts_log.specs.Judging.{ArePlainRight}
 use Rattle.cuts_log.specs.Logs.{IsKept, LogState, events_of, problem_of}
-use Rattle.cuts_log.specs.Stands.{TakesAll, stand_of, with_clauses, with_line}
+use Rattle.cuts_log.specs.Stands.{TakesAll, stand_of, with_line}
 use Rattle.cuts_log.proofs.JudgedWords.{put_all-stands, stands_as, taken_judged}
 
 -- what lines come to, where the checker stands at first as the log did
@@ -23,7 +21,7 @@ abbrev AreJudged : ℕ → ℕ → ℕ → ℕ → CutsState → List Event → 
 AreJudged k base before n s es new = (t : CutsState)
     × (judged_lines (Some k) s n (tokens_on base before es) ≡ Ok t) × (stands_as t ≡ new)
 
-pair : (a b : Standing) → a.forms ≡ b.forms → a.ended ≡ b.ended → a ≡ b
+pub pair : (a b : Standing) → a.forms ≡ b.forms → a.ended ≡ b.ended → a ≡ b
 pair a b f g = λ i. record { forms = f i; ended = g i }
 
 next_line : (k n : ℕ) (s t u : CutsState) (ts : List (List ℕ)) (more : List (List (List ℕ)))
@@ -62,7 +60,7 @@ lines_judged k cost base before n le s old new (Word w made ∷ es) e h p =
     )
 
 -- before the first line
-start_stands : (p : Problem) → stands_as (cuts_start p) ≡ stand_of p
+pub start_stands : (p : Problem) → stands_as (cuts_start p) ≡ stand_of p
 start_stands p =
     let blank : CutsState = record {
       live = [];

@@ -1,34 +1,33 @@
 -- A line that begins with a word, and that the log took, is judged right.
-use Rattle.std.proofs.Common.{◌≡◌, ℕ, zero, suc, ◌+◌, ◌≤◌, Bool, true, false, List, [], ◌∷◌, ◌++◌}
-use Rattle.std.proofs.Common.{length}
+use Rattle.std.proofs.Common.{◌≡◌, ℕ, ◌+◌, ◌≤◌, Bool, true, false, List, [], ◌∷◌}
 use Rattle.std.proofs.Common.{map, Option, Some, None, Ok, refl, sym, ◌∙◌, ap, subst, arith}
 use Rattle.std.specs.Prelude.{max, min}
-use Rattle.std.proofs.Common.{Result, Err, append_assoc, append-nil, le-leb}
-use Rattle.std.specs.Prelude.{All, nat_le, not, ◌&&◌, if◌then◌else◌}
+use Rattle.std.proofs.Common.{Result, Err, le-leb}
+use Rattle.std.specs.Prelude.{nat_le, not, ◌&&◌, if◌then◌else◌}
 use Rattle.std.specs.List.{AllByRecursion}
 use Rattle.std.proofs.lemmas.List.Elements.{recursion_from_All}
-use Rattle.cnf.specs.Clause.{is_empty_clause}
 use Rattle.cnf.specs.Literal.{Literal}
 use Rattle.forms.specs.declared.types.NamedFact.{NamedFact as FormFact}
-use Rattle.forms.specs.Forms.{Forms, Numbered, fact_size, facts_size, form_line, heard, less_fact}
+use Rattle.forms.specs.Forms.{Forms, Numbered, facts_size, form_line, less_fact}
 use Rattle.forms.specs.Forms.{less_facts}
-use Rattle.forms.specs.Forms.{begun, cut_line, bound_line, count_line, more_line}
+use Rattle.forms.specs.Forms.{begun}
 use Rattle.forms.specs.declared.faults.LineFault.{LineFault}
 use Rattle.forms.specs.declared.faults.LineFault.TheVariants.{Name, Limit}
 use Rattle.forms.specs.declared.faults.TheConstants.{MOST_TERMS}
 use Rattle.lrat_machine.specs.declared.verdicts.Cause.{Cause}
 use Rattle.lrat_machine.specs.declared.verdicts.Cause.TheVariants.{TrailingLine}
 use Rattle.cnf.specs.Refute.{Clauses}
-use Rattle.lrat_live.specs.Listed.{listed_at, listed_from}
+use Rattle.lrat_live.specs.Listed.{listed_at}
 use Rattle.lrat_read.specs.Words.{NamedFact, WordLine, CountLine, MoreLine, GroupLine, FormLine}
-use Rattle.lrat_read.specs.Words.{CutLine, BoundLine, word_line_of, word_of, after_word}
+use Rattle.lrat_read.specs.Words.{CutLine, BoundLine}
 use Rattle.lrat_read.specs.WordTokens.{HasWordNumbers, word_tokens}
 use Rattle.lrat_read.proofs.Laws.{word_line_read}
-use Rattle.lrat_cuts.specs.Cuts.{CutsState, fact_of, judged_line, judged_word, put, put_all}
+use Rattle.lrat_cuts.proofs.Laws.{put_all-last, put_all-live}
+use Rattle.lrat_cuts.specs.Cuts.{CutsState, judged_line, judged_word, put, put_all}
 use Rattle.cuts_log.specs.declared.standing.Standing.{Standing}
 use Rattle.cuts_log.specs.Facts.{named, no_clause}
 use Rattle.cuts_log.specs.Judging.{Follows}
-use Rattle.cuts_log.specs.Stands.{AreNumbered, IsRightWord, TakesWord, with_clause, with_clauses}
+use Rattle.cuts_log.specs.Stands.{IsRightWord, TakesWord, with_clauses}
 
 abbrev pub stands_as : CutsState → Standing
 stands_as s = record { forms = s.forms; ended = s.ended }
@@ -37,19 +36,6 @@ pub put_all-stands : (cs : List (List Literal)) (s : CutsState)
     → stands_as (put_all cs s) ≡ with_clauses cs (stands_as s)
 put_all-stands [] s = refl
 put_all-stands (c ∷ cs) s = put_all-stands cs (put (s.last + 1) c s)
-
-put_all-live : (cs : List (List Literal)) (s : CutsState)
-    → (put_all cs s).live ≡ s.live ++ listed_from (s.last + 1) cs
-put_all-live [] s = sym (append-nil s.live)
-put_all-live (c ∷ cs) s =
-    let id = s.last + 1 in
-    put_all-live cs (put id c s) ∙ append_assoc s.live ((id, c) ∷ []) (listed_from (id + 1) cs)
-
-put_all-last : (cs : List (List Literal)) (s : CutsState)
-    → (put_all cs s).last ≡ s.last + length cs
-put_all-last [] s = omega arith
-put_all-last (c ∷ cs) s =
-    let rest = put_all-last cs (put (s.last + 1) c s) in omega (arith, rest)
 
 -- facts of counts are looked up in no clause
 size_alike : (a b : Clauses) (ns : List Numbered) (fs : List FormFact)

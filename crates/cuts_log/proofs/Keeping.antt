@@ -1,11 +1,8 @@
 -- A log with one line more.
-use Rattle.std.proofs.Common.{◌≡◌, ℕ, ◌+◌, ◌<◌, ◌≤◌, true, false, List, [], ◌∷◌, ◌++◌, length, take}
-use Rattle.std.proofs.Common.{min}
+use Rattle.std.proofs.Common.{◌≡◌, ℕ, ◌+◌, ◌<◌, ◌≤◌, false, List, [], ◌∷◌, ◌++◌, length, take}
 use Rattle.std.proofs.Common.{refl, sym, ◌∙◌, ap, subst, arith, length-append}
-use Rattle.std.proofs.lemmas.Bool.{false≢true}
 use Rattle.std.proofs.lemmas.List.{length-take-le, take_all, take-append-le}
 use Rattle.cnf.specs.Literal.{Literal}
-use Rattle.cnf.specs.declared.limits.TheConstants.{NUMBER_LIMIT}
 use Rattle.bound.specs.Weighted.{weighted_cnf}
 use Rattle.forms.specs.Forms.{Forms}
 use Rattle.lrat_log.specs.declared.log.TheConstants.{LINE_LIMIT}
@@ -13,11 +10,11 @@ use Rattle.lrat_log.specs.Log.{LogLine}
 use Rattle.lrat_read.specs.Words.{WordLine, CountLine, MoreLine, GroupLine, FormLine, CutLine}
 use Rattle.lrat_read.specs.Words.{BoundLine}
 use Rattle.cuts_log.specs.declared.standing.Standing.{Standing}
-use Rattle.cuts_log.specs.Books.{BookState, FailsAt, IsBook, Notes, failed_book, seen_next}
+use Rattle.cuts_log.specs.Books.{BookState, FailsAt, IsBook, Notes, seen_next}
 use Rattle.cuts_log.specs.Events.{Event, Plain, TraceState, Word, lines_in, lines_of}
-use Rattle.cuts_log.specs.Logs.{Brings, IsKept, LogState, SameLog, events_of, lines_seen}
+use Rattle.cuts_log.specs.Logs.{Brings, IsKept, LogState, events_of, lines_seen}
 use Rattle.cuts_log.specs.Logs.{problem_of}
-use Rattle.cuts_log.specs.Stands.{IsRightWord, Takes, TakesAll, TakesWord, stand_of}
+use Rattle.cuts_log.specs.Stands.{IsRightWord, Takes, TakesAll, stand_of}
 use Rattle.cuts_log.proofs.EventLines.{lines_of-push}
 
 pub takes_push : (cost : ℕ) (s mid new : Standing) (es : List Event) (e : Event)
@@ -62,17 +59,6 @@ kept_lower l cost le h = record {
   left = h.left;
   taken = all_lower l.cost cost le (stand_of (problem_of l)) h.left (events_of l) h.taken;
   standing = h.standing;
-}
-
--- whatever the standing is after a failure
-pub kept_failed : (l : LogState) (s : Standing) → IsKept l
-    → IsKept (record { book = failed_book l.book; standing = s; cost = l.cost })
-kept_failed l s h = record {
-  base = h.base;
-  cost = h.cost;
-  left = h.left;
-  taken = h.taken;
-  standing = λ f. absurd (false≢true (sym f));
 }
 
 -- one line more, which the search sees or does not
@@ -137,18 +123,6 @@ pub lost : (old : LogState) (s : Standing) (b : BookState) (e : Event) → IsBoo
     → FailsAt e old.book b
     → lines_seen (record { book = b; standing = s; cost = old.cost }) ≡ lines_seen old
 lost old s b e h f = seen_same old.book b e h f
-
-pub same_next : (old : LogState) (s : Standing) (b : BookState) (e : Event)
-    → b.seen ≡ seen_next e (old.book).seen
-    → SameLog old (record { book = b; standing = s; cost = old.cost })
-same_next old s b e seen = record {
-  problem = ap (λ (t : TraceState). t.problem) seen;
-  origin = ap (λ (t : TraceState). t.origin) seen;
-  cost = refl;
-}
-
-pub same_log : (old : LogState) → SameLog old old
-same_log old = record { problem = refl; origin = refl; cost = refl }
 
 pub short_seen : (l : LogState) → IsBook l.book → length (lines_seen l) < LINE_LIMIT
 short_seen l h =

@@ -7,3 +7,6 @@ mod Claims
 mod Beginning
 mod JudgedWords
 mod JudgedLogs
+mod JudgedPlain
+mod JudgedSteps
+mod JudgedStart

@@ -1,12 +1,11 @@
 -- A book with one line more.
-use Rattle.std.proofs.Common.{◌≡◌, ℕ, ◌+◌, ◌<◌, ◌≤◌, true, false, List, [], ◌∷◌, ◌++◌, length, refl}
+use Rattle.std.proofs.Common.{◌≡◌, ℕ, ◌+◌, ◌<◌, true, false, List, [], ◌∷◌, ◌++◌, length, refl}
 use Rattle.std.proofs.Common.{sym}
-use Rattle.std.proofs.Common.{◌∙◌, ap, subst, arith, Option}
+use Rattle.std.proofs.Common.{subst, arith, Option}
 use Rattle.std.proofs.lemmas.Bool.{false≢true}
 use Rattle.text.specs.Writing.{spaced}
 use Rattle.lrat_log.specs.declared.log.TheConstants.{LINE_LIMIT}
 use Rattle.lrat_log.specs.Steps.{added_count}
-use Rattle.lrat_log.proofs.Laws.{additions_few}
 use Rattle.cnf.specs.Problem.{Problem}
 use Rattle.cuts_log.specs.Books.{BookState, IsBook, begun_book, seen_next}
 use Rattle.cuts_log.specs.Events.{Event, lines_in, lines_of, text_of, tokens_at}
@@ -25,11 +24,6 @@ begins p base origin small = record {
   added = λ _. refl;
   works = λ _. refl;
 }
-
--- the additions so far are fewer than lines may be
-pub few_added : (b : BookState) → IsBook b → b.failed ≡ false → b.added < LINE_LIMIT
-few_added b h w =
-    omega (arith, h.lines w, h.added w, additions_few (lines_of (b.seen).events), h.short)
 
 said_next : (b : BookState) (e : Event) (out : OutState) → IsBook b → b.failed ≡ false
     → Says b.out (spaced (tokens_at b.base b.added e)) out

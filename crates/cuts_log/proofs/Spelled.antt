@@ -1,6 +1,6 @@
 -- The text of a line, in the pieces in which it is put.
-use Rattle.std.proofs.Common.{◌≡◌, ℕ, ◌+◌, List, [], ◌∷◌, ◌++◌, map, Option, Some, None, refl, sym}
-use Rattle.std.proofs.Common.{◌∙◌, ap, append_assoc, Bool, true, false}
+use Rattle.std.proofs.Common.{◌≡◌, ℕ, List, [], ◌∷◌, ◌++◌, map, Option, Some, None, refl, sym}
+use Rattle.std.proofs.Common.{◌∙◌, ap, append_assoc, false}
 use Rattle.std.specs.Prelude.{if◌then◌else◌}
 use Rattle.std.specs.List.{flat_map}
 use Rattle.std.specs.Fmt.{decimal}
@@ -27,11 +27,6 @@ with_spaces ts = flat_map (λ t. t ++ 32 ∷ []) ts
 literals_spaced : (c : List Literal) → with_spaces (map literal_text c) ≡ literals_text c
 literals_spaced [] = refl
 literals_spaced (l ∷ c) = ap (λ z. (literal_text l ++ 32 ∷ []) ++ z) (literals_spaced c)
-
-fact_spaced : (s : Bool) (w n : ℕ)
-    → (decimal w ++ 32 ∷ []) ++ ((if s then 45 ∷ decimal n else decimal n) ++ 32 ∷ [])
-    ≡ number_text false w ++ number_text s n
-fact_spaced s w n = refl
 
 facts_spaced : (fs : List NamedFact) → with_spaces (flat_map fact_tokens fs) ≡ facts_text fs
 facts_spaced [] = refl

@@ -4,7 +4,7 @@ use Rattle.std.specs.Prelude.{Option}
 use Rattle.cnf.specs.Problem.{Problem}
 use Rattle.lrat_log.specs.declared.log.TheConstants.{LINE_LIMIT}
 use Rattle.lrat_log.specs.Steps.{added_count}
-use Rattle.cuts_log.specs.Events.{Event, TraceState, lines_in, lines_of, text_of, tokens_at}
+use Rattle.cuts_log.specs.Events.{Event, TraceState, lines_in, lines_of, text_of}
 use Rattle.cuts_log.specs.Outs.{OutState, Says, fresh}
 
 pub record BookState : Type 0 where

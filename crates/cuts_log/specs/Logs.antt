@@ -1,12 +1,12 @@
 -- A log of forms and cuts.
-use Rattle.std.specs.Prelude.{◌≡◌, ℕ, ◌≤◌, Bool, true, false, List, [], ◌++◌, length, take, Option}
+use Rattle.std.specs.Prelude.{◌≡◌, ℕ, ◌≤◌, false, List, ◌++◌, length, take, Option}
 use Rattle.cnf.specs.Problem.{Problem}
 use Rattle.cnf.specs.declared.limits.TheConstants.{NUMBER_LIMIT}
 use Rattle.bound.specs.Weighted.{weighted_cnf}
 use Rattle.lrat_log.specs.Log.{LogLine}
 use Rattle.cuts_log.specs.declared.standing.Standing.{Standing}
 use Rattle.cuts_log.specs.Books.{BookState, begun_book}
-use Rattle.cuts_log.specs.Events.{Event, TraceState, lines_of}
+use Rattle.cuts_log.specs.Events.{Event, lines_of}
 use Rattle.cuts_log.specs.Stands.{TakesAll, stand_of}
 
 pub record LogState : Type 0 where

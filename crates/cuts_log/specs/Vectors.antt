@@ -4,7 +4,7 @@ use Rattle.std.specs.Prelude.{refl}
 use lib.Chars.{codes}
 use Rattle.std.specs.Fmt.{digits}
 use Rattle.std.specs.List.{flat_map}
-use Rattle.cnf.specs.Literal.{Literal, positive as p, negative as n}
+use Rattle.cnf.specs.Literal.{positive as p, negative as n}
 use Rattle.lrat_log.specs.declared.lines.Hint.TheVariants.{Plain as PlainHint}
 use Rattle.lrat_log.specs.declared.lines.Kind.TheVariants.{Unit as UnitKind, Delete}
 use Rattle.lrat_log.specs.declared.lines.Name.TheVariants.{Formula, Added}

@@ -155,8 +155,8 @@ impl Standing {
         inputs: &[Lit],
         made: &mut ClauseList,
     ) -> Result<bool, AllocError>
-        ensures taken { IfOk result (λ taken. taken ≡ true
-            → (cost : ℕ) → TakesWord cost self.old (CountLine outputs inputs.now) made.new self.new) }
+        ensures taken { IfOk result (λ taken. taken ≡ true → (cost : ℕ)
+            → TakesWord cost self.old (CountLine outputs inputs.now) made.new self.new) }
         ensures refused { IfOk result (λ taken. taken ≡ false → self.new ≡ self.old) }
     {
         if self.ended || outputs >= NUMBER_LIMIT || inputs.is_empty() {

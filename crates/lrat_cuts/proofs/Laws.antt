@@ -3,3 +3,4 @@ pub use Rattle.lrat_cuts.proofs.EndedParts.{ended_part-more}
 pub use Rattle.lrat_cuts.proofs.LawSound.{cuts_sound}
 pub use Rattle.lrat_cuts.proofs.LawVerdicts.{accepted_least, accepted_none, lower_least}
 pub use Rattle.lrat_cuts.proofs.LawWorth.{cuts_prove}
+pub use Rattle.lrat_cuts.proofs.Putting.{put_all-last, put_all-live}

@@ -13,14 +13,14 @@ use Rattle.lrat_machine.specs.Rup.{RupState}
 use Rattle.lrat_cuts.specs.Cuts.{CutsState, cuts_start, put, put_all}
 use Rattle.lrat_cuts.specs.Machine.{Puts, heard_all}
 
-put_all-live : (cs : List (List Literal)) (s : CutsState)
+pub put_all-live : (cs : List (List Literal)) (s : CutsState)
     → (put_all cs s).live ≡ s.live ++ listed_from (s.last + 1) cs
 put_all-live [] s = sym (append-nil s.live)
 put_all-live (c ∷ cs) s =
     let id = s.last + 1 in
     put_all-live cs (put id c s) ∙ append_assoc s.live ((id, c) ∷ []) (listed_from (id + 1) cs)
 
-put_all-last : (cs : List (List Literal)) (s : CutsState)
+pub put_all-last : (cs : List (List Literal)) (s : CutsState)
     → (put_all cs s).last ≡ s.last + length cs
 put_all-last [] s = omega arith
 put_all-last (c ∷ cs) s =

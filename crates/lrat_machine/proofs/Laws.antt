@@ -3,5 +3,6 @@ pub use Rattle.lrat_machine.proofs.Base.{live_of-start}
 pub use Rattle.lrat_machine.proofs.Judged.{state_of}
 pub use Rattle.lrat_machine.proofs.Proofs.{AreAccepted, NoneRepeatsIn, lines_from, lines_mean}
 pub use Rattle.lrat_machine.proofs.Proofs.{proof_verdict-Yes}
+pub use Rattle.lrat_machine.proofs.Steps.{small_none}
 pub use Rattle.lrat_machine.proofs.Whole.{yes_is_proof, yes_is_sound}
-pub use Rattle.lrat_machine.proofs.Walk.{refutes_from_walk}
+pub use Rattle.lrat_machine.proofs.Walk.{NoneRepeats, refutes_from_walk, walk_from_refutes}

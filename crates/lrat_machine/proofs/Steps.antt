@@ -187,7 +187,7 @@ none_large [] e = omega arith
 none_large (l ∷ c) e = let h = or_parts (IsLarge l) (list_any IsLarge c) e in
     let a = leb-false _ _ h.0 in let b = none_large c h.1 in omega arith
 
-small_none : (c : List Literal) → greatest_variable c < 2 ^ 27 → list_any IsLarge c ≡ false
+pub small_none : (c : List Literal) → greatest_variable c < 2 ^ 27 → list_any IsLarge c ≡ false
 small_none [] h = refl
 small_none (l ∷ c) h =
     or_from _ _ (lt-leb 134217728 l.variable (omega arith)) (small_none c (omega arith))

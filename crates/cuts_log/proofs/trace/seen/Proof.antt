@@ -1,5 +1,5 @@
 -- What stands for a state takes no memory, and only proofs know the state.
-use Rattle.std.proofs.Common.{◌≡◌, ℕ, [], ◌∷◌, ◌++◌, List, refl}
+use Rattle.std.proofs.Common.{◌≡◌, ℕ, [], ◌∷◌, refl}
 use seplogic.Ra.Ura.{Ura}
 use mir.Syntax.{named, a_type, dcons, dnil}
 use mir.Val.{Val, vptr, vstruct, vcons, vnil}

@@ -3,7 +3,6 @@ use Rattle.std.proofs.Common.{◌≡◌, ◌+◌, ◌<◌, false, length, sym, �
 use Rattle.lrat_log.specs.declared.log.TheConstants.{LINE_LIMIT}
 use Rattle.cuts_log.specs.Books.{BookState}
 use Rattle.cuts_log.specs.Events.{lines_in}
-use Rattle.cuts_log.specs.Outs.{OutState}
 use Rattle.cuts_log.proofs.Noting.{fails_at, notes}
 use Rattle.cuts_log.proofs.book.Book.note.Goals as goal
 

@@ -1,6 +1,6 @@
-use Rattle.std.proofs.Common.{◌≡◌, false, true, sym, ◌∙◌, rules, []}
+use Rattle.std.proofs.Common.{◌≡◌, true, sym, ◌∙◌, rules, []}
 use Rattle.lrat_read.specs.Words.{BoundLine}
-use Rattle.cuts_log.specs.Events.{Event, Word}
+use Rattle.cuts_log.specs.Events.{Word}
 use Rattle.cuts_log.proofs.Keeping.{kept_next}
 use Rattle.cuts_log.proofs.log.CutsLog.bound.Goals as goal
 

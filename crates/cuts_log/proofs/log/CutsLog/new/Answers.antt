@@ -1,12 +1,10 @@
 -- The formula has few variables, and its clauses are live one after the other.
-use Rattle.std.proofs.Common.{◌≡◌, false, length, ap, arith, map, sym, ◌∙◌}
+use Rattle.std.proofs.Common.{◌≡◌, length, ap, arith, map, ◌∙◌}
 use Rattle.cnf.specs.Formula.{Cnf}
-use Rattle.cnf.specs.Literal.{Literal}
 use Rattle.bound.specs.Weighted.{weighted_cnf}
 use Rattle.adder.specs.declared.profiles.Profile.TheVariants.{Two}
 use Rattle.adder.specs.Parts.{weight_in}
 use Rattle.adder.proofs.Laws.{fresh_few}
-use Rattle.cuts_log.specs.Stands.{stand_of}
 use Rattle.cuts_log.proofs.Beginning.{begins_kept, starts}
 use Rattle.cuts_log.proofs.log.CutsLog.new.Goals as goal
 

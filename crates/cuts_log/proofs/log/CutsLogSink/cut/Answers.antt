@@ -1,4 +1,4 @@
-use Rattle.std.proofs.Common.{◌≡◌, ◌∷◌, [], true, sym, ◌∙◌, rules}
+use Rattle.std.proofs.Common.{◌≡◌, ◌∷◌, [], true, rules}
 use Rattle.lrat_read.specs.Words.{CutLine}
 use Rattle.cuts_log.specs.Events.{Word}
 use Rattle.cuts_log.proofs.Keeping.{kept_next}

@@ -1,0 +1,332 @@
+-- The additions and deletions of a log are judged right, where they are steps apart from clauses
+-- from outside, and follow by their hints alone.
+use Rattle.std.proofs.Common.{◌≡◌, ℕ, ◌+◌, ◌≤◌, Bool, true, false, not, List, [], ◌∷◌, ◌++◌, length}
+use Rattle.std.proofs.Common.{map}
+use Rattle.std.proofs.Common.{Some, Result, Ok, refl, sym, ◌∙◌, ap, subst, arith, inl, inr}
+use Rattle.std.proofs.Common.{append_assoc}
+use Rattle.std.proofs.Common.{append-nil, ◌&&◌}
+use Rattle.std.specs.Prelude.{if◌then◌else◌}
+use Rattle.std.specs.List.{AllByRecursion}
+use Rattle.std.proofs.lemmas.Bool.{both_ways, cases_Bool, cond-false, cond-true}
+use Rattle.cnf.specs.Clause.{is_empty_clause}
+use Rattle.cnf.specs.Literal.{Literal}
+use Rattle.cnf.specs.Lrat.{IsAddable, Live, Addition, Deletion, Step, with_clause}
+use Rattle.cnf.specs.Lrat.{ProofLine}
+use Rattle.cnf.specs.Lrat.{without_ids}
+use Rattle.text.specs.LratText.{HasNumbers, line_tokens}
+use Rattle.lrat_live.specs.Listed.{Listed, listed_from}
+use Rattle.lrat_log.specs.Axioms.{FollowByRup, IsOpenStep, OpenChain}
+use Rattle.lrat_log.specs.Log.{Given, LogLine, axiom_line, id_of, is_axiom, is_delete}
+use Rattle.lrat_log.specs.Log.{leading_ids, name_of, numbered_line, numbered_lines, numbered_on}
+use Rattle.lrat_log.specs.Log.{start_over}
+use Rattle.lrat_log.specs.Steps.{IsByRup, StopsAtEmptyClause, added_count, adds_empty_clause}
+use Rattle.lrat_log.specs.Steps.{live_after}
+use Rattle.lrat_log.proofs.Laws.{additions_push, live_after-append, numbered_on-append}
+use Rattle.lrat_cuts.specs.Cuts.{CutsState, judged_line, put}
+use Rattle.cuts_log.specs.declared.standing.Standing.{Standing}
+use Rattle.cuts_log.specs.Events.{Event, Plain, Word, lines_of}
+use Rattle.cuts_log.specs.Judging.{ArePlainRight, Follows, IsRightPlain}
+use Rattle.cuts_log.specs.Stands.{TakesAll, with_clause as with_one, with_clauses, with_line}
+use Rattle.cuts_log.proofs.JudgedPlain.{Matches, addition_judged, deletion_judged, matches_put}
+use Rattle.cuts_log.proofs.EventLines.{added_axioms}
+use Rattle.cuts_log.proofs.JudgedLogs.{pair}
+use Rattle.cuts_log.proofs.JudgedWords.{stands_as, taken_judged}
+use Rattle.forms.specs.Forms.{Forms}
+use Rattle.lrat_machine.specs.declared.verdicts.Cause.{Cause}
+
+abbrev next_of : LogLine → ℕ → ℕ
+next_of l before = if is_delete l.kind then before else before + 1
+
+abbrev live_next : ℕ → ℕ → LogLine → Live → Live
+live_next base before l live = live_after live (numbered_line base before l ∷ [])
+
+-- as `FollowByRup`, from what is live
+abbrev Follow : ℕ → ℕ → Live → List LogLine → Type 0
+Follow base before live [] = Unit {0}
+Follow base before live (l ∷ ls) =
+    (is_delete l.kind ≡ false → is_axiom l.kind ≡ false → IsByRup base live.clause_at l)
+    × Follow base (next_of l before) (live_next base before l live) ls
+
+next_count : (d : Bool) (n : ℕ) → n + (if not d then 1 else 0) ≡ (if d then n else n + 1)
+next_count true n = omega arith
+next_count false n = refl
+
+pub follow_on : (given : Given) (base : ℕ) (done ls : List LogLine)
+    → FollowByRup given base done ls → Follow base (added_count done)
+    (live_after (start_over given base) (numbered_lines base done)) ls
+follow_on given base done [] f = tt
+follow_on given base done (l ∷ ls) f =
+    let start = start_over given base in
+    let n = added_count done in
+    let old = live_after start (numbered_lines base done) in
+    let new = live_after start (numbered_lines base (done ++ l ∷ [])) in
+    let more : numbered_lines base (done ++ l ∷ []) ≡ numbered_lines base done
+    ++ numbered_line base n l ∷ [] = numbered_on-append base 0 done (l ∷ [])
+    ∙ ap (λ k. numbered_lines base done ++ numbered_line base k l ∷ []) (omega arith) in
+    let live : new ≡ live_next base n l old = ap (live_after start) more
+    ∙ live_after-append start (numbered_lines base done) (numbered_line base n l ∷ []) in
+    let count : added_count (done ++ l ∷ []) ≡ next_of l n =
+    additions_push done l ∙ next_count (is_delete l.kind) n in (
+      f.0,
+      subst (λ k. Follow base k (live_next base n l old) ls) count
+          (subst (λ x. Follow base (added_count (done ++ l ∷ [])) x ls) live
+          (follow_on given base (done ++ l ∷ []) ls f.1)),
+    )
+
+-- what is known of live clauses, and of the lines that are left
+pub record Left (base before : ℕ) (es : Listed) (last : ℕ) (live : Live) (ls : List LogLine) : Type
+    0 where
+  pub matches : Matches es last live
+  pub last_is : last ≡ base + before
+  pub stops : StopsAtEmptyClause ls
+  pub follow : Follow base before live ls
+  pub left : Live
+  pub chain : OpenChain base before live ls left
+  pub numbers : AllByRecursion HasNumbers (numbered_on base before ls)
+
+-- so the checker stands
+pub record Stands (base before : ℕ) (s : CutsState) (live : Live) (ls : List LogLine) : Type 0 where
+  pub lines : Left base before s.live s.last live ls
+  pub ended : s.ended ≡ true → ls ≡ []
+
+open_end : (b : Bool) (l : LogLine) (ls : List LogLine) → (b ≡ true → l ∷ ls ≡ []) → b ≡ false
+open_end true l ls h = let none = h refl in absurd (cc)
+open_end false l ls h = refl
+
+-- no line follows the empty clause
+ends_at : (l : LogLine) (ls : List LogLine) → StopsAtEmptyClause (l ∷ ls)
+    → adds_empty_clause l ≡ true → ls ≡ []
+ends_at l [] h e = refl
+ends_at l (k ∷ ls) h e = absurd (both_ways _ h.0 e)
+
+stops_on : (l : LogLine) (ls : List LogLine) → StopsAtEmptyClause (l ∷ ls) → StopsAtEmptyClause ls
+stops_on l [] h = tt
+stops_on l (k ∷ ls) h = h.1
+
+-- the line is judged, and what is left stands behind it
+record Goes (k base before : ℕ) (s : CutsState) (l : LogLine) (ls : List LogLine) : Type 0 where
+  next : CutsState
+  right : IsRightPlain k base before s l next
+  live : Live
+  stands : Stands base (next_of l before) next live ls
+
+step_as : (base before : ℕ) (old new : Live) (l : LogLine) (x : ProofLine)
+    → numbered_line base before l ≡ x → is_axiom l.kind ≡ false
+    → IsOpenStep base before old l new → Step old x new
+step_as base before old new l x is own (inl a) = absurd (both_ways _ own a.kind)
+step_as base before old new l x is own (inr s) = subst (λ y. Step old y new) is s
+
+abbrev ids_in : ℕ → LogLine → List ℕ
+ids_in base l = map (λ h. id_of base (name_of h)) l.hints
+
+deletes_on : (k base before : ℕ) (s : CutsState) (live : Live) (l : LogLine) (ls : List LogLine)
+    → is_axiom l.kind ≡ false → is_delete l.kind ≡ true → Stands base before s live (l ∷ ls)
+    → Goes k base before s l ls
+deletes_on k base before s live l ls own d st =
+    let h = st.lines in
+    let ids = ids_in base l in
+    let gone = without_ids live ids in
+    let is : numbered_line base before l ≡ Deletion (base + before) ids =
+    cond-true (is_delete l.kind) _ _ d in
+    let same : next_of l before ≡ before = cond-true (is_delete l.kind) _ _ d in
+    let mid = h.chain.0 in
+    let step = step_as base before live mid l _ is own h.chain.1 in
+    let open_now = open_end s.ended l ls st.ended in
+    let j = deletion_judged k s live (base + before) ids h.matches open_now step.0 step.1
+    (subst HasNumbers is h.numbers.0) in
+    let live_is : live_next base before l live ≡ gone = ap (λ x. live_after live (x ∷ [])) is in
+    let stand : Standing = record { forms = s.forms; ended = s.ended } in
+    let kept : with_line l stand ≡ stand = cond-true (is_delete l.kind) _ _ d in
+    record {
+      next = record s { live = j.0 };
+      right = record {
+        judged = subst (λ x. judged_line (Some k) s (line_tokens x)
+            ≡ Ok (record s { live = j.0 })) (sym is) j.1;
+        forms = sym (ap (λ (x : Standing). x.forms) kept);
+        ended = sym (ap (λ (x : Standing). x.ended) kept);
+      };
+      live = live_next base before l live;
+      stands = record {
+        lines = record {
+          matches = subst (Matches j.0 s.last) (sym live_is) j.2;
+          last_is = h.last_is ∙ ap (λ n. base + n) (sym same);
+          stops = stops_on l ls h.stops;
+          follow = h.follow.1;
+          left = h.left;
+          chain = subst (λ x. OpenChain base (next_of l before) x ls h.left)
+              (step.2 ∙ sym live_is) h.chain.2;
+          numbers = h.numbers.1;
+        };
+        ended = λ e. absurd (both_ways _ open_now e);
+      };
+    }
+
+adds_on : (k base before : ℕ) (s : CutsState) (live : Live) (l : LogLine) (ls : List LogLine)
+    → is_axiom l.kind ≡ false → is_delete l.kind ≡ false → Stands base before s live (l ∷ ls)
+    → Goes k base before s l ls
+adds_on k base before s live l ls own d st =
+    let h = st.lines in
+    let id = base + before + 1 in
+    let c = l.clause in
+    let hints = leading_ids base l.hints in
+    let come = with_clause live id c in
+    let rup = h.follow.0 d own in
+    let is : numbered_line base before l ≡ Addition id c hints [] =
+    cond-false (is_delete l.kind) _ _ d ∙ ap (Addition id c hints) rup.0 in
+    let same : next_of l before ≡ before + 1 = cond-false (is_delete l.kind) _ _ d in
+    let mid = h.chain.0 in
+    let step = step_as base before live mid l _ is own h.chain.1 in
+    let open_now = open_end s.ended l ls st.ended in
+    let j = addition_judged k s live id c hints h.matches open_now step.0 rup.1
+    (subst HasNumbers is h.numbers.0) in
+    let live_is : live_next base before l live ≡ come = ap (λ x. live_after live (x ∷ [])) is in
+    let stand : Standing = record { forms = s.forms; ended = s.ended } in
+    let kept : with_line l stand ≡ with_one c stand = cond-false (is_delete l.kind) _ _ d in
+    record {
+      next = put id c s;
+      right = record {
+        judged = subst (λ x. judged_line (Some k) s (line_tokens x) ≡ Ok (put id c s)) (sym is) j;
+        forms = sym (ap (λ (x : Standing). x.forms) kept);
+        ended = sym (ap (λ (x : Standing). x.ended) kept);
+      };
+      live = live_next base before l live;
+      stands = record {
+        lines = record {
+          matches = subst (Matches (s.live ++ (id, c) ∷ []) id) (sym live_is)
+              (matches_put s.live s.last live id c h.matches step.0);
+          last_is = omega (arith, same);
+          stops = stops_on l ls h.stops;
+          follow = h.follow.1;
+          left = h.left;
+          chain = subst (λ x. OpenChain base (next_of l before) x ls h.left)
+              (step.2 ∙ sym live_is) h.chain.2;
+          numbers = h.numbers.1;
+        };
+        ended = λ e. ends_at l ls h.stops (ap (λ b. not b && is_empty_clause c) d ∙ e);
+      };
+    }
+
+plain_on : (k base before : ℕ) (s : CutsState) (live : Live) (l : LogLine) (ls : List LogLine)
+    → is_axiom l.kind ≡ false → Stands base before s live (l ∷ ls) → Goes k base before s l ls
+plain_on k base before s live l ls own st =
+    elim (cases_Bool (is_delete l.kind)) [
+      | inl d ↦ deletes_on k base before s live l ls own d st
+      | inr d ↦ adds_on k base before s live l ls own d st
+    ]
+
+-- clauses from outside
+axiom_is : (base before : ℕ) (old new : Live) (c : List Literal)
+    → IsOpenStep base before old (axiom_line c) new
+    → IsAddable old (base + before + 1) c × (new ≡ with_clause old (base + before + 1) c)
+axiom_is base before old new c (inl a) = (a.addable, a.live)
+axiom_is base before old new c (inr s) = (s.0, s.2)
+
+pub axioms_on : (base before : ℕ) (made : List (List Literal)) (es : Listed) (last : ℕ) (live :
+    Live)
+    (ls : List LogLine) → Left base before es last live (map axiom_line made ++ ls)
+    → (mid : Live) × Left base (before + length made) (es ++ listed_from (last + 1) made)
+    (last + length made) mid ls
+axioms_on base before [] es last live ls h =
+    let same : before ≡ before + 0 = omega arith in
+    let here : last ≡ last + 0 = omega arith in (
+      live,
+      subst (λ x. Left base (before + 0) x (last + 0) live ls) (sym (append-nil es))
+          (subst (λ n. Left base (before + 0) es n live ls) here
+          (subst (λ n. Left base n es last live ls) same h)),
+    )
+axioms_on base before (c ∷ cs) es last live ls h =
+    let id = base + before + 1 in
+    let a = axiom_is base before live h.chain.0 c h.chain.1 in
+    let come = with_clause live id c in
+    let rest = axioms_on base (before + 1) cs (es ++ (id, c) ∷ []) id come ls (record {
+      matches = matches_put es last live id c h.matches a.0;
+      last_is = omega arith;
+      stops = stops_on (axiom_line c) (map axiom_line cs ++ ls) h.stops;
+      follow = h.follow.1;
+      left = h.left;
+      chain = subst (λ x. OpenChain base (before + 1) x (map axiom_line cs ++ ls) h.left) a.1
+          h.chain.2;
+      numbers = h.numbers.1;
+    }) in
+    let here : id ≡ last + 1 = omega (arith, h.last_is) in
+    let listed : (es ++ (id, c) ∷ []) ++ listed_from (id + 1) cs ≡ es ++ listed_from (last + 1)
+    (c ∷ cs) = append_assoc es ((id, c) ∷ []) (listed_from (id + 1) cs)
+    ∙ ap (λ i. es ++ (i, c) ∷ listed_from (i + 1) cs) here in
+    let longer : id + length cs ≡ last + length (c ∷ cs) = omega (arith, here) in
+    let further : before + 1 + length cs ≡ before + length (c ∷ cs) = omega arith in (
+      rest.0,
+      subst (λ x. Left base (before + length (c ∷ cs)) x (last + length (c ∷ cs)) rest.0 ls)
+          listed (subst (λ n. Left base (before + length (c ∷ cs))
+          ((es ++ (id, c) ∷ []) ++ listed_from (id + 1) cs) n rest.0 ls) longer
+          (subst (λ n. Left base n ((es ++ (id, c) ∷ []) ++ listed_from (id + 1) cs) (id + length
+          cs)
+          rest.0 ls) further rest.1)),
+    )
+
+-- the last clause that a word makes may be the empty one
+stops_end : (made : List (List Literal)) (s : Standing) (ls : List LogLine) → s.ended ≡ false
+    → StopsAtEmptyClause (map axiom_line made ++ ls) → (with_clauses made s).ended ≡ true → ls ≡ []
+stops_end [] s ls n h e = absurd (both_ways _ n e)
+stops_end (c ∷ []) s ls n h e = ends_at (axiom_line c) ls h e
+stops_end (c ∷ d ∷ cs) s ls n h e = stops_end (d ∷ cs) (with_one c s) ls h.0 h.1 e
+
+-- all lines of a log
+count_one : (before : ℕ) (l : LogLine) → next_of l before ≡ before + added_count (l ∷ [])
+count_one before l =
+    let one : added_count (l ∷ []) ≡ (if not (is_delete l.kind) then 1 else 0) =
+    additions_push [] l ∙ omega arith in
+    sym (ap (λ n. before + n) one ∙ next_count (is_delete l.kind) before)
+
+ok_same : (a b : CutsState) → (let x : Result CutsState Cause = Ok a in x) ≡ Ok b → a ≡ b
+ok_same a b h = cc
+
+same_ok : (a b : CutsState) (r : Result CutsState Cause) → r ≡ Ok a → r ≡ Ok b → a ≡ b
+same_ok a b r e f = ok_same a b (sym e ∙ f)
+
+-- the checker behind a word
+word_on : (base before : ℕ) (s t : CutsState) (live : Live) (made : List (List Literal))
+    (new : Standing) (es : List Event) (middle : Forms)
+    → new ≡ with_clauses made (record { forms = middle; ended = false }) → Follows s made new t
+    → Stands base before s live (map axiom_line made ++ lines_of es)
+    → (mid : Live) × Stands base (before + added_count (map axiom_line made)) t mid (lines_of es)
+word_on base before s t live made new es middle is f st =
+    let g = axioms_on base before made s.live s.last live (lines_of es) st.lines in
+    let n = before + length made in
+    let at_live = subst (λ x. Left base n x (s.last + length made) g.0 (lines_of es)) (sym f.live)
+    g.1 in
+    let at_last = subst (λ x. Left base n t.live x g.0 (lines_of es)) (sym f.last) at_live in
+    let count : n ≡ before + added_count (map axiom_line made) =
+    ap (λ x. before + x) (sym (added_axioms made)) in (
+      g.0,
+      record {
+        lines = subst (λ x. Left base x t.live t.last g.0 (lines_of es)) count at_last;
+        ended = λ e. stops_end made (record { forms = middle; ended = false }) (lines_of es) refl
+            st.lines.stops (sym (ap (λ (x : Standing). x.ended) is) ∙ sym f.ended ∙ e);
+      },
+    )
+
+pub steps_right : (k cost base before : ℕ) → k ≤ cost → (s : CutsState) (old new : Standing)
+    (es : List Event) (live : Live) → stands_as s ≡ old → TakesAll cost old es new
+    → Stands base before s live (lines_of es) → ArePlainRight k base before s es
+steps_right k cost base before le s old new [] live same h st = tt
+steps_right k cost base before le s old new (Plain l ∷ es) live same h st =
+    let g = plain_on k base before s live l (lines_of es) h.1.0 st in
+    let next : stands_as g.next ≡ h.0 =
+    pair (stands_as g.next) (with_line l (stands_as s)) g.right.forms g.right.ended
+    ∙ ap (with_line l) same ∙ sym h.1.1 in
+    let rest = steps_right k cost base (next_of l before) le g.next h.0 new es g.live next h.2
+    g.stands
+    in (g.next, g.right, subst (λ n. ArePlainRight k base n g.next es) (count_one before l) rest)
+steps_right k cost base before le s old new (Word w made ∷ es) live same h st = λ t e.
+    let w_taken = h.1 in
+    let j = taken_judged k cost le s old h.0 w made (ap (λ (x : Standing). x.forms) same)
+    (ap (λ (x : Standing). x.ended) same) w_taken in
+    let is : j.0 ≡ t = same_ok j.0 t _ j.1 e in
+    let f = subst (λ (x : CutsState). Follows s made h.0 x) is j.2 in
+    let clauses = w_taken.clauses
+    ∙ ap (λ b. with_clauses made (record { forms = w_taken.middle; ended = b })) w_taken.open_end in
+    let g = word_on base before s t live made h.0 es w_taken.middle clauses f st in
+    let next : stands_as t ≡ h.0 = pair (stands_as t) h.0 f.forms f.ended in
+    steps_right k cost base (before + added_count (map axiom_line made)) le t h.0 new es g.0 next
+    h.2
+    g.1
