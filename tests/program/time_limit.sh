@@ -18,23 +18,14 @@ for profile in 1 2 4 5; do
     done
 done
 
-# Soft clauses that are far from an optimum, and pigeons that have no holes.
-python3 - "$work" << 'PY'
-import itertools, random, sys
-work, draw = sys.argv[1], random.Random(3)
-def clause(n):
-    return " ".join(str(v * draw.choice((1, -1))) for v in draw.sample(range(1, n + 1), 3))
-with open(f"{work}/hard", "w") as text:
-    for _ in range(100):
-        print(f"h {clause(70)} 0", file=text)
-    for _ in range(420):
-        print(f"{draw.randint(1, 2)} {clause(70)} 0", file=text)
-with open(f"{work}/pigeons", "w") as text:
-    holes = range(12)
-    for pigeon in range(13):
-        print("h", *(12 * pigeon + hole + 1 for hole in holes), 0, file=text)
-    for (one, other), hole in itertools.product(itertools.combinations(range(13), 2), holes):
-        print("h", -(12 * one + hole + 1), -(12 * other + hole + 1), 0, file=text)
+# Sets that cover much, whose optimum is far away, and pigeons that have no holes.
+awk -v family=set_cover -v size=120 -v seed=1 -f bench/maxsat.awk > "$work/hard"
+python3 - << 'PY' > "$work/pigeons"
+import itertools
+for pigeon in range(13):
+    print("h", *(12 * pigeon + hole + 1 for hole in range(12)), 0)
+for (one, other), hole in itertools.product(itertools.combinations(range(13), 2), range(12)):
+    print("h", -(12 * one + hole + 1), -(12 * other + hole + 1), 0)
 PY
 
 ends() { # NAME WORD..: the search ends with a solution, and no certificate
