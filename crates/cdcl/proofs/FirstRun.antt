@@ -37,6 +37,7 @@ use Rattle.cdcl_search.specs.Starts.{IsLiveWithin, IsStarted}
 use Rattle.clauses.proofs.Laws.{stands}
 use Rattle.cdcl_search.proofs.Laws.{live_below}
 use Rattle.cdcl.proofs.FirstNames.{names_start}
+use Rattle.eliminate.proofs.Laws.{wider}
 use Rattle.lrat_log.proofs.Laws.{base_of, clauses_given, stays_open}
 
 -- Lists of places.
@@ -416,15 +417,6 @@ whole_input f p cs h same wide given none low high =
     (subst (λ n. given_of (map (λ g. g.1) (take n p.given)) ≡ take n p.given) (sym none) refl)
     (omega arith) low high
 
--- with room for more variables
-wider_clause : (n m : ℕ) (c : List Literal) → n ≤ m → IsFormulaClause n c → IsFormulaClause m c
-wider_clause n m c le f = record {
-  no_repeat = f.no_repeat;
-  no_tautology = f.no_tautology;
-  from_one = f.from_one;
-  small = (let s = f.small in omega arith);
-}
-
 -- what is left of a formula that is left as it is
 pub whole_left : (f : Cnf) (cs : List (List Literal)) (slots : Slots) (stack : StackState) (n : ℕ)
     → IsFormula f → cs ≡ f.clauses → f.variables ≤ n → IsWhole n cs slots stack
@@ -433,7 +425,7 @@ whole_left f cs slots stack n h same le w = record {
   live = w.live;
   left =
       subst (All (IsFormulaClause stack.variables)) (sym (ap live_clauses w.together ∙ live_map cs))
-      (λ i d lt. wider_clause f.variables stack.variables (get_or cs i d)
+      (λ i d lt. wider f.variables stack.variables (get_or cs i d)
       (subst (λ m. f.variables ≤ m) (sym w.variables_are) le)
       (subst (All (IsFormulaClause f.variables)) (sym same) h.clauses i d lt));
 }

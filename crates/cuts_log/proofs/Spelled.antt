@@ -15,18 +15,11 @@ use Rattle.lrat_log.specs.declared.lines.Hint.{Hint}
 use Rattle.lrat_log.specs.declared.lines.Hint.TheVariants.{Plain, Group}
 use Rattle.lrat_log.specs.Log.{group_ids, id_of, leading_ids, name_of}
 use Rattle.lrat_log.specs.Texts.{hints_text, literals_text, number_text}
+use Rattle.lrat_log.proofs.Laws.{hints_spaced, literals_spaced, with_spaces}
 use Rattle.lrat_read.specs.Words.{NamedFact, CountLine, MoreLine, FormLine, CutLine, BoundLine}
 use Rattle.lrat_read.specs.WordTokens.{fact_tokens, scale_token, word_tokens}
 use Rattle.cuts_log.specs.Facts.{fact_text, facts_text, ids_text, scale_text, spelled}
 use Rattle.forms.specs.declared.types.NamedFact.{NamedFact as FormFact}
-
--- each token with a space behind it
-abbrev pub with_spaces : List (List ℕ) → List ℕ
-with_spaces ts = flat_map (λ t. t ++ 32 ∷ []) ts
-
-literals_spaced : (c : List Literal) → with_spaces (map literal_text c) ≡ literals_text c
-literals_spaced [] = refl
-literals_spaced (l ∷ c) = ap (λ z. (literal_text l ++ 32 ∷ []) ++ z) (literals_spaced c)
 
 facts_spaced : (fs : List NamedFact) → with_spaces (flat_map fact_tokens fs) ≡ facts_text fs
 facts_spaced [] = refl
@@ -90,15 +83,6 @@ ids_spaced : (base : ℕ) (hs : List Hint)
 ids_spaced base [] = refl
 ids_spaced base (h ∷ hs) =
     ap (λ z. (decimal (id_of base (name_of h)) ++ 32 ∷ []) ++ z) (ids_spaced base hs)
-
-hints_spaced : (base : ℕ) (hs : List Hint)
-    → with_spaces (map decimal (leading_ids base hs) ++ flat_map group_tokens (group_ids base hs))
-    ≡ hints_text base hs
-hints_spaced base [] = refl
-hints_spaced base (Plain n ∷ hs) =
-    ap (λ z. (decimal (id_of base n) ++ 32 ∷ []) ++ z) (hints_spaced base hs)
-hints_spaced base (Group n ∷ hs) =
-    ap (λ z. ((45 ∷ decimal (id_of base n)) ++ 32 ∷ []) ++ z) (hints_spaced base hs)
 
 pub deletion_text : (base last : ℕ) (hs : List Hint)
     → ((number_text false last ++ codes "d ") ++ ids_text base hs) ++ codes "0\n"

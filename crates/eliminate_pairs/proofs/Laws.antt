@@ -9,4 +9,5 @@ pub use Rattle.eliminate_pairs.proofs.Literals.{literal_eq-negations, literal_eq
 pub use Rattle.eliminate_pairs.proofs.Literals.{member-small}
 pub use Rattle.eliminate_pairs.proofs.Literals.{negation_twice, not-complement, not_not}
 pub use Rattle.eliminate_pairs.proofs.Literals.{without-contains}
+pub use Rattle.eliminate_pairs.proofs.Staging.{wider}
 pub use Rattle.eliminate_pairs.proofs.Together.{fit_together, stage_together}

@@ -82,7 +82,7 @@ all-replaced P z a b c first all =
     (All-filter (λ k. not (literal_eq a k)) P c all))
 
 -- a clause of a formula is one where there are more variables
-wider : (n m : ℕ) (c : List Literal) → n ≤ m → IsFormulaClause n c → IsFormulaClause m c
+pub wider : (n m : ℕ) (c : List Literal) → n ≤ m → IsFormulaClause n c → IsFormulaClause m c
 wider n m c le f =
     record {
       no_repeat = f.no_repeat;

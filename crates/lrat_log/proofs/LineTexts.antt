@@ -29,11 +29,11 @@ use Rattle.lrat_log.proofs.Additions.{count_step}
 abbrev pub with_spaces : List (List ℕ) → List ℕ
 with_spaces ts = flat_map (λ t. t ++ 32 ∷ []) ts
 
-literals_spaced : (c : List Literal) → with_spaces (map literal_text c) ≡ literals_text c
+pub literals_spaced : (c : List Literal) → with_spaces (map literal_text c) ≡ literals_text c
 literals_spaced [] = refl
 literals_spaced (l ∷ c) = ap (λ z. (literal_text l ++ 32 ∷ []) ++ z) (literals_spaced c)
 
-hints_spaced : (base : ℕ) (hs : List Hint)
+pub hints_spaced : (base : ℕ) (hs : List Hint)
     → with_spaces (map decimal (leading_ids base hs) ++ flat_map group_tokens (group_ids base hs))
     ≡ hints_text base hs
 hints_spaced base [] = refl
