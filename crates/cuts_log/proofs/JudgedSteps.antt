@@ -21,7 +21,7 @@ use Rattle.lrat_log.specs.Log.{leading_ids, name_of, numbered_line, numbered_lin
 use Rattle.lrat_log.specs.Log.{start_over}
 use Rattle.lrat_log.specs.Steps.{IsByRup, StopsAtEmptyClause, added_count, adds_empty_clause}
 use Rattle.lrat_log.specs.Steps.{live_after}
-use Rattle.lrat_log.proofs.Laws.{additions_push, live_after-append, numbered_on-append}
+use Rattle.lrat_log.proofs.Laws.{additions_push, after_line, live_after-append, numbered_on-append}
 use Rattle.lrat_cuts.specs.Cuts.{CutsState, judged_line, put}
 use Rattle.cuts_log.specs.declared.standing.Standing.{Standing}
 use Rattle.cuts_log.specs.Events.{Event, Plain, Word, lines_of}
@@ -34,9 +34,6 @@ use Rattle.cuts_log.proofs.JudgedWords.{stands_as, taken_judged}
 use Rattle.forms.specs.Forms.{Forms}
 use Rattle.lrat_machine.specs.declared.verdicts.Cause.{Cause}
 
-abbrev next_of : LogLine → ℕ → ℕ
-next_of l before = if is_delete l.kind then before else before + 1
-
 abbrev live_next : ℕ → ℕ → LogLine → Live → Live
 live_next base before l live = live_after live (numbered_line base before l ∷ [])
 
@@ -45,7 +42,7 @@ abbrev Follow : ℕ → ℕ → Live → List LogLine → Type 0
 Follow base before live [] = Unit {0}
 Follow base before live (l ∷ ls) =
     (is_delete l.kind ≡ false → is_axiom l.kind ≡ false → IsByRup base live.clause_at l)
-    × Follow base (next_of l before) (live_next base before l live) ls
+    × Follow base (after_line l before) (live_next base before l live) ls
 
 next_count : (d : Bool) (n : ℕ) → n + (if not d then 1 else 0) ≡ (if d then n else n + 1)
 next_count true n = omega arith
@@ -65,7 +62,7 @@ follow_on given base done (l ∷ ls) f =
     ∙ ap (λ k. numbered_lines base done ++ numbered_line base k l ∷ []) (omega arith) in
     let live : new ≡ live_next base n l old = ap (live_after start) more
     ∙ live_after-append start (numbered_lines base done) (numbered_line base n l ∷ []) in
-    let count : added_count (done ++ l ∷ []) ≡ next_of l n =
+    let count : added_count (done ++ l ∷ []) ≡ after_line l n =
     additions_push done l ∙ next_count (is_delete l.kind) n in (
       f.0,
       subst (λ k. Follow base k (live_next base n l old) ls) count
@@ -108,7 +105,7 @@ record Goes (k base before : ℕ) (s : CutsState) (l : LogLine) (ls : List LogLi
   next : CutsState
   right : IsRightPlain k base before s l next
   live : Live
-  stands : Stands base (next_of l before) next live ls
+  stands : Stands base (after_line l before) next live ls
 
 step_as : (base before : ℕ) (old new : Live) (l : LogLine) (x : ProofLine)
     → numbered_line base before l ≡ x → is_axiom l.kind ≡ false
@@ -128,7 +125,7 @@ deletes_on k base before s live l ls own d st =
     let gone = without_ids live ids in
     let is : numbered_line base before l ≡ Deletion (base + before) ids =
     cond-true (is_delete l.kind) _ _ d in
-    let same : next_of l before ≡ before = cond-true (is_delete l.kind) _ _ d in
+    let same : after_line l before ≡ before = cond-true (is_delete l.kind) _ _ d in
     let mid = h.chain.0 in
     let step = step_as base before live mid l _ is own h.chain.1 in
     let open_now = open_end s.ended l ls st.ended in
@@ -153,7 +150,7 @@ deletes_on k base before s live l ls own d st =
           stops = stops_on l ls h.stops;
           follow = h.follow.1;
           left = h.left;
-          chain = subst (λ x. OpenChain base (next_of l before) x ls h.left)
+          chain = subst (λ x. OpenChain base (after_line l before) x ls h.left)
               (step.2 ∙ sym live_is) h.chain.2;
           numbers = h.numbers.1;
         };
@@ -173,7 +170,7 @@ adds_on k base before s live l ls own d st =
     let rup = h.follow.0 d own in
     let is : numbered_line base before l ≡ Addition id c hints [] =
     cond-false (is_delete l.kind) _ _ d ∙ ap (Addition id c hints) rup.0 in
-    let same : next_of l before ≡ before + 1 = cond-false (is_delete l.kind) _ _ d in
+    let same : after_line l before ≡ before + 1 = cond-false (is_delete l.kind) _ _ d in
     let mid = h.chain.0 in
     let step = step_as base before live mid l _ is own h.chain.1 in
     let open_now = open_end s.ended l ls st.ended in
@@ -198,7 +195,7 @@ adds_on k base before s live l ls own d st =
           stops = stops_on l ls h.stops;
           follow = h.follow.1;
           left = h.left;
-          chain = subst (λ x. OpenChain base (next_of l before) x ls h.left)
+          chain = subst (λ x. OpenChain base (after_line l before) x ls h.left)
               (step.2 ∙ sym live_is) h.chain.2;
           numbers = h.numbers.1;
         };
@@ -271,7 +268,7 @@ stops_end (c ∷ []) s ls n h e = ends_at (axiom_line c) ls h e
 stops_end (c ∷ d ∷ cs) s ls n h e = stops_end (d ∷ cs) (with_one c s) ls h.0 h.1 e
 
 -- all lines of a log
-count_one : (before : ℕ) (l : LogLine) → next_of l before ≡ before + added_count (l ∷ [])
+count_one : (before : ℕ) (l : LogLine) → after_line l before ≡ before + added_count (l ∷ [])
 count_one before l =
     let one : added_count (l ∷ []) ≡ (if not (is_delete l.kind) then 1 else 0) =
     additions_push [] l ∙ omega arith in
@@ -314,7 +311,7 @@ steps_right k cost base before le s old new (Plain l ∷ es) live same h st =
     let next : stands_as g.next ≡ h.0 =
     pair (stands_as g.next) (with_line l (stands_as s)) g.right.forms g.right.ended
     ∙ ap (with_line l) same ∙ sym h.1.1 in
-    let rest = steps_right k cost base (next_of l before) le g.next h.0 new es g.live next h.2
+    let rest = steps_right k cost base (after_line l before) le g.next h.0 new es g.live next h.2
     g.stands
     in (g.next, g.right, subst (λ n. ArePlainRight k base n g.next es) (count_one before l) rest)
 steps_right k cost base before le s old new (Word w made ∷ es) live same h st = λ t e.

@@ -1,6 +1,6 @@
 -- The laws of this crate that other crates cite, from one place.
 pub use Rattle.lrat_log.proofs.Accepting.{accepted_log}
-pub use Rattle.lrat_log.proofs.Additions.{additions_cons, additions_few, additions_push}
+pub use Rattle.lrat_log.proofs.Additions.{additions_cons, additions_few, additions_push, after_line}
 pub use Rattle.lrat_log.proofs.Additions.{last_numbered}
 pub use Rattle.lrat_log.proofs.Additions.{numbered_on-append}
 pub use Rattle.lrat_log.proofs.Axioms.{LiveChain, axiom_adds, follow_append, live_chain, open_log}
