@@ -6,7 +6,7 @@ use Rattle.cnf.specs.Literal.{Literal}
 use Rattle.cnf.specs.Problem.{Problem}
 use Rattle.forms.specs.Forms.{Forms, forms_of, heard, bound_line, count_line, cut_line, form_line}
 use Rattle.forms.specs.Forms.{more_line}
-use Rattle.lrat_log.specs.Log.{LogLine, is_axiom, is_delete}
+use Rattle.lrat_log.specs.Log.{IsLine, LogLine, is_axiom, is_delete}
 use Rattle.lrat_read.specs.Words.{NamedFact, WordLine, CountLine, MoreLine, GroupLine, FormLine}
 use Rattle.lrat_read.specs.Words.{CutLine, BoundLine}
 use Rattle.lrat_read.specs.WordTokens.{HasWordNumbers}
@@ -55,7 +55,8 @@ abbrev pub with_line : LogLine → Standing → Standing
 with_line l s = if is_delete l.kind then s else with_clause l.clause s
 
 abbrev pub Takes : ℕ → Standing → Event → Standing → Type 0
-Takes cost old (Plain l) new = (is_axiom l.kind ≡ false) × (new ≡ with_line l old)
+Takes cost old (Plain l) new =
+    IsLine l × (is_axiom l.kind ≡ false) × (new ≡ with_line l old)
 Takes cost old (Word w made) new = TakesWord cost old w made new
 
 -- these lines are taken, one after the other
