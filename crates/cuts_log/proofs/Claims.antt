@@ -16,7 +16,8 @@ use Rattle.forms.specs.Forms.{Forms, Made, count_line, cut_line, form_line}
 use Rattle.lrat_read.specs.Words.{NamedFact, CountLine, CutLine, FormLine}
 use Rattle.lrat_read.specs.WordTokens.{IsNamed, IsScale}
 use Rattle.cuts_log.specs.declared.standing.Standing.{Standing}
-use Rattle.cuts_log.specs.Facts.{IsCountFact, is_worth, named, no_clause, spelled}
+use Rattle.cuts_log.specs.Facts.{IsCountFact, is_worth, no_clause, spelled}
+use Rattle.lrat_cuts.specs.Cuts.{fact_of}
 use Rattle.cuts_log.specs.Stands.{TakesWord, with_clause, with_clauses}
 
 made_of : (line : Result Made LineFault) (old mid : Forms) (made : List (List Literal))
@@ -58,7 +59,7 @@ cut_taken old new c cost open_end ids worth is =
     }
 
 -- what facts spell
-facts_named : (fs : List FormFact) → map named (map spelled fs) ≡ fs
+facts_named : (fs : List FormFact) → map fact_of (map spelled fs) ≡ fs
 facts_named [] = refl
 facts_named (f ∷ fs) = ap (λ z. f ∷ z) (facts_named fs)
 

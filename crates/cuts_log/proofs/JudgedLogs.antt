@@ -37,7 +37,7 @@ lines_judged k cost base before n le s old new (Plain l ∷ es) e h p =
     let t = p.0 in
     let same : stands_as t ≡ h.0 = pair (stands_as t) (with_line l (stands_as s)) p.1.forms
     p.1.ended
-    ∙ ap (with_line l) e ∙ sym h.1.1 in
+    ∙ ap (with_line l) e ∙ sym h.1.2 in
     let rest = lines_judged k cost base (before + added_count (l ∷ [])) (n + 1) le t h.0 new es same
     h.2 p.2 in (
       rest.0,

@@ -2,8 +2,10 @@
 use Rattle.std.proofs.Common.{◌≡◌, ℕ, ◌<◌, ◌≤◌, Bool, true, false, List, [], ◌∷◌, ◌++◌, map, Option}
 use Rattle.std.proofs.Common.{Some, None, Result, Ok, Err, refl, sym, ◌∙◌, ap, subst, arith, cond}
 use Rattle.std.specs.Prelude.{All, nat_eq, nat_le, not, ◌==◌, ◌||◌, if◌then◌else◌, IsSome, is_some}
+use Rattle.std.proofs.Common.{◌⊎◌, inl, inr}
 use Rattle.std.specs.List.{AllByRecursion, IsDistinct, list_any}
-use Rattle.std.proofs.lemmas.Bool.{eq-eqb, false≢true, lt-leb, ne_eqb}
+use Rattle.std.proofs.lemmas.Bool.{cases_Bool, cond-false, eq-eqb, eqb-true, false≢true, lt-leb}
+use Rattle.std.proofs.lemmas.Bool.{ne_eqb}
 use Rattle.std.proofs.lemmas.List.Elements.{All-append, All-cons, All-filter, All-nil}
 use Rattle.cnf.specs.Clause.{has_repeat}
 use Rattle.cnf.specs.Literal.{Literal, negation}
@@ -33,6 +35,7 @@ pub record Matches (es : Listed) (last : ℕ) (live : Live) : Type 0 where
   pub last_is : last ≡ live.last
   pub up_to : All (λ e. e.0 ≤ last) es
   pub single : NoneRepeats (listed_at es)
+  pub in_range : (i : ℕ) (c : List Literal) → live.clause_at i ≡ Some c → (0 < i) × (i ≤ last)
 
 -- a line that begins with no word
 abbrev on_word : ℕ → CutsState → List (List ℕ) → List ℕ → Option Word → Result CutsState Cause
@@ -104,8 +107,16 @@ matches_put es last live id c m a =
           (All-nil (λ (e : ℕ × List Literal). e.0 ≤ id)));
       single = λ j d e. single_put (j == id) c (listed_at es j) d a.no_repeat
           (λ f. m.single j d f) (sym (at j) ∙ e);
+      in_range = λ j d e. range_put j d e (cases_Bool (j == id)) rising;
     }
   where
+    range_put : (j : ℕ) (d : List Literal) → cond (j == id) (Some c) (live.clause_at j) ≡ Some d
+        → ((j == id) ≡ true) ⊎ ((j == id) ≡ false) → last < id → (0 < j) × (j ≤ id)
+    range_put j d e (inl t) rising = let same = eqb-true j id t in (omega arith, omega arith)
+    range_put j d e (inr f) rising =
+        let r = m.in_range j d (sym (cond-false (j == id) (Some c) (live.clause_at j) f) ∙ e) in
+        (omega (arith, r.0), omega (arith, r.1))
+
     single_put : (b : Bool) (c : List Literal) (o : Option (List Literal)) (d : List Literal)
         → has_repeat c ≡ false → (o ≡ Some d → has_repeat d ≡ false)
         → cond b (Some c) o ≡ Some d → has_repeat d ≡ false
@@ -184,6 +195,7 @@ deletion_judged k s live lead ids m open_end distinct alive numbers =
         up_to = g.1.up_to s.last m.up_to;
         single = λ j d e. m.single j d (kept (list_any (nat_eq j) ids) (listed_at s.live j) d
             (sym (g.1.at j) ∙ e));
+        in_range = λ j d e. m.in_range j d (kept (list_any (nat_eq j) ids) (live.clause_at j) d e);
       },
     )
   where

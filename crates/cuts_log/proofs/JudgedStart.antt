@@ -14,16 +14,18 @@ use Rattle.bound.specs.Bound.{kept, relaxed_clauses}
 use Rattle.bound.specs.Weighted.{weighted_cnf, weights_of}
 use Rattle.bound.proofs.Laws.{kept_once}
 use Rattle.forms.specs.Forms.{forms_of}
-use Rattle.text.specs.LratText.{HasNumbers}
 use Rattle.lrat_live.specs.Listed.{listed_from}
 use Rattle.lrat_live.proofs.Laws.{listed_from-all, listed_numbered}
 use Rattle.lrat_log.specs.Axioms.{FollowByRup, IsOpenLogOver}
-use Rattle.lrat_log.specs.Log.{numbered_lines, start_over}
+use Rattle.lrat_log.specs.Log.{start_over}
 use Rattle.lrat_log.specs.Steps.{given_of}
 use Rattle.lrat_log.proofs.Laws.{base_of, given_at-given_of}
 use Rattle.lrat_cuts.specs.Cuts.{CutsState, cuts_start, judged_lines, put_all}
 use Rattle.lrat_cuts.proofs.Laws.{put_all-last, put_all-live}
 use Rattle.cuts_log.specs.Events.{lines_of, tokens_on}
+use Rattle.std.proofs.lemmas.Option.{slice_get_within}
+use Rattle.std.proofs.Common.{◌<◌}
+use Rattle.cuts_log.specs.Books.{IsBook}
 use Rattle.cuts_log.specs.Logs.{IsKept, LogState, events_of, problem_of}
 use Rattle.cuts_log.specs.Stands.{stand_of}
 use Rattle.cuts_log.proofs.JudgedLogs.{logs_judged, start_stands}
@@ -41,6 +43,11 @@ single_numbered : (cs : List (List Literal)) → AllByRecursion (λ c. has_repea
 single_numbered cs h zero c e = absurd (cc)
 single_numbered cs h (suc i) c e = single_at cs h i c e
 
+within : (cs : List (List Literal)) (i : ℕ) (c : List Literal) → numbered cs i ≡ Some c
+    → (0 < i) × (i ≤ length cs)
+within cs zero c e = absurd (cc)
+within cs (suc i) c e = let h = slice_get_within cs i c e in (omega arith, omega arith)
+
 formula_matches : (cs : List (List Literal)) → All (λ c. has_repeat c ≡ false) cs
     → Matches (listed_from 1 cs) (length cs) (start_over (given_of cs) (length cs))
 formula_matches cs h = record {
@@ -49,6 +56,7 @@ formula_matches cs h = record {
   up_to = listed_from-all (λ e. e.0 ≤ length cs) 1 cs (λ k d a b m. omega arith);
   single = λ i c e. single_numbered cs (recursion_from_All (λ d. has_repeat d ≡ false) cs h) i c
       (sym (listed_numbered cs i) ∙ e);
+  in_range = λ i c e. within cs i c (sym (given_at-given_of cs i) ∙ e);
 }
 
 weighted_once : (p : Problem) → All (λ c. has_repeat c ≡ false) (weighted_cnf p).clauses
@@ -76,15 +84,15 @@ start_matches p =
 start_last : (p : Problem) → (cuts_start p).last ≡ length (weighted_cnf p).clauses
 start_last p = (start_matches p).last_is
 
-pub steps_judged : (l : LogState) (k : ℕ) → IsKept l → (l.book).failed ≡ false → k ≤ l.cost
+pub steps_judged : (l : LogState) (k : ℕ) → IsKept l → IsBook l.book → (l.book).failed ≡ false
+    → k ≤ l.cost
     → IsOpenLogOver (given_of (weighted_cnf (problem_of l)).clauses) (lines_of (events_of l))
     → FollowByRup (given_of (weighted_cnf (problem_of l)).clauses) (l.book).base []
     (lines_of (events_of l))
-    → All HasNumbers (numbered_lines (l.book).base (lines_of (events_of l)))
     → (t : CutsState) × (judged_lines (Some k) (cuts_start (problem_of l)) 1
     (tokens_on (l.book).base 0 (events_of l)) ≡ Ok t)
     × (t.forms ≡ (l.standing).forms) × (t.ended ≡ (l.standing).ended)
-steps_judged l k h works le log follows numbers =
+steps_judged l k h book works le log follows =
     let p = problem_of l in
     let cs = (weighted_cnf p).clauses in
     let given = given_of cs in
@@ -102,7 +110,7 @@ steps_judged l k h works le log follows numbers =
         follow = follow_on given base [] ls follows;
         left = _;
         chain = log.steps base above;
-        numbers = recursion_from_All HasNumbers (numbered_lines base ls) numbers;
+        room = omega (arith, book.small, book.short, book.lines works);
       };
       ended = λ e. absurd (cc);
     } in

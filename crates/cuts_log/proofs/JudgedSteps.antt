@@ -17,12 +17,19 @@ use Rattle.text.specs.LratText.{HasNumbers, line_tokens}
 use Rattle.lrat_live.specs.Listed.{Listed, listed_from}
 use Rattle.lrat_log.specs.Axioms.{FollowByRup, IsOpenStep, OpenChain}
 use Rattle.lrat_log.specs.Log.{Given, LogLine, axiom_line, id_of, is_axiom, is_delete}
-use Rattle.lrat_log.specs.Log.{leading_ids, name_of, numbered_line, numbered_lines, numbered_on}
+use Rattle.lrat_log.specs.Log.{leading_ids, name_of, numbered_line, numbered_lines}
 use Rattle.lrat_log.specs.Log.{start_over}
 use Rattle.lrat_log.specs.Steps.{IsByRup, StopsAtEmptyClause, added_count, adds_empty_clause}
 use Rattle.lrat_log.specs.Steps.{live_after}
 use Rattle.lrat_log.proofs.Laws.{additions_push, after_line, live_after-append, numbered_on-append}
 use Rattle.lrat_cuts.specs.Cuts.{CutsState, judged_line, put}
+use Rattle.cnf.specs.Literal.{negation}
+use Rattle.cnf.specs.Lrat.{IsId}
+use Rattle.cnf.specs.Refute.{Clauses, Leads, Refutes}
+use Rattle.cnf.specs.declared.limits.TheConstants.{NUMBER_LIMIT}
+use Rattle.lrat_log.specs.Log.{IsLine}
+use Rattle.std.proofs.lemmas.List.Elements.{All-from_recursion, All-nil}
+use Rattle.std.proofs.Common.{◌<◌}
 use Rattle.cuts_log.specs.declared.standing.Standing.{Standing}
 use Rattle.cuts_log.specs.Events.{Event, Plain, Word, lines_of}
 use Rattle.cuts_log.specs.Judging.{ArePlainRight, Follows, IsRightPlain}
@@ -79,7 +86,7 @@ pub record Left (base before : ℕ) (es : Listed) (last : ℕ) (live : Live) (ls
   pub follow : Follow base before live ls
   pub left : Live
   pub chain : OpenChain base before live ls left
-  pub numbers : AllByRecursion HasNumbers (numbered_on base before ls)
+  pub room : base + before + length ls < NUMBER_LIMIT
 
 -- so the checker stands
 pub record Stands (base before : ℕ) (s : CutsState) (live : Live) (ls : List LogLine) : Type 0 where
@@ -113,13 +120,40 @@ step_as : (base before : ℕ) (old new : Live) (l : LogLine) (x : ProofLine)
 step_as base before old new l x is own (inl a) = absurd (both_ways _ own a.kind)
 step_as base before old new l x is own (inr s) = subst (λ y. Step old y new) is s
 
+-- live ids can be spelled
+abbrev AreAlive : Clauses → List ℕ → Type 0
+AreAlive at ids = AllByRecursion (λ i. (c : List Literal) × (at i ≡ Some c)) ids
+
+ids_alive : (es : Listed) (last : ℕ) (live : Live) (ids : List ℕ) → Matches es last live
+    → last < NUMBER_LIMIT → AreAlive live.clause_at ids → AllByRecursion IsId ids
+ids_alive es last live [] m small h = tt
+ids_alive es last live (i ∷ is) m small h =
+    let r = m.in_range i h.0.0 h.0.1 in
+    ((r.0, omega (arith, r.1)), ids_alive es last live is m small h.1)
+
+leads_alive : (at : Clauses) (A : List Literal) (hs : List ℕ) (B : List Literal) → Leads at A hs B
+    → AreAlive at hs
+leads_alive at A [] B w = tt
+leads_alive at A (h ∷ hs) B w = ((w.0, w.2), leads_alive at (w.1 ∷ A) hs B w.4)
+
+alive_append : (at : Clauses) (xs ys : List ℕ) → AreAlive at xs → AreAlive at ys
+    → AreAlive at (xs ++ ys)
+alive_append at [] ys h k = k
+alive_append at (x ∷ xs) ys h k = (h.0, alive_append at xs ys h.1 k)
+
+refutes_alive : (at : Clauses) (A : List Literal) (hs : List ℕ) → Refutes at A hs → AreAlive at hs
+refutes_alive at A hs r = subst (AreAlive at) (sym r.split)
+    (alive_append at r.front (r.final ∷ []) (leads_alive at A r.front r.reached r.leads)
+    ((r.clause, r.live), tt))
+
 abbrev ids_in : ℕ → LogLine → List ℕ
 ids_in base l = map (λ h. id_of base (name_of h)) l.hints
 
 deletes_on : (k base before : ℕ) (s : CutsState) (live : Live) (l : LogLine) (ls : List LogLine)
-    → is_axiom l.kind ≡ false → is_delete l.kind ≡ true → Stands base before s live (l ∷ ls)
+    → IsLine l → is_axiom l.kind ≡ false → is_delete l.kind ≡ true
+    → Stands base before s live (l ∷ ls)
     → Goes k base before s l ls
-deletes_on k base before s live l ls own d st =
+deletes_on k base before s live l ls line own d st =
     let h = st.lines in
     let ids = ids_in base l in
     let gone = without_ids live ids in
@@ -129,8 +163,14 @@ deletes_on k base before s live l ls own d st =
     let mid = h.chain.0 in
     let step = step_as base before live mid l _ is own h.chain.1 in
     let open_now = open_end s.ended l ls st.ended in
-    let j = deletion_judged k s live (base + before) ids h.matches open_now step.0 step.1
-    (subst HasNumbers is h.numbers.0) in
+    let small : base + before < NUMBER_LIMIT = omega (arith, h.room) in
+    let numbers : HasNumbers (Deletion (base + before) ids) = (
+      small,
+      All-from_recursion IsId ids (ids_alive s.live s.last live ids h.matches
+          (omega (arith, h.last_is))
+          step.1),
+    ) in
+    let j = deletion_judged k s live (base + before) ids h.matches open_now step.0 step.1 numbers in
     let live_is : live_next base before l live ≡ gone = ap (λ x. live_after live (x ∷ [])) is in
     let stand : Standing = record { forms = s.forms; ended = s.ended } in
     let kept : with_line l stand ≡ stand = cond-true (is_delete l.kind) _ _ d in
@@ -152,16 +192,17 @@ deletes_on k base before s live l ls own d st =
           left = h.left;
           chain = subst (λ x. OpenChain base (after_line l before) x ls h.left)
               (step.2 ∙ sym live_is) h.chain.2;
-          numbers = h.numbers.1;
+          room = omega (arith, h.room, same);
         };
         ended = λ e. absurd (both_ways _ open_now e);
       };
     }
 
 adds_on : (k base before : ℕ) (s : CutsState) (live : Live) (l : LogLine) (ls : List LogLine)
-    → is_axiom l.kind ≡ false → is_delete l.kind ≡ false → Stands base before s live (l ∷ ls)
+    → IsLine l → is_axiom l.kind ≡ false → is_delete l.kind ≡ false
+    → Stands base before s live (l ∷ ls)
     → Goes k base before s l ls
-adds_on k base before s live l ls own d st =
+adds_on k base before s live l ls line own d st =
     let h = st.lines in
     let id = base + before + 1 in
     let c = l.clause in
@@ -174,8 +215,16 @@ adds_on k base before s live l ls own d st =
     let mid = h.chain.0 in
     let step = step_as base before live mid l _ is own h.chain.1 in
     let open_now = open_end s.ended l ls st.ended in
-    let j = addition_judged k s live id c hints h.matches open_now step.0 rup.1
-    (subst HasNumbers is h.numbers.0) in
+    let small : id < NUMBER_LIMIT = omega (arith, h.room) in
+    let alive = refutes_alive live.clause_at (map negation c) hints rup.1 in
+    let numbers : HasNumbers (Addition id c hints []) = (
+      small,
+      line.literals,
+      All-from_recursion IsId hints (ids_alive s.live s.last live hints h.matches
+          (omega (arith, h.last_is)) alive),
+      All-nil _,
+    ) in
+    let j = addition_judged k s live id c hints h.matches open_now step.0 rup.1 numbers in
     let live_is : live_next base before l live ≡ come = ap (λ x. live_after live (x ∷ [])) is in
     let stand : Standing = record { forms = s.forms; ended = s.ended } in
     let kept : with_line l stand ≡ with_one c stand = cond-false (is_delete l.kind) _ _ d in
@@ -197,18 +246,19 @@ adds_on k base before s live l ls own d st =
           left = h.left;
           chain = subst (λ x. OpenChain base (after_line l before) x ls h.left)
               (step.2 ∙ sym live_is) h.chain.2;
-          numbers = h.numbers.1;
+          room = omega (arith, h.room, same);
         };
         ended = λ e. ends_at l ls h.stops (ap (λ b. not b && is_empty_clause c) d ∙ e);
       };
     }
 
 plain_on : (k base before : ℕ) (s : CutsState) (live : Live) (l : LogLine) (ls : List LogLine)
-    → is_axiom l.kind ≡ false → Stands base before s live (l ∷ ls) → Goes k base before s l ls
-plain_on k base before s live l ls own st =
+    → IsLine l → is_axiom l.kind ≡ false → Stands base before s live (l ∷ ls)
+    → Goes k base before s l ls
+plain_on k base before s live l ls line own st =
     elim (cases_Bool (is_delete l.kind)) [
-      | inl d ↦ deletes_on k base before s live l ls own d st
-      | inr d ↦ adds_on k base before s live l ls own d st
+      | inl d ↦ deletes_on k base before s live l ls line own d st
+      | inr d ↦ adds_on k base before s live l ls line own d st
     ]
 
 -- clauses from outside
@@ -243,7 +293,7 @@ axioms_on base before (c ∷ cs) es last live ls h =
       left = h.left;
       chain = subst (λ x. OpenChain base (before + 1) x (map axiom_line cs ++ ls) h.left) a.1
           h.chain.2;
-      numbers = h.numbers.1;
+      room = omega (arith, h.room);
     }) in
     let here : id ≡ last + 1 = omega (arith, h.last_is) in
     let listed : (es ++ (id, c) ∷ []) ++ listed_from (id + 1) cs ≡ es ++ listed_from (last + 1)
@@ -307,10 +357,10 @@ pub steps_right : (k cost base before : ℕ) → k ≤ cost → (s : CutsState) 
     → Stands base before s live (lines_of es) → ArePlainRight k base before s es
 steps_right k cost base before le s old new [] live same h st = tt
 steps_right k cost base before le s old new (Plain l ∷ es) live same h st =
-    let g = plain_on k base before s live l (lines_of es) h.1.0 st in
+    let g = plain_on k base before s live l (lines_of es) h.1.0 h.1.1 st in
     let next : stands_as g.next ≡ h.0 =
     pair (stands_as g.next) (with_line l (stands_as s)) g.right.forms g.right.ended
-    ∙ ap (with_line l) same ∙ sym h.1.1 in
+    ∙ ap (with_line l) same ∙ sym h.1.2 in
     let rest = steps_right k cost base (after_line l before) le g.next h.0 new es g.live next h.2
     g.stands
     in (g.next, g.right, subst (λ n. ArePlainRight k base n g.next es) (count_one before l) rest)

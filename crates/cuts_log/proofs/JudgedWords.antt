@@ -25,7 +25,8 @@ use Rattle.lrat_read.proofs.Laws.{word_line_read}
 use Rattle.lrat_cuts.proofs.Laws.{put_all-last, put_all-live}
 use Rattle.lrat_cuts.specs.Cuts.{CutsState, judged_line, judged_word, put, put_all}
 use Rattle.cuts_log.specs.declared.standing.Standing.{Standing}
-use Rattle.cuts_log.specs.Facts.{named, no_clause}
+use Rattle.cuts_log.specs.Facts.{no_clause}
+use Rattle.lrat_cuts.specs.Cuts.{fact_of}
 use Rattle.cuts_log.specs.Judging.{Follows}
 use Rattle.cuts_log.specs.Stands.{IsRightWord, TakesWord, with_clauses}
 
@@ -54,7 +55,7 @@ less_alike a b s (f ∷ fs) h =
     ap (λ t. less_facts a t fs) one ∙ less_alike a b (less_fact b s f) fs h.1
 
 numbered_facts : (fs : List NamedFact) → AllByRecursion (λ (f : NamedFact). f.is_numbered ≡ true) fs
-    → AllByRecursion (λ (f : FormFact). f.is_numbered ≡ true) (map named fs)
+    → AllByRecursion (λ (f : FormFact). f.is_numbered ≡ true) (map fact_of fs)
 numbered_facts [] h = tt
 numbered_facts (f ∷ fs) h = (h.0, numbered_facts fs h.1)
 
@@ -121,7 +122,7 @@ word_judged k cost le s new (MoreLine number) made middle right e =
 word_judged k cost le s new (GroupLine inputs ids) made middle right e = absurd right
 word_judged k cost le s new (FormLine scale facts) made middle right e =
     let each = recursion_from_All (λ (f : NamedFact). f.is_numbered ≡ true) facts right.1 in
-    let there = form_alike (listed_at s.live) no_clause scale (map named facts) s.forms
+    let there = form_alike (listed_at s.live) no_clause scale (map fact_of facts) s.forms
     (numbered_facts facts each) ∙ right.0 in
     let line : judged_word (Some k) (Some (FormLine scale facts)) s ≡ Ok (record s {
       forms = middle;

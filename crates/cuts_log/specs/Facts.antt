@@ -20,10 +20,6 @@ no_clause i = None
 abbrev pub spelled : FormFact → NamedFact
 spelled f = record { weight = f.weight; is_numbered = f.is_numbered; number = f.number }
 
--- and as forms name it
-abbrev pub named : NamedFact → FormFact
-named f = record { weight = f.weight; is_numbered = f.is_numbered; number = f.number }
-
 -- the fact of a count or group, whose numbers can be spelled
 pub record IsCountFact (f : FormFact) : Type 0 where
   pub numbered : f.is_numbered ≡ true

@@ -1,18 +1,17 @@
 -- What a line of a log is judged as, by the definition of the checker.
 use Rattle.std.specs.Prelude.{◌≡◌, ℕ, ◌+◌, ◌≤◌, false, List, [], ◌∷◌, ◌++◌, length, map, Some, Ok}
-use Rattle.std.specs.Prelude.{All}
 use Rattle.cnf.specs.Literal.{Literal}
 use Rattle.bound.specs.Weighted.{weighted_cnf}
-use Rattle.text.specs.LratText.{HasNumbers}
 use Rattle.lrat_live.specs.Listed.{listed_from}
 use Rattle.lrat_log.specs.Axioms.{FollowByRup, IsOpenLogOver}
-use Rattle.lrat_log.specs.Log.{LogLine, axiom_line, numbered_lines}
+use Rattle.lrat_log.specs.Log.{LogLine, axiom_line}
 use Rattle.lrat_log.specs.Steps.{added_count, given_of}
 use Rattle.lrat_read.specs.Words.{WordLine}
 use Rattle.lrat_read.specs.WordTokens.{word_tokens}
 use Rattle.lrat_cuts.specs.Cuts.{CutsState, cuts_start, judged_line, judged_lines}
 use Rattle.cuts_log.specs.declared.standing.Standing.{Standing}
 use Rattle.cuts_log.specs.Events.{Event, Plain, Word, lines_of, tokens_at, tokens_on}
+use Rattle.cuts_log.specs.Books.{IsBook}
 use Rattle.cuts_log.specs.Logs.{IsKept, LogState, events_of, problem_of}
 use Rattle.cuts_log.specs.Stands.{TakesWord, with_line}
 
@@ -58,11 +57,11 @@ LogsAreRight = (l : LogState) (k : ℕ) → IsKept l → (l.book).failed ≡ fal
 
 -- so is one whose lines are steps apart from clauses from outside, and follow by their hints alone
 abbrev pub StepsAreRight : Type 0
-StepsAreRight = (l : LogState) (k : ℕ) → IsKept l → (l.book).failed ≡ false → k ≤ l.cost
+StepsAreRight = (l : LogState) (k : ℕ) → IsKept l → IsBook l.book → (l.book).failed ≡ false
+    → k ≤ l.cost
     → IsOpenLogOver (given_of (weighted_cnf (problem_of l)).clauses) (lines_of (events_of l))
     → FollowByRup (given_of (weighted_cnf (problem_of l)).clauses) (l.book).base []
     (lines_of (events_of l))
-    → All HasNumbers (numbered_lines (l.book).base (lines_of (events_of l)))
     → (t : CutsState) × (judged_lines (Some k) (cuts_start (problem_of l)) 1
     (tokens_on (l.book).base 0 (events_of l)) ≡ Ok t)
     × (t.forms ≡ (l.standing).forms) × (t.ended ≡ (l.standing).ended)

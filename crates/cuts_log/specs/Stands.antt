@@ -6,14 +6,15 @@ use Rattle.cnf.specs.Literal.{Literal}
 use Rattle.cnf.specs.Problem.{Problem}
 use Rattle.forms.specs.Forms.{Forms, forms_of, heard, bound_line, count_line, cut_line, form_line}
 use Rattle.forms.specs.Forms.{more_line}
-use Rattle.lrat_log.specs.Log.{LogLine, is_axiom, is_delete}
+use Rattle.lrat_log.specs.Log.{IsLine, LogLine, is_axiom, is_delete}
 use Rattle.lrat_read.specs.Words.{NamedFact, WordLine, CountLine, MoreLine, GroupLine, FormLine}
 use Rattle.lrat_read.specs.Words.{CutLine, BoundLine}
 use Rattle.lrat_read.specs.WordTokens.{HasWordNumbers}
 use Rattle.bound.specs.Weighted.{weighted_cnf, weights_of}
 use Rattle.cuts_log.specs.declared.standing.Standing.{Standing}
 use Rattle.cuts_log.specs.Events.{Event, Plain, Word}
-use Rattle.cuts_log.specs.Facts.{named, no_clause}
+use Rattle.cuts_log.specs.Facts.{no_clause}
+use Rattle.lrat_cuts.specs.Cuts.{fact_of}
 
 -- a clause is live
 abbrev pub with_clause : List Literal → Standing → Standing
@@ -35,7 +36,7 @@ IsRightWord cost old (MoreLine number) made new =
     more_line number old ≡ Ok (record { forms = new; clauses = made })
 IsRightWord cost old (GroupLine inputs ids) made new = ⊥
 IsRightWord cost old (FormLine scale facts) made new =
-    (form_line no_clause scale (map named facts) old ≡ Ok new) × AreNumbered facts × (made ≡ [])
+    (form_line no_clause scale (map fact_of facts) old ≡ Ok new) × AreNumbered facts × (made ≡ [])
 IsRightWord cost old (CutLine c) made new =
     (w : ℕ) × (cut_line c old ≡ Ok (Some w)) × (cost ≤ w) × (made ≡ c ∷ []) × (new ≡ old)
 IsRightWord cost old (BoundLine lower) made new =
@@ -55,7 +56,8 @@ abbrev pub with_line : LogLine → Standing → Standing
 with_line l s = if is_delete l.kind then s else with_clause l.clause s
 
 abbrev pub Takes : ℕ → Standing → Event → Standing → Type 0
-Takes cost old (Plain l) new = (is_axiom l.kind ≡ false) × (new ≡ with_line l old)
+Takes cost old (Plain l) new =
+    IsLine l × (is_axiom l.kind ≡ false) × (new ≡ with_line l old)
 Takes cost old (Word w made) new = TakesWord cost old w made new
 
 -- these lines are taken, one after the other

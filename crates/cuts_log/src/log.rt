@@ -105,6 +105,14 @@ impl<W: Write + Drop> CutsLog<W> {
         self.cost
     }
 
+    /// Whether the empty clause was the last one that came: no line may follow. After a failure it
+    /// means nothing.
+    pub fn has_ended(&self) -> bool
+        ensures { result ≡ self.now.standing.ended }
+    {
+        self.standing.ended
+    }
+
     /// Whether the log takes no line any more, since memory was refused or a write has failed.
     pub fn has_failed(&self) -> bool
         ensures { result ≡ self.now.book.failed }

@@ -15,7 +15,8 @@ invariant_of-self-in_err-note g c =
     let own = sym c.is_axiom.ensures ∙ c.if-is_axiom.false in
     let f = c.in_err-note.ensures.err in
     kept_next _ (Plain line) c.take_line.new.self c.note.new.self c.self.invariant
-    (c.has_room.ensures.works room) (own, c.in_ok-take_line.ensures.ok c.args.hints.now) f.seen
+    (c.has_room.ensures.works room)
+    (c.requires.line, own, c.in_ok-take_line.ensures.ok c.args.hints.now) f.seen
     f.base
 
 pub invariant_of-self-2 : goal.invariant_of-self-2
@@ -29,5 +30,6 @@ invariant_of-self-2 g c =
     let own = sym c.is_axiom.ensures ∙ c.if-is_axiom.false in
     let n = c.in_ok-note.ensures.ok in
     kept_next _ (Plain line) c.take_line.new.self c.note.new.self c.self.invariant
-    (c.has_room.ensures.works room) (own, c.in_ok-take_line.ensures.ok c.args.hints.now) n.seen
+    (c.has_room.ensures.works room)
+    (c.requires.line, own, c.in_ok-take_line.ensures.ok c.args.hints.now) n.seen
     n.base
