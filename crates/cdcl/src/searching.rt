@@ -13,7 +13,8 @@ ghost use Rattle.cdcl.specs.Turns.{Ends, Turns, Opens};
 ghost use Rattle.cdcl.specs.declared.searching.End.TheVariants.{Refuted};
 
 use crate::budget::Budget;
-use crate::watch::{SearchWatch, heed};
+use crate::watch::SearchWatch;
+use cdcl_order::watch::heed;
 use cdcl_search::input::Input;
 use cdcl_search::learning::learn;
 use cdcl_search::noting::{note_level, refute};
