@@ -317,9 +317,10 @@ impl<S: Sink> Solver<S> {
     }
 
     /// Searches under assumptions until it has an answer, or the share or the budget is spent, or
-    /// the watch waives what is left of the budget. Each call begins at level 0, with what was learned before. The assumptions are decided first, in
-    /// their order; they hold for this call alone. An answer with bits costs no unit of the budget;
-    /// the clause of a core costs one, unless a live clause has no literals but its.
+    /// the watch waives what is left of the budget. Each call begins at level 0, with what was
+    /// learned before. The assumptions are decided first, in their order; they hold for this call
+    /// alone. An answer with bits costs no unit of the budget; the clause of a core costs one,
+    /// unless a live clause has no literals but its.
     ///
     /// # Errors
     ///

@@ -1,8 +1,10 @@
--- The first terms of the sequence of restarts; values to try; LBDs; and a deletion.
+-- What is left of a budget; the first terms of the sequence of restarts; values to try; LBDs; and a
+-- deletion.
 use Rattle.std.specs.Prelude.{◌≡◌, ℕ, zero, suc, true, false, List, [], ◌∷◌, Some, None, refl}
 use Rattle.propagate.specs.Trail.{Assigned}
 use Rattle.cdcl_order.specs.declared.deletions.Candidate.{Candidate}
 use Rattle.cdcl_order.specs.declared.deletions.Ranked.{Ranked}
+use Rattle.cdcl_order.specs.Budgets.{BudgetState, WaivesAs, left_of}
 use Rattle.cdcl_order.specs.Deletions.{due_at, is_worse, sifted}
 use Rattle.cdcl_order.specs.Levels.{lbd_of}
 use Rattle.cdcl_order.specs.Orders.{positive}
@@ -10,6 +12,20 @@ use Rattle.cdcl_order.specs.Phases.{PhasesState, phase_of, restarted}
 use Rattle.cdcl_order.specs.Phases.{values_under}
 use Rattle.cdcl_order.specs.Restarts.{first_power, next_power, term_of}
 use Rattle.cdcl_order.specs.Standings.{StandingsState, fresh, unknown, standing_at}
+
+-- of ten units three were learned, one answered, and two waived
+abbrev six_spent : BudgetState
+six_spent = record { limit = 10; learned = 3; answers = 1; waived = 2 }
+
+four_left : left_of six_spent ≡ 4
+four_left = refl
+
+none_left : left_of (record six_spent { waived = 6 }) ≡ 0
+none_left = refl
+
+-- the watch has waived five units before, and four more since then
+waived_then : WaivesAs six_spent (record six_spent { waived = 6 }) 5 9
+waived_then = refl
 
 -- so many terms from this power on
 abbrev terms : ℕ → ℕ → List ℕ

@@ -28,7 +28,8 @@ returns-in_err-core-clause-halts g c =
     c.from_residual.ensures.0 (open_log c.args.search.now p ls c.requires.runs)
     (pays_nothing p.given ls b)
 
-pub returns-in_err-learn_core-in-Follows-clause-halts : goal.returns-in_err-learn_core-in-Follows-clause-halts
+pub returns-in_err-learn_core-in-Follows-clause-halts :
+    goal.returns-in_err-learn_core-in-Follows-clause-halts
 returns-in_err-learn_core-in-Follows-clause-halts g c =
     let p = c.args.input.now in
     let b = c.args.budget.now in
