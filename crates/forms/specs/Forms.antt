@@ -112,6 +112,21 @@ last_of [] = []
 last_of (l ∷ []) = l ∷ []
 last_of (l ∷ k ∷ more) = last_of (k ∷ more)
 
+-- what is counted, or is a group
+abbrev pub inputs_of : Numbered → List Literal
+inputs_of (Count inputs tree multiplier) = inputs
+inputs_of (Group inputs) = inputs
+
+-- the outputs of a count
+abbrev pub count_outputs : Option Numbered → Option (List Literal)
+count_outputs None = None
+count_outputs (Some (Group inputs)) = None
+count_outputs (Some (Count inputs tree multiplier)) = Some (outputs_of tree)
+
+-- the outputs of the count with this number, if there is one
+abbrev pub outputs_at : List Numbered → ℕ → Option (List Literal)
+outputs_at ns number = count_outputs (at_number ns number)
+
 -- the stage that makes a count's next output; new variables from v on
 abbrev pub next_stage : ℕ → Tree → Staged
 next_stage v tree = stage (length (outputs_of tree) + 1) v tree

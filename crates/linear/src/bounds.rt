@@ -1,6 +1,6 @@
 // So many times the cost, with something beside it that changes, and its least value.
 ghost use Rattle.std.specs.Prelude.{◌≡◌, ◌+◌, ◌*◌, ◌<◌, ◌≤◌, ◌^◌, pos, false, [], length};
-ghost use Rattle.std.specs.Prelude.{IfOk, MatchResult, All};
+ghost use Rattle.std.specs.Prelude.{IfOk, MatchResult, All, None, slice_index_or};
 ghost use Rattle.std.specs.Int.RustNames.{unsigned_abs};
 ghost use Rattle.cnf.specs.Clause.{has_repeat, is_tautology};
 ghost use Rattle.linear.specs.Linear.{plus_at, plus_constant, plus_literal, plus_literals};
@@ -79,6 +79,16 @@ impl CostBound {
         ensures small { result < 2 ^ 62 }
     {
         self.scale
+    }
+
+    /// The value of a variable, if it has one.
+    pub fn value(&self, variable: u32) -> Option<bool>
+        ensures { result ≡ slice_index_or self.now.form.fixed variable None }
+    {
+        match self.terms.get(variable as usize) {
+            Some(term) => term.value,
+            None => None,
+        }
     }
 
     /// Has room for the variables below a number. Where memory is refused, nothing changes.
