@@ -102,15 +102,6 @@ abbrev pub at_number : List Numbered → ℕ → Option Numbered
 at_number ns zero = None
 at_number ns (suc j) = slice_get ns j
 
-abbrev pub inputs_of : Numbered → List Literal
-inputs_of (Count inputs tree multiplier) = inputs
-inputs_of (Group inputs) = inputs
-
--- the outputs that a count has; a group has none
-abbrev pub outputs_in : Numbered → List Literal
-outputs_in (Count inputs tree multiplier) = outputs_of tree
-outputs_in (Group inputs) = []
-
 -- the form with so many times these literals more
 abbrev pub plus : ℤ → List Literal → CostForm → CostForm
 plus w ls f = record f { rest = plus_literals w ls f.rest }
@@ -120,6 +111,21 @@ abbrev pub last_of : List Literal → List Literal
 last_of [] = []
 last_of (l ∷ []) = l ∷ []
 last_of (l ∷ k ∷ more) = last_of (k ∷ more)
+
+-- what is counted, or is a group
+abbrev pub inputs_of : Numbered → List Literal
+inputs_of (Count inputs tree multiplier) = inputs
+inputs_of (Group inputs) = inputs
+
+-- the outputs of a count
+abbrev pub count_outputs : Option Numbered → Option (List Literal)
+count_outputs None = None
+count_outputs (Some (Group inputs)) = None
+count_outputs (Some (Count inputs tree multiplier)) = Some (outputs_of tree)
+
+-- the outputs of the count with this number, if there is one
+abbrev pub outputs_at : List Numbered → ℕ → Option (List Literal)
+outputs_at ns number = count_outputs (at_number ns number)
 
 -- the stage that makes a count's next output; new variables from v on
 abbrev pub next_stage : ℕ → Tree → Staged

@@ -1,6 +1,7 @@
 -- Worked lines.
 use Rattle.std.specs.Prelude.{◌≡◌, ℕ, true, false, List, [], ◌∷◌, Option, Some, None, Result, Ok}
 use Rattle.std.specs.Prelude.{Err, refl}
+use Rattle.std.specs.Option.{option_map}
 use Rattle.cnf.specs.Literal.{Literal, positive as p, negative as n}
 use Rattle.forms.specs.declared.faults.LineFault.{LineFault}
 use Rattle.forms.specs.declared.faults.LineFault.TheVariants.{Name}
@@ -8,7 +9,8 @@ use Rattle.forms.specs.declared.types.NamedFact.{NamedFact}
 use Rattle.cnf.specs.Formula.{numbered}
 use Rattle.cnf.specs.Refute.{Clauses}
 use Rattle.forms.specs.Forms.{Forms, Made, count_line, cut_line, fact_size, form_line, forms_of}
-use Rattle.forms.specs.Forms.{group_line, heard, more_line}
+use Rattle.forms.specs.Forms.{Group, Numbered, at_number, group_line, heard, inputs_of, more_line}
+use Rattle.forms.specs.Forms.{outputs_at}
 
 -- 3 for the first variable, 4 for the second
 abbrev shop : Forms
@@ -96,3 +98,20 @@ both_may_be = refl
 -- the fact of the empty clause has a term
 empty : fact_size (numbered ([] ∷ [])) [] (clause 1) ≡ Some 1
 empty = refl
+
+-- what has a number after a line
+abbrev numbered_after : Result Made LineFault → List Numbered
+numbered_after (Err e) = []
+numbered_after (Ok m) = (m.forms).numbered
+
+abbrev cups : List Numbered
+cups = numbered_after (count_line 1 (p 1 ∷ p 2 ∷ []) shop)
+
+cups_inputs : option_map inputs_of (at_number cups 1) ≡ Some (p 1 ∷ p 2 ∷ [])
+cups_inputs = refl
+
+cups_outputs : outputs_at cups 1 ≡ Some (p 3 ∷ [])
+cups_outputs = refl
+
+group_outputs : outputs_at (Group (p 1 ∷ p 2 ∷ []) ∷ []) 1 ≡ None
+group_outputs = refl

@@ -1,7 +1,8 @@
 // Counts and groups, which facts of a form name by their numbers.
 ghost use Rattle.std.specs.Prelude.{◌≡◌, ℕ, ◌<◌, All, Some, None, MatchOption};
-ghost use Rattle.forms.specs.Forms.{at_number, cleared, inputs_of, numbered_size};
-ghost use Rattle.forms.specs.Forms.{outputs_in, without_multiplier};
+ghost use Rattle.std.specs.Option.{option_copied, option_map};
+ghost use Rattle.forms.specs.Forms.{at_number, cleared, inputs_of, numbered_size, outputs_at};
+ghost use Rattle.forms.specs.Forms.{without_multiplier};
 ghost use Rattle.forms.specs.Stamped.{AreStamped, IsStamped, numbered_in, numbered_at};
 ghost use Rattle.forms.specs.Within.{IsWithin};
 
@@ -43,23 +44,31 @@ pub(crate) fn find(numbered: &[Numbered], number: u64) -> Option<&Numbered>
     Some(&numbered[number as usize - 1])
 }
 
-/// The literals of a count or group.
-pub(crate) fn inputs(numbered: &Numbered) -> &[Lit]
-    ensures { (present : ℕ) → result.now ≡ inputs_of (numbered_at present numbered.now) }
+/// The literals of the count or group with a number, if there is one.
+pub(crate) fn inputs_at(numbered: &[Numbered], number: u64) -> Option<&[Lit]>
+    ensures { (present : ℕ) → option_copied result
+        ≡ option_map inputs_of (at_number (numbered_in present numbered.now) number) }
 {
-    match numbered {
-        Numbered::Count(count) => &count.inputs,
-        Numbered::Group(lits) => lits,
+    let Some(item) = find(numbered, number) else {
+        return None;
+    };
+    match item {
+        Numbered::Count(count) => Some(&count.inputs),
+        Numbered::Group(lits) => Some(lits),
     }
 }
 
-/// The outputs of a count; a group has none.
-pub(crate) fn outputs(numbered: &Numbered) -> &[Lit]
-    ensures { (present : ℕ) → result.now ≡ outputs_in (numbered_at present numbered.now) }
+/// The outputs so far of the count with a number, if there is one.
+pub(crate) fn outputs_at(numbered: &[Numbered], number: u64) -> Option<&[Lit]>
+    ensures { (present : ℕ) → option_copied result
+        ≡ outputs_at (numbered_in present numbered.now) number }
 {
-    match numbered {
-        Numbered::Count(count) => count.totalizer.outputs(),
-        Numbered::Group(_) => &[],
+    let Some(item) = find(numbered, number) else {
+        return None;
+    };
+    match item {
+        Numbered::Count(count) => Some(count.totalizer.outputs()),
+        Numbered::Group(_) => None,
     }
 }
 

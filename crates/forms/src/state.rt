@@ -1,14 +1,14 @@
 // The state of forms and cuts: a method for each line.
 ghost use Rattle.std.specs.Prelude.{◌≡◌, ℕ, ◌+◌, ◌*◌, ◌<◌, ◌≤◌, ◌^◌, ◌∷◌, [], map, length, sum_by};
-ghost use Rattle.std.specs.Prelude.{◌+ℤ◌, ◌*ℤ◌, pos};
-ghost use Rattle.std.specs.Prelude.{All, IfOk, IfSome, OnErr, OnOk, Some, true};
+ghost use Rattle.std.specs.Prelude.{◌+ℤ◌, ◌*ℤ◌, pos, slice_index_or};
+ghost use Rattle.std.specs.Prelude.{All, IfOk, IfSome, None, OnErr, OnOk, Some, true};
+ghost use Rattle.std.specs.Option.{option_copied, option_map};
 ghost use Rattle.cnf.specs.declared.limits.TheConstants.{NUMBER_LIMIT, VARIABLE_LIMIT};
 ghost use Rattle.adder.specs.Parts.{weight_in};
 ghost use Rattle.forms.specs.Forms.{forms_of, heard, count_line, more_line, group_line, form_line};
 ghost use Rattle.forms.specs.Forms.{are_known, at_number, begun, bound_line, clause_size, cut_line};
 ghost use Rattle.forms.specs.Forms.{fact_size, less_clause, less_fact, less_facts, less_numbered};
-ghost use Rattle.forms.specs.Forms.{inputs_of, numbered_size, outputs_in};
-ghost use Rattle.std.specs.Option.{option_copied, option_map};
+ghost use Rattle.forms.specs.Forms.{inputs_of, numbered_size, outputs_at};
 ghost use Rattle.linear.specs.Costs.{least};
 ghost use Rattle.linear.specs.Linear.{coefficient};
 ghost use Rattle.forms.specs.Answers.{HasFormFault, HasRoom, HasSizeFault, IsFact, IsMade, IsTaken};
@@ -20,7 +20,7 @@ use crate::growing::{
     add_output, add_stages, grow_item, more_fault, multiplier_of, push_count, widen,
 };
 use crate::known::{greatest_variable, repeats_variable};
-use crate::numbered::{Numbered, find, inputs, next_stamp, numbered_size, outputs};
+use crate::numbered::{Numbered, inputs_at, next_stamp, numbered_size, outputs_at};
 use crate::sizes::{clause_size, facts_size};
 use crate::table::ClauseTable;
 use crate::types::NamedFact;
@@ -148,28 +148,35 @@ impl Forms {
         self.bound.coefficient(variable as usize)
     }
 
-    /// The literals of the count or group with this number, if there is one.
-    pub fn inputs(&self, number: u64) -> Option<&[Lit]>
-        ensures { option_copied result ≡ option_map inputs_of (at_number self.now.numbered number) }
-    {
-        Some(inputs(find(&self.numbered, number)?))
-    }
-
-    /// The outputs that the count with this number has, if there is one; a group has none. Output h
-    /// is true where at least h of the literals are.
-    pub fn outputs(&self, number: u64) -> Option<&[Lit]>
-        ensures { option_copied result
-            ≡ option_map outputs_in (at_number self.now.numbered number) }
-    {
-        Some(outputs(find(&self.numbered, number)?))
-    }
-
     /// How many times the present form has the cost: below 2^62.
     pub fn scale(&self) -> u64
         ensures scale { result ≡ self.now.form.scale }
         ensures small { result < NUMBER_LIMIT }
     {
         self.bound.scale()
+    }
+
+    /// The value that a unit clause has given a variable, if one has.
+    pub fn value(&self, variable: u32) -> Option<bool>
+        ensures { result ≡ slice_index_or self.now.form.fixed variable None }
+    {
+        self.bound.value(variable)
+    }
+
+    /// The literals of the count or group with a number, if there is one.
+    pub fn inputs(&self, number: u64) -> Option<&[Lit]>
+        ensures { option_copied result
+            ≡ option_map inputs_of (at_number self.now.numbered number) }
+    {
+        inputs_at(&self.numbered, number)
+    }
+
+    /// The outputs so far of the count with a number, if there is one: true where at least 1, 2, ..
+    /// of its literals are.
+    pub fn outputs(&self, number: u64) -> Option<&[Lit]>
+        ensures { option_copied result ≡ outputs_at self.now.numbered number }
+    {
+        outputs_at(&self.numbered, number)
     }
 
     /// What a cut of these literals is worth, under the present form: it holds in each solution

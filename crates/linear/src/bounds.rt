@@ -1,6 +1,6 @@
 // So many times the cost, with something beside it that changes, and its least value.
 ghost use Rattle.std.specs.Prelude.{◌≡◌, ◌+◌, ◌*◌, ◌<◌, ◌≤◌, ◌^◌, pos, false, [], length};
-ghost use Rattle.std.specs.Prelude.{◌+ℤ◌, ◌*ℤ◌};
+ghost use Rattle.std.specs.Prelude.{◌+ℤ◌, ◌*ℤ◌, None, slice_index_or};
 ghost use Rattle.std.specs.Prelude.{IfOk, MatchResult, All};
 ghost use Rattle.std.specs.Int.RustNames.{unsigned_abs};
 ghost use Rattle.cnf.specs.Clause.{has_repeat, is_tautology};
@@ -94,6 +94,16 @@ impl CostBound {
         let term = &self.terms[variable];
         let rest = rest_at(term, self.present);
         whole_coefficient(self.scale, term.cost, rest)
+    }
+
+    /// The value of a variable, if it has one.
+    pub fn value(&self, variable: u32) -> Option<bool>
+        ensures { result ≡ slice_index_or self.now.form.fixed variable None }
+    {
+        match self.terms.get(variable as usize) {
+            Some(term) => term.value,
+            None => None,
+        }
     }
 
     /// Has room for the variables below a number. Where memory is refused, nothing changes.

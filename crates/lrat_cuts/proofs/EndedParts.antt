@@ -36,7 +36,7 @@ ended_part-more done bs (inr e) =
     ∙ sym (append_assoc e.0 (10 ∷ []) (ended_part bs))
     ∙ ap (λ x. x ++ ended_part bs) (sym e.1)
 
-ended_none : (bs : List ℕ) → IsNoFeed bs → ended_part bs ≡ []
+pub ended_none : (bs : List ℕ) → IsNoFeed bs → ended_part bs ≡ []
 ended_none [] h = refl
 ended_none (b ∷ bs) h =
     let rest = ended_none bs (All-tail (λ x. (x == 10) ≡ false) b bs h) in

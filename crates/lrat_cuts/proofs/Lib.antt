@@ -18,4 +18,5 @@ mod Putting
 mod Judging
 mod PieceLaws
 mod EndedParts
+mod LastForms
 pub mod Laws

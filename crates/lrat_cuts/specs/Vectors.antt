@@ -1,16 +1,18 @@
 -- Worked certificates.
 use Rattle.std.specs.Prelude.{◌≡◌, ℕ, List, [], ◌∷◌, ◌++◌, map, Option, Some, None}
-use Rattle.std.specs.Prelude.{Result, Ok, Err, refl}
+use Rattle.std.specs.Prelude.{Result, Ok, Err, refl, Bool, true, false}
 use lib.Chars.{codes}
 use Rattle.cnf.specs.Literal.{positive as p, negative as n}
 use Rattle.cnf.specs.Problem.{Problem}
 use Rattle.text.specs.Text.{tokens_of}
+use Rattle.lrat_read.specs.Words.{NamedFact}
 use Rattle.lrat_machine.specs.declared.verdicts.Cause.{Cause}
 use Rattle.lrat_machine.specs.declared.verdicts.Cause.TheVariants.{CutWorth, LineName, LineForm}
 use Rattle.lrat_machine.specs.declared.verdicts.Cause.TheVariants.{TrailingLine, NoConflict}
 use Rattle.lrat_machine.specs.declared.verdicts.Cause.TheVariants.{NoEmptyClause}
 use Rattle.lrat_machine.specs.declared.verdicts.Verdict.TheVariants.{Yes, No}
 use Rattle.lrat_cuts.specs.Cuts.{CutsState, cuts_start, judged_lines}
+use Rattle.lrat_cuts.specs.LastForm.{form_facts}
 use Rattle.lrat_cuts.specs.Verdict.{cuts_lower, cuts_verdict, ended_part}
 use Rattle.lrat_cuts.specs.declared.verdicts.LowerVerdict.TheVariants.{AtLeast}
 use Rattle.lrat_cuts.specs.declared.verdicts.LowerVerdict.TheVariants.{No as NotRight}
@@ -87,3 +89,16 @@ at_least_three = refl
 
 wrong_line : cuts_lower shop (codes "form 2" ++ 10 ∷ two_lines) ≡ NotRight LineForm 1
 wrong_line = refl
+
+-- the facts of the present form
+abbrev named : Bool → ℕ → NamedFact
+named dashed weight = record { weight = weight; is_numbered = dashed; number = 1 }
+
+form_goes_on : form_facts []
+    (map tokens_of (codes "form 1 3 1 0" ∷ codes "form + 2 -1 0" ∷ codes "cut 0" ∷ []))
+    ≡ named false 3 ∷ named true 2 ∷ []
+form_goes_on = refl
+
+form_begins : form_facts (named false 3 ∷ []) (map tokens_of (codes "form 2 1 -1 0" ∷ []))
+    ≡ named true 1 ∷ []
+form_begins = refl

@@ -1,6 +1,7 @@
 // What the lines so far leave: the live clauses, and the forms over them.
 ghost use Rattle.std.specs.Prelude.{◌≡◌, ◌+◌, ◌<◌, ◌≤◌, List, map, None, IfOk, OnOk};
 ghost use Rattle.std.specs.Prelude.{All, IfSome, false};
+ghost use Rattle.std.specs.Option.{option_copied};
 ghost use Rattle.cnf.specs.Literal.{Literal};
 ghost use Rattle.cnf.specs.declared.limits.TheConstants.{NUMBER_LIMIT, VARIABLE_LIMIT};
 ghost use Rattle.forms.specs.Forms.{heard, count_line, more_line, group_line, form_line};
@@ -181,6 +182,20 @@ impl CutsBase {
         ensures most { result ≤ NUMBER_LIMIT }
     {
         self.proved
+    }
+
+    /// The live clause with an id, if there is one.
+    pub(crate) fn find(&self, id: u64) -> Option<&[Lit]>
+        ensures { option_copied result ≡ listed_at self.now.live id }
+    {
+        self.clauses.find(id)
+    }
+
+    /// The counts and groups, and the present form.
+    pub(crate) fn forms(&self) -> &Forms
+        ensures { result.now ≡ self.now.forms }
+    {
+        &self.forms
     }
 
     /// Says the limits of the state; it does nothing.

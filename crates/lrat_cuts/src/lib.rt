@@ -3,6 +3,7 @@
 #![tactic(auto)]
 
 mod base;
+pub mod last_form;
 pub mod law;
 pub mod machine;
 pub mod pieces;

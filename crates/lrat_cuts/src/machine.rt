@@ -1,8 +1,10 @@
 // The checker between lines.
 ghost use Rattle.std.specs.Prelude.{◌≡◌, ℕ, ◌+◌, ◌<◌, ◌≤◌, ◌^◌, List, [], Option, None, Some, IfOk};
 ghost use Rattle.std.specs.Prelude.{OnErr};
+ghost use Rattle.std.specs.Option.{option_copied};
 ghost use Rattle.cnf.specs.declared.limits.TheConstants.{NUMBER_LIMIT};
 ghost use Rattle.text.specs.Text.{tokens_of};
+ghost use Rattle.lrat_live.specs.Listed.{listed_at};
 ghost use Rattle.lrat_read.specs.Reader.{IsReadAs};
 ghost use Rattle.lrat_read.specs.Words.{WordLine, word_line_of};
 ghost use Rattle.lrat_read.specs.WordReader.{IsHeld, IsWordRead};
@@ -11,7 +13,8 @@ ghost use Rattle.lrat_cuts.specs.Machine.{LeadsTo, Puts, StepsTo};
 
 use crate::base::CutsBase;
 use cnf::clause_list::ClauseList;
-use cnf::types::Instance;
+use cnf::types::{Instance, Lit};
+use forms::state::Forms;
 use lrat_machine::verdicts::Cause;
 use lrat_read::line::LineView;
 use lrat_read::reader::LineReader;
@@ -214,6 +217,20 @@ impl CutsMachine {
         ensures most { result ≤ NUMBER_LIMIT }
     {
         self.base.proved()
+    }
+
+    /// The live clause with an id, if there is one.
+    pub fn find(&self, id: u64) -> Option<&[Lit]>
+        ensures { option_copied result ≡ listed_at self.now.state.live id }
+    {
+        self.base.find(id)
+    }
+
+    /// The counts and groups so far, and the present form.
+    pub fn forms(&self) -> &Forms
+        ensures { result.now ≡ self.now.state.forms }
+    {
+        self.base.forms()
     }
 
     /// Whether the empty clause was added, or a cut.

@@ -58,7 +58,10 @@ impl Model for CutsChecker {
 }
 
 /// Judges the line. Answers why the certificate fails at it, and its number.
-fn judge_line(machine: &mut CutsMachine, line: &[u8]) -> Result<Option<(Cause, u64)>, AllocError>
+pub(crate) fn judge_line(
+    machine: &mut CutsMachine,
+    line: &[u8],
+) -> Result<Option<(Cause, u64)>, AllocError>
     requires { machine.old.lines + 1 < 2 ^ 64 }
     ensures judges { IfOk result (Judges machine.old line.now machine.new) }
     ensures lines { OnOk result (machine.new.lines ≡ machine.old.lines + 1) }
