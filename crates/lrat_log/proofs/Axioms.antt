@@ -99,7 +99,8 @@ own_step base before old new l (inl a) own = absurd (both_ways _ own a.kind)
 own_step base before old new l (inr s) own = s
 
 own_chain : (base before : ℕ) (old new : Live) (ls : List LogLine)
-    → OpenChain base before old ls new → TakesNoAxiom ls → Chain old (numbered_on base before ls) new
+    → OpenChain base before old ls new → TakesNoAxiom ls
+    → Chain old (numbered_on base before ls) new
 own_chain base before old new [] w own = w
 own_chain base before old new (l ∷ ls) w own = (
   w.0,
