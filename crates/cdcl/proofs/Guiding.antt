@@ -89,7 +89,12 @@ paid_none given a b s w =
     let e : s.learned ≡ s.learned + 0 = omega arith in (
       0,
       open_writes given a b 0 w,
-      λ i. record { limit = s.limit; learned = e i; answers = s.answers },
+      λ i. record {
+        limit = s.limit;
+        learned = e i;
+        answers = s.answers;
+        waived = s.waived;
+      },
     )
 
 pub paid_nothing : (given : Given) (a : List LogLine) (s : BudgetState) → PaysOpen given a a s s
@@ -105,8 +110,14 @@ paid_join given a b c s t u v w =
         limit = x.limit;
         learned = x.learned + w.0;
         answers = x.answers;
+        waived = x.waived;
       }) v.2
-          ∙ (λ i. record { limit = s.limit; learned = e i; answers = s.answers }),
+          ∙ (λ i. record {
+            limit = s.limit;
+            learned = e i;
+            answers = s.answers;
+            waived = s.waived;
+          }),
     )
 
 -- How a turn ends.

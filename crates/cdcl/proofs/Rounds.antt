@@ -105,6 +105,22 @@ goes_learned old new p ls before after r same paid more some = record {
       let low = one_if_le (new.policy).has_learned in omega arith);
 }
 
+-- and nothing was waived
+pub goes_paid : (old new : Search) (p : Input) (ls : List LogLine) (before after : BudgetState)
+    → Runs new p ls → (new.engine).variables ≡ (old.engine).variables
+    → after ≡ record before { learned = before.learned + 1 } → 0 < left_of before
+    → GoesOn old new p ls before after
+goes_paid old new p ls before after r same paid some =
+    let kept : after.waived ≡ before.waived = ap (λ (b : BudgetState). b.waived) paid in
+    goes_learned old new p ls before after r same
+    (paid ∙ (λ i. record {
+      limit = before.limit;
+      learned = before.learned + 1;
+      answers = before.answers;
+      waived = sym kept i;
+    }))
+    (omega arith) some
+
 -- it restarts
 pub goes_restarted : (old new : Search) (p : Input) (ls : List LogLine) (budget : BudgetState)
     → Runs new p ls → (new.engine).variables ≡ (old.engine).variables

@@ -7,7 +7,7 @@ use Rattle.lrat_log.specs.Axioms.{IsNewClause}
 use Rattle.cdcl_search.specs.Running.{IsEnded, Runs, StaysOpen}
 use Rattle.cdcl_search.proofs.Laws.{axiom_ends, axiom_stays}
 use Rattle.cdcl.specs.Guiding.{PaysOpen}
-use Rattle.cdcl.proofs.Rounds.{goes_learned, open_log}
+use Rattle.cdcl.proofs.Rounds.{goes_paid, open_log}
 use Rattle.cdcl.proofs.Guiding.{cut_refused, cut_fails, paid_axiom, paid_nothing}
 use Rattle.cdcl.proofs.guided.take_cut.Goals as goal
 
@@ -94,7 +94,7 @@ returns g c =
     let e = c.in_ok-take_axiom.ensures in
     record {
       takes =
-          goes_learned s c.take_axiom.new.search p more b c.count_learned.new.self
+          goes_paid s c.take_axiom.new.search p more b c.count_learned.new.self
           (subst (Runs c.take_axiom.new.search p) (sym lines) (e.takes p ls c.requires.runs))
           e.variables c.count_learned.ensures c.requires.left;
       pays =
