@@ -267,6 +267,101 @@ mended 'a word like one before it' "h $many 0 40 0\n" 'line 1: AfterZero' "$(hea
 mended 'a line of just the length' "h ${a:2}\n" 'line 1: Literal' "h ${a:2}" "${a:2}" \
     "A literal is a variable, numbered from 1, with '-' before it for its negation."
 
+# Why nothing is cheaper, by the form that a certificate of forms and cuts ends with.
+lines text 'c one of both' 'h 1 2 0' 'c tea' '3 -1 0' '4 -2 0'
+lines result 'o 3' 's OPTIMUM FOUND' 'v 10'
+paid=$'cost 3\ngiven up: 1 of 2 soft clauses\n+ 3 = 3, line 4: 3 -1 0\n    c tea'
+# reasoned NAME BOUND GAP LINE..: of text, result and proof, behind what is paid
+reasoned() {
+    local name=$1 head
+    head=$paid$'\n'"at least $2"$'\n'"gap $3"
+    shift 3
+    call explain text result proof
+    expect "$name" 0 "$head"$'\n'"$(printf '%s\n' "$@")" ''
+}
+clause=(': line 2: h 1 2 0' '    c one of both')
+given_up=('  given up: line 4: 3 -1 0' '    c tea' '  given up: line 5: 4 -2 0')
+lines proof 'form 1 3 1 0' 'cut 0'
+reasoned 'a clause of FILE' 3 0 'why: the last form shows at least 3' '1 times the cost' "less 3 times clause 1${clause[0]}" "${clause[1]}"
+lines proof 'form 2 6 1 0' 'bound 3 0'
+reasoned 'a clause, for twice the cost' 3 0 'why: the last form shows at least 3' '2 times the cost' "less 6 times clause 1${clause[0]}" \
+    "${clause[1]}"
+lines proof 'form 1 1 1 0' 'form + 2 1 0' 'bound 3 0'
+reasoned 'a clause in two lines' 3 0 'why: the last form shows at least 3' '1 times the cost' "less 2 times clause 1${clause[0]}" \
+    "${clause[1]}" "less 1 times clause 1${clause[0]}" "${clause[1]}"
+lines proof 'form 1 0' 'cut -2 0' '3 1 0 2 1 0' 'cut 0'
+reasoned 'no fact' 3 0 'why: the last form shows at least 3' '1 times the cost'
+lines proof 'count 1 1 2 0' '4 3 0 2 3 1 0' 'form 1 3 -1 0' 'cut 0'
+reasoned 'a core' 3 0 'why: the last form shows at least 3' '1 times the cost' 'less 3 times number 1: at least 1 of these' "${given_up[@]}"
+lines proof 'count 1 1 2 0' 'form 1 3 -1 0' 'bound 0 0'
+reasoned 'a count of which nothing is known' 0 3 'why: the last form shows at least 0' '1 times the cost' \
+    'less 3 times number 1: at least 0 of these' "${given_up[@]}"
+lines proof 'count 1 1 2 0' '4 3 0 2 3 1 0' 'count 1 3 1 0' 'form 1 1 -2 0'
+reasoned 'an output of a count that is no fact' 0 3 'why: the last form shows nothing' '1 times the cost' \
+    'less 1 times number 2: at least 0 of these' '  literal 3' "${given_up[@]:0:2}"
+lines proof 'count 1 1 2 0' '4 3 0 2 3 1 0' 'count 1 3 1 0' 'form 1 1 -2 2 -1 0'
+reasoned 'an output of a count that is a fact too' 0 3 'why: the last form shows at least 1' '1 times the cost' \
+    'less 2 times number 1: at least 1 of these' "${given_up[@]}" 'less 1 times number 2: at least 0 of these' '  number 1 has 1 or more' \
+    "${given_up[@]:0:2}"
+lines proof 'group -1 -2 0 1 0' 'form 1 3 -1 0' 'cut 0'
+reasoned 'a group' 3 0 'why: the last form shows at least 3' '1 times the cost' 'less 3 times number 1: at most 1 of these' '  literal -1' '  literal -2'
+lines proof '2 1 2 0 1 0' 'form 1 3 2 0' 'cut 0'
+reasoned 'a clause that was added' 3 0 'why: the last form shows at least 3' '1 times the cost' 'less 3 times clause 2: at least 1 of these' \
+    "${given_up[@]}"
+lines proof '2 1 2 0 1 0' 'form 1 3 2 0' '2 d 2 0' 'cut 0'
+reasoned 'a clause that was deleted' 3 0 'why: the last form shows at least 3' '1 times the cost' 'less 3 times clause 2, which was deleted'
+lines proof 'form 1 3 1 0' '1 d 1 0' 'cut 0'
+reasoned 'a clause of FILE that was deleted' 3 0 'why: the last form shows at least 3' '1 times the cost' "less 3 times clause 1${clause[0]}" \
+    "${clause[1]}"
+: > "$work/proof"
+reasoned 'no form' 0 3 'why: there is no form'
+lines proof 'form 0 0'
+reasoned 'nothing is shown' 0 3 'why: the last form shows nothing' '0 times the cost'
+printf 'form 1 3 1 0\nbound 3 0\nform 1 0' > "$work/proof"
+reasoned 'what no line feed ends' 3 0 'why: the last form shows at least 3' '1 times the cost' "less 3 times clause 1${clause[0]}" "${clause[1]}"
+lines proof 'form 1 3 1 0' 'cut 0'
+mkfifo "$work/fifo"
+cat "$work/proof" > "$work/fifo" &
+call explain text result fifo
+expect 'a pipe' 1 "$paid"$'\nNO LineForm 1' ''
+wait
+lines proof 'form 1 3 1 0' 'bound 4 0'
+call explain text result proof
+expect 'a faulty line' 1 "$paid"$'\nNO CutWorth 2' ''
+# soft clauses that are no units, tautologies, two with one literal
+lines text 'h 1 2 0' 'h 3 -3 0' 'h 3 0' '2 1 -1 0' '3 -1 0' '2 -2 1 -2 0' '4 -1 0'
+lines result 'o 2' 's OPTIMUM FOUND' 'v 011'
+paid=$'cost 2\ngiven up: 1 of 4 soft clauses\n+ 2 = 2, line 6: 2 -2 1 -2 0'
+lines proof 'count 1 1 5 0' 'form 1 4 2 3 3 2 1 1 -1 0'
+reasoned 'which clauses are meant' 0 2 'why: the last form shows at least 0' '1 times the cost' 'less 4 times clause 2: line 3: h 3 0' \
+    'less 3 times clause 3: line 6: 2 -2 1 -2 0' 'less 2 times clause 1: line 1: h 1 2 0' 'less 1 times number 1: at least 0 of these' \
+    '  given up: line 5: 3 -1 0' '  given up: line 7: 4 -1 0' '  given up: line 6: 2 -2 1 -2 0'
+# no solution
+lines text 'h 1 0' 'h -1 0' '3 1 0'
+lines result 's UNSATISFIABLE'
+lines proof 'form 0 1 1 1 2 0' 'cut 0'
+call explain text result proof
+expect 'no solution, by a form' 0 "$said"$'\n2 of 2 hard clauses contradict each other:\nline 1: h 1 0\nline 2: h -1 0\nno solution
+why: the last form shows that there is no solution\n0 times the cost\nless 1 times clause 1: line 1: h 1 0\nless 1 times clause 2: line 2: h -1 0' ''
+# a form of twelve facts
+awk 'BEGIN { for (i = 1; i <= 12; i++) { print "h " 2 * i - 1, 2 * i, 0; print i, 1 - 2 * i, 0; print i, -2 * i, 0 } }' > "$work/text"
+printf 'o 78\ns OPTIMUM FOUND\nv 101010101010101010101010\n' > "$work/result"
+printf 'form 1 1 1 2 2 3 3 4 4 5 5 6 6 7 7 8 8 9 9 10 10 11 11 12 12 0\ncut 0\n' > "$work/proof"
+call explain text result proof
+ok 'twelve facts: the status' [ "$status$err" = 0 ]
+ok 'twelve facts: the ten with the greatest weights' [ "$(grep -A 99 '^why' <<< "$out")" = "$(
+    echo 'why: the last form shows at least 78'
+    echo '1 times the cost'
+    for i in $(seq 12 -1 3); do echo "less $i times clause $i: line $((3 * i - 2)): h $((2 * i - 1)) $((2 * i)) 0"; done
+    echo 'less 2 further facts')" ]
+# what is listed of the certificate of a search stands in its last form
+call explain "$PWD/tests/program/cuts/network_20_1.wcnf" "$PWD/tests/program/cuts/network_20_1.result" "$PWD/tests/program/cuts/network_20_1.lrat"
+ok "a search: $status" [ "$status" = 0 ]
+form=$(awk '/^form [0-9]/ { facts = "" } /^form/ { for (i = 3; i < NF; i += 2) facts = facts $i " " $(i + 1) "\n" } END { printf "%s", facts }' \
+    tests/program/cuts/network_20_1.lrat)
+listed=$(sed -n 's/^less \([0-9]*\) times clause \([0-9]*\).*/\1 \2/p; s/^less \([0-9]*\) times number \([0-9]*\).*/\1 -\2/p' <<< "$out")
+ok 'a search: its facts' [ "$(sort <<< "$form")" = "$(sort <<< "$listed")" ]
+
 # Faults.
 lines text 'h 1 2'
 lines result 's UNKNOWN'

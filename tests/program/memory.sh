@@ -83,6 +83,8 @@ lines given 'core 3 1 3 4 0' '7 0 6 4 5 2 3 1 0'
 each 'encode: a core' encode --profile 5 --proof given text 3
 each 'lower: a core' lower text given
 each 'explain: a core' explain text result given
+lines given 'count 1 1 2 0' '4 3 0 2 3 1 0' 'form 1 2 -1 1 1 0' 'cut 0'
+each 'explain: a form' explain text result given
 lines text 'h 1 -1 0' '2 1 1 0' '3 -1 0'
 each 'a clause with complementary literals' solve --proof proof text
 printf 'c x\r\n\r\nh -1 0\r\n7 1 0' > "$work/text"

@@ -1,6 +1,7 @@
 mod Comments
 mod Counts
 mod Explained
+mod Facts
 mod Listing
 mod Sheets
 mod Words

@@ -6,6 +6,7 @@ pub mod Falsified
 pub mod Judging
 pub mod Mending
 pub mod Names
+pub mod Reasons
 pub mod Sheets
 pub mod Showing
 pub mod Summary

@@ -1,7 +1,10 @@
 -- A worked instance: one of two is needed, and the bits give up the one that costs 3.
 use Rattle.std.specs.Prelude.{◌≡◌, [], ◌∷◌, true, false, refl}
+use Rattle.std.specs.Fmt.{digits}
 use Rattle.cnf.specs.Literal.{positive as p, negative as n}
 use Rattle.cnf.specs.Problem.{Problem}
+use lib.Chars.{codes}
+use Rattle.explain.specs.Reasons.{fact_text, facts_text}
 use Rattle.explain.specs.Showing.{shown_text}
 use Rattle.explain.specs.Falsified.{false_soft, false_hard}
 
@@ -38,3 +41,14 @@ no_characters :
     ∷ [])
     ≡ 63 ∷ 63 ∷ 63 ∷ 63 ∷ 63 ∷ 63 ∷ 63 ∷ 63 ∷ 63 ∷ 63 ∷ 63 ∷ 63 ∷ 63 ∷ 63 ∷ []
 no_characters = refl
+
+-- a clause three times, and a count twice
+three_times : fact_text (record { weight = 3; is_numbered = false; number = 1 })
+    ≡ codes "less 3 times clause 1"
+unfolding digits
+three_times = refl
+
+twice : facts_text (record { weight = 2; is_numbered = true; number = 4 } ∷ []) (codes "!" ∷ [])
+    ≡ codes "less 2 times number 4!"
+unfolding digits
+twice = refl

@@ -98,7 +98,12 @@ fn put_paid<W: Write>(
 }
 
 /// The line at this place.
-fn put_source_at<W: Write>(sheet: &mut Sheet, writer: &mut W, soft: &[ClauseLine<'_>], place: usize)
+pub(crate) fn put_source_at<W: Write>(
+    sheet: &mut Sheet,
+    writer: &mut W,
+    soft: &[ClauseLine<'_>],
+    place: usize,
+)
     ensures { Displays (W.contents writer.old) sheet.old (source_text_at soft.now place)
         (W.contents writer.new) sheet.new }
 {

@@ -146,8 +146,11 @@ on every machine. If that is not enough to find any, it says so.
 Without RESULT: prints how many variables, hard clauses and soft clauses FILE
 has, and the sum of the weights. If FILE is faulty: prints the faulty line and
 word, and how to correct it. With PROOF, if RESULT is correct: also prints what
-wmax lower prints, and the gap, which is the cost minus that bound. A character
-that would command a terminal is shown as question marks.
+wmax lower prints, and the gap, which is the cost minus that bound. If PROOF is
+of profile 3 and a regular file: also says why, by the form that it ends with:
+which clauses, counts and groups that form takes off the cost, and how often. Of
+more than ten it prints those that it takes off most often. A character that
+would command a terminal is shown as question marks.
 
 Statuses:
    0  the bits are a solution of the cost that RESULT states, or it has no bits

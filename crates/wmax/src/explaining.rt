@@ -6,15 +6,17 @@ ghost use Rattle.wmax.specs.Explaining.{bound_text};
 use crate::arguments::ExplainRequest;
 use crate::checking::show;
 use crate::faults::{Fault, end_output, open, read_whole};
-use crate::lower_bounds::verdict_of;
+use crate::lower_bounds::judge_lower;
 use contradiction::finding::{Finding, find_contradiction};
 use explain::contradicting::{write_contradiction, write_open, write_refuted};
 use explain::explaining::{ExplainFault, write_explanation};
 use explain::judging::{Judgement, judge};
 use explain::mending::write_mending;
+use explain::reasoning::{Reasons, find_reasons, write_reasons};
 use explain::summary::write_summary;
 use lrat_check::lower::LowerVerdict;
 use lrat_check::verdicts::{Cause, Verdict};
+use lrat_cuts::last_form::LastForm;
 use report::fault::RunFault;
 use report::printing::{deliver, fault_code, lower_code, print_fault, print_gap, print_lower};
 use std::alloc::Global;
@@ -23,6 +25,7 @@ use std::rt::Files;
 use text::output::WriteFault;
 use wcnf::faults::{FaultKind, ReadFault};
 use wcnf::reading::read;
+use wmax_onlooker::beginning::Beginning;
 use wmax_onlooker::standard_error::Messages;
 use wmax_onlooker::standard_output::standard_output;
 
@@ -75,35 +78,42 @@ fn explain_three<'a, R: Files + AllocGlobal + Print, E: Write>(
 ) -> Result<u8, Fault<'a>> {
     let mut text = open(rt, text_path)?;
     let mut answer = open(rt, answer_path)?;
-    let mut proof = open(rt, proof_path)?;
+    let mut proof = Certificate {
+        file: Beginning::new(open(rt, proof_path)?),
+        path: proof_path,
+    };
     let text = read_whole(rt, &mut text, text_path)?;
     let answer = read_whole(rt, &mut answer, answer_path)?;
-    match explain_beside(rt, messages, &text, &answer, &mut proof) {
-        Err(Fault::Run(RunFault::Read(fault))) => {
-            Err(Fault::of_file(RunFault::Read(fault), proof_path))
-        }
-        ended => ended,
-    }
+    explain_beside(rt, messages, &text, &answer, &mut proof)
+}
+
+/// A certificate that is open, and where it is.
+#[derive(Drop)]
+struct Certificate<'a, F: Read> {
+    /// The file.
+    file: Beginning<F>,
+    /// Its path.
+    path: &'a str,
 }
 
 /// Prints what a result comes to, and if it is right what the certificate proves by itself. That is
 /// judged first: where memory is refused for it, nothing is printed.
-fn explain_beside<'a, R: AllocGlobal + Print, E: Write, P: Read>(
+fn explain_beside<'a, R: Files + AllocGlobal + Print, E: Write>(
     rt: &R,
     messages: &mut Messages<'_, E>,
     text: &[u8],
     answer: &[u8],
-    proof: &mut P,
+    proof: &mut Certificate<'a, R::File>,
 ) -> Result<u8, Fault<'a>> {
     match judge(rt.alloc(), text, answer) {
         Ok(Judgement::Wrong) => explain_result(rt, messages, text, answer),
         Ok(judgement) => {
-            let verdict = verdict_of(rt, text, proof);
-            if verdict == Err(RunFault::Memory) {
+            let proved = judge_bound(rt, text, proof);
+            if let Err(Fault::Run(RunFault::Memory)) = proved {
                 return Err(Fault::Run(RunFault::Memory));
             }
             match explain_result(rt, messages, text, answer)? {
-                0 => show_bound(rt, verdict, judgement),
+                0 => show_bound(rt, &proved?, judgement),
                 status => Ok(status),
             }
         }
@@ -111,19 +121,80 @@ fn explain_beside<'a, R: AllocGlobal + Print, E: Write, P: Read>(
     }
 }
 
-/// Prints what the certificate proves by itself, and how far the result is from that.
+/// What a certificate proves by itself, and of one of forms and cuts why.
+#[derive(Drop)]
+struct Bound<'t> {
+    /// The verdict on it.
+    verdict: LowerVerdict,
+    /// The facts of the form that it ends with.
+    why: Option<Reasons<'t>>,
+}
+
+/// Judges the certificate. One of forms and cuts is read once more for its form, in memory.
+fn judge_bound<'a, 't, R: Files + AllocGlobal>(
+    rt: &R,
+    text: &'t [u8],
+    proof: &mut Certificate<'a, R::File>,
+) -> Result<Bound<'t>, Fault<'a>> {
+    let lower = judge_lower(rt, text, &mut proof.file, proof.path)?;
+    let why = match lower.verdict {
+        LowerVerdict::No(..) => None,
+        _ if lower.is_by_cuts => read_reasons(rt, text, proof.path)?,
+        _ => None,
+    };
+    Ok(Bound {
+        verdict: lower.verdict,
+        why,
+    })
+}
+
+/// The facts of the form that the certificate at this path ends with.
+fn read_reasons<'a, 't, R: Files + AllocGlobal>(
+    rt: &R,
+    text: &'t [u8],
+    path: &'a str,
+) -> Result<Option<Reasons<'t>>, Fault<'a>> {
+    let mut proof = open(rt, path)?;
+    let proof = read_whole(rt, &mut proof, path)?;
+    let Ok(instance) = read(rt.alloc(), text) else {
+        return Err(Fault::Run(RunFault::Memory));
+    };
+    let last = match LastForm::read(&instance, &proof) {
+        Ok(Some(last)) => last,
+        Ok(None) => return Ok(None),
+        Err(_) => return Err(Fault::Run(RunFault::Memory)),
+    };
+    match find_reasons(rt.alloc(), text, &instance, &last) {
+        Ok(reasons) => Ok(Some(reasons)),
+        Err(_) => Err(Fault::Run(RunFault::Memory)),
+    }
+}
+
+/// Prints what the certificate proves by itself, how far the result is from that, and why.
 fn show_bound<'a, R: Print>(
     rt: &R,
-    verdict: Result<LowerVerdict, RunFault>,
+    bound: &Bound<'_>,
     judgement: Judgement,
 ) -> Result<u8, Fault<'a>> {
-    let verdict = match verdict {
-        Ok(verdict) => verdict,
-        Err(fault) => return Err(Fault::Run(fault)),
-    };
     let mut out = standard_output(rt);
-    let written = deliver(print_bound(&verdict, judgement, &mut out), &mut out);
-    end_output(written.map(|()| lower_code(&verdict)), out.is_closed())
+    let written = deliver(write_bound(bound, judgement, &mut out), &mut out);
+    end_output(
+        written.map(|()| lower_code(&bound.verdict)),
+        out.is_closed(),
+    )
+}
+
+/// Writes what a certificate proves by itself, how far a solution is from that, and why.
+fn write_bound<W: Write>(
+    bound: &Bound<'_>,
+    judgement: Judgement,
+    out: &mut W,
+) -> Result<(), WriteFault> {
+    print_bound(&bound.verdict, judgement, out)?;
+    match &bound.why {
+        Some(reasons) => write_reasons(reasons, out),
+        None => Ok(()),
+    }
 }
 
 /// Writes what a certificate proves by itself, and how far a solution is from that.

@@ -19,8 +19,7 @@ use wmax_onlooker::standard_error::Messages;
 use wmax_onlooker::standard_output::standard_output;
 
 /// Both files are opened before one is read. The certificate is judged while it is read, so none of
-/// it is kept but the clauses that are live. Where it is refused and begins with no core, it is
-/// read again as one of forms and cuts, if it is a regular file.
+/// it is kept but the clauses that are live.
 pub fn lower<'a, R: Files + AllocGlobal + Print, E: Write>(
     rt: &R,
     messages: &mut Messages<'_, E>,
@@ -29,17 +28,50 @@ pub fn lower<'a, R: Files + AllocGlobal + Print, E: Write>(
     let mut text = open(rt, request.text)?;
     let mut proof = Beginning::new(open(rt, request.proof)?);
     let text = read_whole(rt, &mut text, request.text)?;
-    let refused = match verdict_of(rt, &text, &mut proof) {
-        Ok(LowerVerdict::No(cause, line)) => CertificateFault { cause, line },
-        Ok(verdict) => return show_lower(rt, messages, &text, &verdict),
-        Err(fault) => return Err(Fault::of_file(fault, request.proof)),
+    let lower = judge_lower(rt, &text, &mut proof, request.proof)?;
+    show_lower(rt, messages, &text, &lower.verdict)
+}
+
+/// What a certificate proves by itself.
+#[derive(Drop)]
+pub(crate) struct ProvedLower {
+    /// The verdict on it.
+    pub(crate) verdict: LowerVerdict,
+    /// Whether that is the verdict on it as one of forms and cuts.
+    pub(crate) is_by_cuts: bool,
+}
+
+/// Judges the certificate, which is at this path. Where it is refused and begins with no core, it
+/// is read again as one of forms and cuts, if it is a regular file.
+pub(crate) fn judge_lower<'a, R: Files + AllocGlobal>(
+    rt: &R,
+    text: &[u8],
+    proof: &mut Beginning<R::File>,
+    path: &'a str,
+) -> Result<ProvedLower, Fault<'a>>
+    ensures sound { IfOk result (λ l. IsTrueLower text.now l.verdict) }
+{
+    let verdict = match verdict_of(rt, text, proof) {
+        Ok(verdict) => verdict,
+        Err(fault) => return Err(Fault::of_file(fault, path)),
     };
-    let verdict = if begins_with_core(proof.first()) || !is_regular(rt, request.proof) {
-        LowerVerdict::No(refused.cause, refused.line)
-    } else {
-        judge_again(rt, &text, refused, request.proof)?
+    let LowerVerdict::No(cause, line) = verdict else {
+        return Ok(ProvedLower {
+            verdict,
+            is_by_cuts: false,
+        });
     };
-    show_lower(rt, messages, &text, &verdict)
+    if begins_with_core(proof.first()) || !is_regular(rt, path) {
+        return Ok(ProvedLower {
+            verdict: LowerVerdict::No(cause, line),
+            is_by_cuts: false,
+        });
+    }
+    let verdict = judge_again(rt, text, CertificateFault { cause, line }, path)?;
+    Ok(ProvedLower {
+        verdict,
+        is_by_cuts: true,
+    })
 }
 
 /// The verdict on a certificate of forms and cuts, which is read anew, where one with cores was
@@ -94,8 +126,8 @@ fn show_lower<'a, R: Print, E: Write>(
     Ok(status)
 }
 
-/// Judges the certificate.
-pub fn verdict_of<R: AllocGlobal, P: Read>(
+/// Judges the certificate, unless it is one of forms and cuts.
+fn verdict_of<R: AllocGlobal, P: Read>(
     rt: &R,
     text: &[u8],
     proof: &mut P,
