@@ -46,7 +46,7 @@ done
 ends 'with less effort than time' --time-limit 1000 --conflicts 50
 cp "$work/result" "$work/worse"
 ends 'from a solution' --time-limit .3 --from worse
-call solve --time-limit 1e-9 --proof proof hard
+call solve --time-limit 1e-9 --proof proof pigeons
 expect 'at the first look' 0 's UNKNOWN' ''
 call solve --time-limit 0.5 pigeons
 expect 'no solution in time' 0 's UNKNOWN' ''
