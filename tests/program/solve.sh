@@ -145,7 +145,7 @@ for words in '--conflicts 4611686018427387905' '--conflicts x' '--profile 0' '--
     call solve $words text
     ok "refused: $words" [ "$status" = 2 ]
 done
-for words in --time -z; do
+for words in --clock -z; do
     call solve $words 3 text
     ok "unknown: $words" [ "$status$out" = 2 ]
     ok "unknown: $words: no tip to write it behind '--'" [ "$(grep -c . <<< "$err")" = 3 -a -z "$(grep tip <<< "$err")" ]
