@@ -20,7 +20,7 @@ use Rattle.cuts_log.specs.Facts.{IsCountFact, is_worth, no_clause, spelled}
 use Rattle.lrat_cuts.specs.Cuts.{fact_of}
 use Rattle.cuts_log.specs.Stands.{TakesWord, with_clause, with_clauses}
 
-made_of : (line : Result Made LineFault) (old mid : Forms) (made : List (List Literal))
+pub made_of : (line : Result Made LineFault) (old mid : Forms) (made : List (List Literal))
     (fault : Option LineFault) → IsMade line old mid made fault → is_some fault ≡ false
     → line ≡ Ok (record { forms = mid; clauses = made })
 made_of line old mid made None h e = h

@@ -1,6 +1,6 @@
 -- The lines of a log are judged one after the other.
-use Rattle.std.proofs.Common.{◌≡◌, ℕ, ◌+◌, ◌≤◌, false, List, [], ◌∷◌, map, Some, Ok, refl, sym, ◌∙◌}
-use Rattle.std.proofs.Common.{ap}
+use Rattle.std.proofs.Common.{◌≡◌, ℕ, ◌+◌, false, List, [], ◌∷◌, map, Some, Ok, refl, sym, ◌∙◌}
+use Rattle.std.proofs.Common.{ap, Option}
 use Rattle.cnf.specs.Problem.{Problem}
 use Rattle.bound.specs.Weighted.{weighted_cnf, weights_of}
 use Rattle.forms.specs.Forms.{forms_of}
@@ -11,50 +11,52 @@ use Rattle.lrat_read.specs.WordTokens.{word_tokens}
 use Rattle.lrat_cuts.specs.Cuts.{CutsState, cuts_start, judged_line, judged_lines}
 use Rattle.cuts_log.specs.declared.standing.Standing.{Standing}
 use Rattle.cuts_log.specs.Events.{Event, Plain, Word, tokens_at, tokens_on}
-use Rattle.cuts_log.specs.Judging.{ArePlainRight}
+use Rattle.cuts_log.specs.Judging.{ArePlainRight, IsUpTo, LogsAreRight}
 use Rattle.cuts_log.specs.Logs.{IsKept, LogState, events_of, problem_of}
 use Rattle.cuts_log.specs.Stands.{TakesAll, stand_of, with_line}
-use Rattle.cuts_log.proofs.JudgedWords.{put_all-stands, stands_as, taken_judged}
+use Rattle.cuts_log.proofs.JudgedWords.{put_all-stands, stands_as, taken_told}
 
 -- what lines come to, where the checker stands at first as the log did
-abbrev AreJudged : ℕ → ℕ → ℕ → ℕ → CutsState → List Event → Standing → Type 0
-AreJudged k base before n s es new = (t : CutsState)
-    × (judged_lines (Some k) s n (tokens_on base before es) ≡ Ok t) × (stands_as t ≡ new)
+abbrev AreJudged : Option ℕ → ℕ → ℕ → ℕ → CutsState → List Event → Standing → Type 0
+AreJudged o base before n s es new = (t : CutsState)
+    × (judged_lines o s n (tokens_on base before es) ≡ Ok t) × (stands_as t ≡ new)
 
 pub pair : (a b : Standing) → a.forms ≡ b.forms → a.ended ≡ b.ended → a ≡ b
 pair a b f g = λ i. record { forms = f i; ended = g i }
 
-next_line : (k n : ℕ) (s t u : CutsState) (ts : List (List ℕ)) (more : List (List (List ℕ)))
-    → judged_line (Some k) s ts ≡ Ok t → judged_lines (Some k) t (n + 1) more ≡ Ok u
-    → judged_lines (Some k) s n (ts ∷ more) ≡ Ok u
-next_line k n s t u ts more e f = rw e f
+pub next_line : (o : Option ℕ) (n : ℕ) (s t u : CutsState) (ts : List (List ℕ))
+    (more : List (List (List ℕ)))
+    → judged_line o s ts ≡ Ok t → judged_lines o t (n + 1) more ≡ Ok u
+    → judged_lines o s n (ts ∷ more) ≡ Ok u
+next_line o n s t u ts more e f = rw e f
 
-lines_judged : (k cost base before n : ℕ) → k ≤ cost → (s : CutsState) (old new : Standing)
+lines_judged : (o : Option ℕ) (cost base before n : ℕ) → IsUpTo cost o
+    → (s : CutsState) (old new : Standing)
     (es : List Event) → stands_as s ≡ old → TakesAll cost old es new
-    → ArePlainRight k base before s es → AreJudged k base before n s es new
-lines_judged k cost base before n le s old new [] e h p = (s, refl, e ∙ sym h)
-lines_judged k cost base before n le s old new (Plain l ∷ es) e h p =
+    → ArePlainRight o base before s es → AreJudged o base before n s es new
+lines_judged o cost base before n up s old new [] e h p = (s, refl, e ∙ sym h)
+lines_judged o cost base before n up s old new (Plain l ∷ es) e h p =
     let t = p.0 in
     let same : stands_as t ≡ h.0 = pair (stands_as t) (with_line l (stands_as s)) p.1.forms
     p.1.ended
     ∙ ap (with_line l) e ∙ sym h.1.2 in
-    let rest = lines_judged k cost base (before + added_count (l ∷ [])) (n + 1) le t h.0 new es same
+    let rest = lines_judged o cost base (before + added_count (l ∷ [])) (n + 1) up t h.0 new es same
     h.2 p.2 in (
       rest.0,
-      next_line k n s t rest.0 (tokens_at base before (Plain l))
+      next_line o n s t rest.0 (tokens_at base before (Plain l))
           (tokens_on base (before + added_count (l ∷ [])) es) p.1.judged rest.1,
       rest.2,
     )
-lines_judged k cost base before n le s old new (Word w made ∷ es) e h p =
-    let j = taken_judged k cost le s old h.0 w made (ap (λ (x : Standing). x.forms) e)
+lines_judged o cost base before n up s old new (Word w made ∷ es) e h p =
+    let j = taken_told o cost up s old h.0 w made (ap (λ (x : Standing). x.forms) e)
     (ap (λ (x : Standing). x.ended) e) h.1 in
     let t = j.0 in
     let same : stands_as t ≡ h.0 = pair (stands_as t) h.0 j.2.forms j.2.ended in
-    let rest = lines_judged k cost base (before + added_count (map axiom_line made)) (n + 1) le t
+    let rest = lines_judged o cost base (before + added_count (map axiom_line made)) (n + 1) up t
     h.0
     new es same h.2 (p t j.1) in (
       rest.0,
-      next_line k n s t rest.0 (word_tokens w)
+      next_line o n s t rest.0 (word_tokens w)
           (tokens_on base (before + added_count (map axiom_line made)) es) j.1 rest.1,
       rest.2,
     )
@@ -73,13 +75,17 @@ start_stands p =
     ap (λ (x : Standing). record x { ended = false }) (put_all-stands (weighted_cnf p).clauses
     blank)
 
-pub logs_judged : (l : LogState) (k : ℕ) → IsKept l → (l.book).failed ≡ false → k ≤ l.cost
-    → ArePlainRight k (l.book).base 0 (cuts_start (problem_of l)) (events_of l)
-    → (t : CutsState) × (judged_lines (Some k) (cuts_start (problem_of l)) 1
+pub log_judged : (o : Option ℕ) (l : LogState) → IsKept l → (l.book).failed ≡ false
+    → IsUpTo l.cost o
+    → ArePlainRight o (l.book).base 0 (cuts_start (problem_of l)) (events_of l)
+    → (t : CutsState) × (judged_lines o (cuts_start (problem_of l)) 1
     (tokens_on (l.book).base 0 (events_of l)) ≡ Ok t)
     × (t.forms ≡ (l.standing).forms) × (t.ended ≡ (l.standing).ended)
-logs_judged l k h works le p =
-    let j = lines_judged k l.cost (l.book).base 0 1 le (cuts_start (problem_of l))
+log_judged o l h works up p =
+    let j = lines_judged o l.cost (l.book).base 0 1 up (cuts_start (problem_of l))
     (stand_of (problem_of l)) h.left (events_of l) (start_stands (problem_of l)) h.taken p in
     let same = j.2 ∙ sym (h.standing works) in
     (j.0, j.1, ap (λ (x : Standing). x.forms) same, ap (λ (x : Standing). x.ended) same)
+
+pub logs_judged : LogsAreRight
+logs_judged l k h works le p = log_judged (Some k) l h works le p

@@ -38,28 +38,29 @@ pub record Matches (es : Listed) (last : ℕ) (live : Live) : Type 0 where
   pub in_range : (i : ℕ) (c : List Literal) → live.clause_at i ≡ Some c → (0 < i) × (i ≤ last)
 
 -- a line that begins with no word
-abbrev on_word : ℕ → CutsState → List (List ℕ) → List ℕ → Option Word → Result CutsState Cause
-on_word k s us t None = judged_plain (line_of (t ∷ us)) s
-on_word k s us t (Some w) = judged_word (Some k) (after_word w us) s
-
-abbrev said_by : ℕ → CutsState → List (List ℕ) → List ℕ → Option Word → Bool
+abbrev on_word : Option ℕ → CutsState → List (List ℕ) → List ℕ → Option Word
     → Result CutsState Cause
-said_by k s us t word ended = if ended then Err TrailingLine else on_word k s us t word
+on_word o s us t None = judged_plain (line_of (t ∷ us)) s
+on_word o s us t (Some w) = judged_word o (after_word w us) s
+
+abbrev said_by : Option ℕ → CutsState → List (List ℕ) → List ℕ → Option Word → Bool
+    → Result CutsState Cause
+said_by o s us t word ended = if ended then Err TrailingLine else on_word o s us t word
 
 abbrev line_by : List (List ℕ) → Option Word → Option (Option WordLine)
 line_by us None = None
 line_by us (Some w) = Some (after_word w us)
 
-plain_line : (k : ℕ) (s : CutsState) (ts : List (List ℕ)) (p : Parsed) → line_of ts ≡ p
-    → (p ≡ Malformed → ⊥) → s.ended ≡ false → judged_line (Some k) s ts ≡ judged_plain p s
-plain_line k s [] p e n open_end = absurd (n (sym e))
-plain_line k s (t ∷ us) p e n open_end =
+plain_line : (o : Option ℕ) (s : CutsState) (ts : List (List ℕ)) (p : Parsed) → line_of ts ≡ p
+    → (p ≡ Malformed → ⊥) → s.ended ≡ false → judged_line o s ts ≡ judged_plain p s
+plain_line o s [] p e n open_end = absurd (n (sym e))
+plain_line o s (t ∷ us) p e n open_end =
     let none : word_of t ≡ None =
     elim (word_of t) as (λ o. line_by us o ≡ None → o ≡ None) [
       | None ↦ λ e. refl
       | Some w ↦ λ e. absurd (cc)
     ] (parsed_no_word (t ∷ us) (λ z. n (sym e ∙ z))) in
-    ap (λ o. said_by k s us t o s.ended) none ∙ ap (said_by k s us t None) open_end
+    ap (λ x. said_by o s us t x s.ended) none ∙ ap (said_by o s us t None) open_end
     ∙ ap (λ x. judged_plain x s) e
 
 -- the hints of an addition end in a conflict
@@ -77,16 +78,16 @@ rup_none s live id c hs m a none r =
     let small = small_none c a.small in
     rw (above, repeats, tautology, small, ends, none) refl
 
-pub addition_judged : (k : ℕ) (s : CutsState) (live : Live) (id : ℕ) (c : List Literal)
+pub addition_judged : (o : Option ℕ) (s : CutsState) (live : Live) (id : ℕ) (c : List Literal)
     (hints : List ℕ) → Matches s.live s.last live → s.ended ≡ false → IsAddable live id c
     → Refutes live.clause_at (map negation c) hints → HasNumbers (Addition id c hints [])
-    → judged_line (Some k) s (line_tokens (Addition id c hints [])) ≡ Ok (put id c s)
-addition_judged k s live id c hints m open_end a r numbers =
+    → judged_line o s (line_tokens (Addition id c hints [])) ≡ Ok (put id c s)
+addition_judged o s live id c hints m open_end a r numbers =
     let hs = signed_hints hints [] in
     let refutes = subst (Refutes live.clause_at (map negation c))
     (sym (leading-signed_hints hints [])) r in
     let fault = rup_none s live id c hs m a (groups_of-signed_hints hints []) refutes in
-    plain_line k s (line_tokens (Addition id c hints [])) (ParsedAddition id c hs)
+    plain_line o s (line_tokens (Addition id c hints [])) (ParsedAddition id c hs)
     (line_read (Addition id c hints []) numbers) (λ z. absurd (cc)) open_end ∙ rw fault refl
 
 pub matches_put : (es : Listed) (last : ℕ) (live : Live) (id : ℕ) (c : List Literal)
@@ -176,16 +177,16 @@ live_some s live [] m h = tt
 live_some s live (i ∷ is) m h =
     (subst (λ o. IsSome o) (sym (m.clauses i ∙ h.0.1)) refl, live_some s live is m h.1)
 
-pub deletion_judged : (k : ℕ) (s : CutsState) (live : Live) (lead : ℕ) (ids : List ℕ)
+pub deletion_judged : (o : Option ℕ) (s : CutsState) (live : Live) (lead : ℕ) (ids : List ℕ)
     → Matches s.live s.last live → s.ended ≡ false → IsDistinct nat_eq ids
     → AllByRecursion (λ i. (c : List Literal) × (live.clause_at i ≡ Some c)) ids
     → HasNumbers (Deletion lead ids)
-    → (es : Listed) × (judged_line (Some k) s (line_tokens (Deletion lead ids))
+    → (es : Listed) × (judged_line o s (line_tokens (Deletion lead ids))
     ≡ Ok (record s { live = es })) × Matches es s.last (without_ids live ids)
-deletion_judged k s live lead ids m open_end distinct alive numbers =
+deletion_judged o s live lead ids m open_end distinct alive numbers =
     let g = leaves ids s.live distinct (live_some s live ids m alive) in
     let gone = g.1.deleted in
-    let line = plain_line k s (line_tokens (Deletion lead ids)) (ParsedDeletion ids)
+    let line = plain_line o s (line_tokens (Deletion lead ids)) (ParsedDeletion ids)
     (line_read (Deletion lead ids) numbers) (λ z. absurd (cc)) open_end in (
       g.0,
       line ∙ rw gone refl,

@@ -24,11 +24,12 @@ use Rattle.lrat_cuts.specs.Cuts.{CutsState, cuts_start, judged_lines, put_all}
 use Rattle.lrat_cuts.proofs.Laws.{put_all-last, put_all-live}
 use Rattle.cuts_log.specs.Events.{lines_of, tokens_on}
 use Rattle.std.proofs.lemmas.Option.{slice_get_within}
-use Rattle.std.proofs.Common.{◌<◌}
+use Rattle.std.proofs.Common.{◌<◌, Option}
 use Rattle.cuts_log.specs.Books.{IsBook}
+use Rattle.cuts_log.specs.Judging.{IsUpTo, StepsAreRight}
 use Rattle.cuts_log.specs.Logs.{IsKept, LogState, events_of, problem_of}
 use Rattle.cuts_log.specs.Stands.{stand_of}
-use Rattle.cuts_log.proofs.JudgedLogs.{logs_judged, start_stands}
+use Rattle.cuts_log.proofs.JudgedLogs.{log_judged, start_stands}
 use Rattle.cuts_log.proofs.JudgedPlain.{Matches}
 use Rattle.cuts_log.proofs.JudgedSteps.{Stands, follow_on, steps_right}
 
@@ -84,15 +85,15 @@ start_matches p =
 start_last : (p : Problem) → (cuts_start p).last ≡ length (weighted_cnf p).clauses
 start_last p = (start_matches p).last_is
 
-pub steps_judged : (l : LogState) (k : ℕ) → IsKept l → IsBook l.book → (l.book).failed ≡ false
-    → k ≤ l.cost
+-- the checker before the lines of a log
+pub start_right : (l : LogState) → IsKept l → IsBook l.book → (l.book).failed ≡ false
     → IsOpenLogOver (given_of (weighted_cnf (problem_of l)).clauses) (lines_of (events_of l))
     → FollowByRup (given_of (weighted_cnf (problem_of l)).clauses) (l.book).base []
     (lines_of (events_of l))
-    → (t : CutsState) × (judged_lines (Some k) (cuts_start (problem_of l)) 1
-    (tokens_on (l.book).base 0 (events_of l)) ≡ Ok t)
-    × (t.forms ≡ (l.standing).forms) × (t.ended ≡ (l.standing).ended)
-steps_judged l k h book works le log follows =
+    → Stands (l.book).base 0 (cuts_start (problem_of l))
+    (start_over (given_of (weighted_cnf (problem_of l)).clauses) (l.book).base)
+    (lines_of (events_of l))
+start_right l h book works log follows =
     let p = problem_of l in
     let cs = (weighted_cnf p).clauses in
     let given = given_of cs in
@@ -101,8 +102,7 @@ steps_judged l k h book works le log follows =
     let size : base ≡ length cs = h.base in
     let above = base_of cs base (omega arith) in
     let matches = subst (λ n. Matches (cuts_start p).live (cuts_start p).last (start_over given n))
-    (sym size) (start_matches p) in
-    let st : Stands base 0 (cuts_start p) (start_over given base) ls = record {
+    (sym size) (start_matches p) in record {
       lines = record {
         matches = matches;
         last_is = omega (arith, start_last p);
@@ -113,6 +113,23 @@ steps_judged l k h book works le log follows =
         room = omega (arith, book.small, book.short, book.lines works);
       };
       ended = λ e. absurd (cc);
-    } in
-    logs_judged l k h works le (steps_right k l.cost base 0 le (cuts_start p) (stand_of p) h.left
-    (events_of l) (start_over given base) (start_stands p) h.taken st)
+    }
+
+pub step_judged : (o : Option ℕ) (l : LogState) → IsKept l → IsBook l.book
+    → (l.book).failed ≡ false → IsUpTo l.cost o
+    → IsOpenLogOver (given_of (weighted_cnf (problem_of l)).clauses) (lines_of (events_of l))
+    → FollowByRup (given_of (weighted_cnf (problem_of l)).clauses) (l.book).base []
+    (lines_of (events_of l))
+    → (t : CutsState) × (judged_lines o (cuts_start (problem_of l)) 1
+    (tokens_on (l.book).base 0 (events_of l)) ≡ Ok t)
+    × (t.forms ≡ (l.standing).forms) × (t.ended ≡ (l.standing).ended)
+step_judged o l h book works up log follows =
+    let p = problem_of l in
+    let base = (l.book).base in
+    let start = start_over (given_of (weighted_cnf p).clauses) base in
+    log_judged o l h works up (steps_right o l.cost base 0 up (cuts_start p) (stand_of p) h.left
+    (events_of l) start (start_stands p) h.taken (start_right l h book works log follows))
+
+pub steps_judged : StepsAreRight
+steps_judged l k h book works le log follows =
+    step_judged (Some k) l h book works le log follows

@@ -1,10 +1,10 @@
 -- The additions and deletions of a log are judged right, where they are steps apart from clauses
 -- from outside, and follow by their hints alone.
-use Rattle.std.proofs.Common.{◌≡◌, ℕ, ◌+◌, ◌≤◌, Bool, true, false, not, List, [], ◌∷◌, ◌++◌, length}
+use Rattle.std.proofs.Common.{◌≡◌, ℕ, ◌+◌, Bool, true, false, not, List, [], ◌∷◌, ◌++◌, length}
 use Rattle.std.proofs.Common.{map}
 use Rattle.std.proofs.Common.{Some, Result, Ok, refl, sym, ◌∙◌, ap, subst, arith, inl, inr}
 use Rattle.std.proofs.Common.{append_assoc}
-use Rattle.std.proofs.Common.{append-nil, ◌&&◌}
+use Rattle.std.proofs.Common.{append-nil, ◌&&◌, Option}
 use Rattle.std.specs.Prelude.{if◌then◌else◌}
 use Rattle.std.specs.List.{AllByRecursion}
 use Rattle.std.proofs.lemmas.Bool.{both_ways, cases_Bool, cond-false, cond-true}
@@ -32,12 +32,16 @@ use Rattle.std.proofs.lemmas.List.Elements.{All-from_recursion, All-nil}
 use Rattle.std.proofs.Common.{◌<◌}
 use Rattle.cuts_log.specs.declared.standing.Standing.{Standing}
 use Rattle.cuts_log.specs.Events.{Event, Plain, Word, lines_of}
-use Rattle.cuts_log.specs.Judging.{ArePlainRight, Follows, IsRightPlain}
-use Rattle.cuts_log.specs.Stands.{TakesAll, with_clause as with_one, with_clauses, with_line}
+use Rattle.cuts_log.specs.Judging.{ArePlainRight, Follows, IsRightPlain, IsUpTo}
+use Rattle.lrat_read.specs.Words.{WordLine}
+use Rattle.lrat_read.specs.WordTokens.{word_tokens}
+use Rattle.cuts_log.specs.Stands.{TakesAll, TakesWord, with_clause as with_one, with_clauses}
+use Rattle.cuts_log.specs.Stands.{with_line}
 use Rattle.cuts_log.proofs.JudgedPlain.{Matches, addition_judged, deletion_judged, matches_put}
 use Rattle.cuts_log.proofs.EventLines.{added_axioms}
 use Rattle.cuts_log.proofs.JudgedLogs.{pair}
-use Rattle.cuts_log.proofs.JudgedWords.{stands_as, taken_judged}
+use Rattle.cuts_log.proofs.JudgedWords.{stands_as, taken_told}
+use Rattle.cuts_log.proofs.Worths.{Rises, Tells, put_rises, rises_same}
 use Rattle.forms.specs.Forms.{Forms}
 use Rattle.lrat_machine.specs.declared.verdicts.Cause.{Cause}
 
@@ -98,21 +102,25 @@ open_end true l ls h = let none = h refl in absurd (cc)
 open_end false l ls h = refl
 
 -- no line follows the empty clause
-ends_at : (l : LogLine) (ls : List LogLine) → StopsAtEmptyClause (l ∷ ls)
+pub ends_at : (l : LogLine) (ls : List LogLine) → StopsAtEmptyClause (l ∷ ls)
     → adds_empty_clause l ≡ true → ls ≡ []
 ends_at l [] h e = refl
 ends_at l (k ∷ ls) h e = absurd (both_ways _ h.0 e)
 
-stops_on : (l : LogLine) (ls : List LogLine) → StopsAtEmptyClause (l ∷ ls) → StopsAtEmptyClause ls
+pub stops_on : (l : LogLine) (ls : List LogLine) → StopsAtEmptyClause (l ∷ ls)
+    → StopsAtEmptyClause ls
 stops_on l [] h = tt
 stops_on l (k ∷ ls) h = h.1
 
 -- the line is judged, and what is left stands behind it
-record Goes (k base before : ℕ) (s : CutsState) (l : LogLine) (ls : List LogLine) : Type 0 where
-  next : CutsState
-  right : IsRightPlain k base before s l next
-  live : Live
-  stands : Stands base (after_line l before) next live ls
+pub record Goes (o : Option ℕ) (base before : ℕ) (s : CutsState) (l : LogLine)
+    (ls : List LogLine) : Type 0 where
+  pub next : CutsState
+  pub right : IsRightPlain o base before s l next
+  pub numbers : HasNumbers (numbered_line base before l)
+  pub rises : (cost : ℕ) → Rises cost s next
+  pub live : Live
+  pub stands : Stands base (after_line l before) next live ls
 
 step_as : (base before : ℕ) (old new : Live) (l : LogLine) (x : ProofLine)
     → numbered_line base before l ≡ x → is_axiom l.kind ≡ false
@@ -149,11 +157,12 @@ refutes_alive at A hs r = subst (AreAlive at) (sym r.split)
 abbrev ids_in : ℕ → LogLine → List ℕ
 ids_in base l = map (λ h. id_of base (name_of h)) l.hints
 
-deletes_on : (k base before : ℕ) (s : CutsState) (live : Live) (l : LogLine) (ls : List LogLine)
+deletes_on : (o : Option ℕ) (base before : ℕ) (s : CutsState) (live : Live) (l : LogLine)
+    (ls : List LogLine)
     → IsLine l → is_axiom l.kind ≡ false → is_delete l.kind ≡ true
     → Stands base before s live (l ∷ ls)
-    → Goes k base before s l ls
-deletes_on k base before s live l ls line own d st =
+    → Goes o base before s l ls
+deletes_on o base before s live l ls line own d st =
     let h = st.lines in
     let ids = ids_in base l in
     let gone = without_ids live ids in
@@ -170,18 +179,20 @@ deletes_on k base before s live l ls line own d st =
           (omega (arith, h.last_is))
           step.1),
     ) in
-    let j = deletion_judged k s live (base + before) ids h.matches open_now step.0 step.1 numbers in
+    let j = deletion_judged o s live (base + before) ids h.matches open_now step.0 step.1 numbers in
     let live_is : live_next base before l live ≡ gone = ap (λ x. live_after live (x ∷ [])) is in
     let stand : Standing = record { forms = s.forms; ended = s.ended } in
     let kept : with_line l stand ≡ stand = cond-true (is_delete l.kind) _ _ d in
     record {
       next = record s { live = j.0 };
       right = record {
-        judged = subst (λ x. judged_line (Some k) s (line_tokens x)
+        judged = subst (λ x. judged_line o s (line_tokens x)
             ≡ Ok (record s { live = j.0 })) (sym is) j.1;
         forms = sym (ap (λ (x : Standing). x.forms) kept);
         ended = sym (ap (λ (x : Standing). x.ended) kept);
       };
+      numbers = subst HasNumbers (sym is) numbers;
+      rises = λ cost. rises_same cost s;
       live = live_next base before l live;
       stands = record {
         lines = record {
@@ -198,11 +209,12 @@ deletes_on k base before s live l ls line own d st =
       };
     }
 
-adds_on : (k base before : ℕ) (s : CutsState) (live : Live) (l : LogLine) (ls : List LogLine)
+adds_on : (o : Option ℕ) (base before : ℕ) (s : CutsState) (live : Live) (l : LogLine)
+    (ls : List LogLine)
     → IsLine l → is_axiom l.kind ≡ false → is_delete l.kind ≡ false
     → Stands base before s live (l ∷ ls)
-    → Goes k base before s l ls
-adds_on k base before s live l ls line own d st =
+    → Goes o base before s l ls
+adds_on o base before s live l ls line own d st =
     let h = st.lines in
     let id = base + before + 1 in
     let c = l.clause in
@@ -224,17 +236,19 @@ adds_on k base before s live l ls line own d st =
           (omega (arith, h.last_is)) alive),
       All-nil _,
     ) in
-    let j = addition_judged k s live id c hints h.matches open_now step.0 rup.1 numbers in
+    let j = addition_judged o s live id c hints h.matches open_now step.0 rup.1 numbers in
     let live_is : live_next base before l live ≡ come = ap (λ x. live_after live (x ∷ [])) is in
     let stand : Standing = record { forms = s.forms; ended = s.ended } in
     let kept : with_line l stand ≡ with_one c stand = cond-false (is_delete l.kind) _ _ d in
     record {
       next = put id c s;
       right = record {
-        judged = subst (λ x. judged_line (Some k) s (line_tokens x) ≡ Ok (put id c s)) (sym is) j;
+        judged = subst (λ x. judged_line o s (line_tokens x) ≡ Ok (put id c s)) (sym is) j;
         forms = sym (ap (λ (x : Standing). x.forms) kept);
         ended = sym (ap (λ (x : Standing). x.ended) kept);
       };
+      numbers = subst HasNumbers (sym is) numbers;
+      rises = λ cost. put_rises cost id c s;
       live = live_next base before l live;
       stands = record {
         lines = record {
@@ -252,13 +266,14 @@ adds_on k base before s live l ls line own d st =
       };
     }
 
-plain_on : (k base before : ℕ) (s : CutsState) (live : Live) (l : LogLine) (ls : List LogLine)
+pub plain_on : (o : Option ℕ) (base before : ℕ) (s : CutsState) (live : Live) (l : LogLine)
+    (ls : List LogLine)
     → IsLine l → is_axiom l.kind ≡ false → Stands base before s live (l ∷ ls)
-    → Goes k base before s l ls
-plain_on k base before s live l ls line own st =
+    → Goes o base before s l ls
+plain_on o base before s live l ls line own st =
     elim (cases_Bool (is_delete l.kind)) [
-      | inl d ↦ deletes_on k base before s live l ls line own d st
-      | inr d ↦ adds_on k base before s live l ls line own d st
+      | inl d ↦ deletes_on o base before s live l ls line own d st
+      | inr d ↦ adds_on o base before s live l ls line own d st
     ]
 
 -- clauses from outside
@@ -317,8 +332,7 @@ stops_end [] s ls n h e = absurd (both_ways _ n e)
 stops_end (c ∷ []) s ls n h e = ends_at (axiom_line c) ls h e
 stops_end (c ∷ d ∷ cs) s ls n h e = stops_end (d ∷ cs) (with_one c s) ls h.0 h.1 e
 
--- all lines of a log
-count_one : (before : ℕ) (l : LogLine) → after_line l before ≡ before + added_count (l ∷ [])
+pub count_one : (before : ℕ) (l : LogLine) → after_line l before ≡ before + added_count (l ∷ [])
 count_one before l =
     let one : added_count (l ∷ []) ≡ (if not (is_delete l.kind) then 1 else 0) =
     additions_push [] l ∙ omega arith in
@@ -330,7 +344,7 @@ ok_same a b h = cc
 same_ok : (a b : CutsState) (r : Result CutsState Cause) → r ≡ Ok a → r ≡ Ok b → a ≡ b
 same_ok a b r e f = ok_same a b (sym e ∙ f)
 
--- the checker behind a word
+-- what is left behind a word
 word_on : (base before : ℕ) (s t : CutsState) (live : Live) (made : List (List Literal))
     (new : Standing) (es : List Event) (middle : Forms)
     → new ≡ with_clauses made (record { forms = middle; ended = false }) → Follows s made new t
@@ -352,28 +366,58 @@ word_on base before s t live made new es middle is f st =
       },
     )
 
-pub steps_right : (k cost base before : ℕ) → k ≤ cost → (s : CutsState) (old new : Standing)
-    (es : List Event) (live : Live) → stands_as s ≡ old → TakesAll cost old es new
-    → Stands base before s live (lines_of es) → ArePlainRight k base before s es
-steps_right k cost base before le s old new [] live same h st = tt
-steps_right k cost base before le s old new (Plain l ∷ es) live same h st =
-    let g = plain_on k base before s live l (lines_of es) h.1.0 h.1.1 st in
-    let next : stands_as g.next ≡ h.0 =
+-- a line of a log is taken, and then the checker stands as the log does
+pub goes_same : (o : Option ℕ) (base before : ℕ) (s : CutsState) (l : LogLine) (ls : List LogLine)
+    (old new : Standing) → (g : Goes o base before s l ls) → stands_as s ≡ old
+    → new ≡ with_line l old → stands_as g.next ≡ new
+goes_same o base before s l ls old new g same is =
     pair (stands_as g.next) (with_line l (stands_as s)) g.right.forms g.right.ended
-    ∙ ap (with_line l) same ∙ sym h.1.2 in
-    let rest = steps_right k cost base (after_line l before) le g.next h.0 new es g.live next h.2
-    g.stands
-    in (g.next, g.right, subst (λ n. ArePlainRight k base n g.next es) (count_one before l) rest)
-steps_right k cost base before le s old new (Word w made ∷ es) live same h st = λ t e.
-    let w_taken = h.1 in
-    let j = taken_judged k cost le s old h.0 w made (ap (λ (x : Standing). x.forms) same)
-    (ap (λ (x : Standing). x.ended) same) w_taken in
-    let is : j.0 ≡ t = same_ok j.0 t _ j.1 e in
-    let f = subst (λ (x : CutsState). Follows s made h.0 x) is j.2 in
-    let clauses = w_taken.clauses
-    ∙ ap (λ b. with_clauses made (record { forms = w_taken.middle; ended = b })) w_taken.open_end in
-    let g = word_on base before s t live made h.0 es w_taken.middle clauses f st in
-    let next : stands_as t ≡ h.0 = pair (stands_as t) h.0 f.forms f.ended in
-    steps_right k cost base (before + added_count (map axiom_line made)) le t h.0 new es g.0 next
-    h.2
-    g.1
+    ∙ ap (with_line l) same ∙ sym is
+
+-- the checker behind a word
+pub record Says (o : Option ℕ) (cost base before : ℕ) (s : CutsState) (w : WordLine)
+    (made : List (List Literal)) (new : Standing) (es : List Event) : Type 0 where
+  pub next : CutsState
+  pub judged : judged_line o s (word_tokens w) ≡ Ok next
+  pub same : stands_as next ≡ new
+  pub tells : Tells cost s w next
+  pub live : Live
+  pub stands : Stands base (before + added_count (map axiom_line made)) next live (lines_of es)
+
+pub word_says : (o : Option ℕ) (cost base before : ℕ) → IsUpTo cost o
+    → (s : CutsState) (old new : Standing)
+    (w : WordLine) (made : List (List Literal)) (es : List Event) (live : Live)
+    → stands_as s ≡ old → TakesWord cost old w made new
+    → Stands base before s live (map axiom_line made ++ lines_of es)
+    → Says o cost base before s w made new es
+word_says o cost base before up s old new w made es live same h st =
+    let j = taken_told o cost up s old new w made (ap (λ (x : Standing). x.forms) same)
+    (ap (λ (x : Standing). x.ended) same) h in
+    let clauses = h.clauses
+    ∙ ap (λ b. with_clauses made (record { forms = h.middle; ended = b })) h.open_end in
+    let g = word_on base before s j.0 live made new es h.middle clauses j.2 st in record {
+      next = j.0;
+      judged = j.1;
+      same = pair (stands_as j.0) new j.2.forms j.2.ended;
+      tells = j.3;
+      live = g.0;
+      stands = g.1;
+    }
+
+-- all lines of a log
+pub steps_right : (o : Option ℕ) (cost base before : ℕ) → IsUpTo cost o
+    → (s : CutsState) (old new : Standing)
+    (es : List Event) (live : Live) → stands_as s ≡ old → TakesAll cost old es new
+    → Stands base before s live (lines_of es) → ArePlainRight o base before s es
+steps_right o cost base before up s old new [] live same h st = tt
+steps_right o cost base before up s old new (Plain l ∷ es) live same h st =
+    let g = plain_on o base before s live l (lines_of es) h.1.0 h.1.1 st in
+    let next = goes_same o base before s l (lines_of es) old h.0 g same h.1.2 in
+    let rest = steps_right o cost base (after_line l before) up g.next h.0 new es g.live next h.2
+    g.stands in
+    (g.next, g.right, subst (λ n. ArePlainRight o base n g.next es) (count_one before l) rest)
+steps_right o cost base before up s old new (Word w made ∷ es) live same h st = λ t e.
+    let after = before + added_count (map axiom_line made) in
+    let g = word_says o cost base before up s old h.0 w made es live same h.1 st in
+    subst (λ x. ArePlainRight o base after x es) (same_ok g.next t _ g.judged e)
+    (steps_right o cost base after up g.next h.0 new es g.live g.same h.2 g.stands)

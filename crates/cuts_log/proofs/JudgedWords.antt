@@ -27,8 +27,9 @@ use Rattle.lrat_cuts.specs.Cuts.{CutsState, judged_line, judged_word, put, put_a
 use Rattle.cuts_log.specs.declared.standing.Standing.{Standing}
 use Rattle.cuts_log.specs.Facts.{no_clause}
 use Rattle.lrat_cuts.specs.Cuts.{fact_of}
-use Rattle.cuts_log.specs.Judging.{Follows}
+use Rattle.cuts_log.specs.Judging.{Follows, IsUpTo, WordsAreRight}
 use Rattle.cuts_log.specs.Stands.{IsRightWord, TakesWord, with_clauses}
+use Rattle.cuts_log.proofs.Worths.{Tells, put_all_rises, put_rises, rises_same, taken_up}
 
 abbrev pub stands_as : CutsState → Standing
 stands_as s = record { forms = s.forms; ended = s.ended }
@@ -101,30 +102,42 @@ follows s middle worth proved made new e =
       ended = ap (λ (x : Standing). x.ended) same;
     }
 
-abbrev Judged : ℕ → CutsState → WordLine → List (List Literal) → Standing → Type 0
-Judged k s w made new =
-    (t : CutsState) × (judged_word (Some k) (Some w) s ≡ Ok t) × Follows s made new t
+abbrev Judged : Option ℕ → ℕ → CutsState → WordLine → List (List Literal) → Standing → Type 0
+Judged o cost s w made new =
+    (t : CutsState) × (judged_word o (Some w) s ≡ Ok t) × Follows s made new t × Tells cost s w t
 
 le_true : (a b : ℕ) → a ≤ b → nat_le a b ≡ true
 le_true a b h = le-leb a b h
 
-word_judged : (k cost : ℕ) → k ≤ cost → (s : CutsState) (new : Standing) (w : WordLine)
+word_judged : (o : Option ℕ) (cost : ℕ) → IsUpTo cost o → (s : CutsState) (new : Standing)
+    (w : WordLine)
     (made : List (List Literal)) (middle : Forms) → IsRightWord cost s.forms w made middle
-    → new ≡ with_clauses made (record { forms = middle; ended = s.ended }) → Judged k s w made new
-word_judged k cost le s new (CountLine outputs inputs) made middle right e =
-    let line : judged_word (Some k) (Some (CountLine outputs inputs)) s
+    → new ≡ with_clauses made (record { forms = middle; ended = s.ended })
+    → Judged o cost s w made new
+word_judged o cost up s new (CountLine outputs inputs) made middle right e =
+    let line : judged_word o (Some (CountLine outputs inputs)) s
     ≡ Ok (put_all made (record s { forms = middle })) = rw right refl in
-    (put_all made (record s { forms = middle }), line, follows s middle s.worth s.proved made new e)
-word_judged k cost le s new (MoreLine number) made middle right e =
-    let line : judged_word (Some k) (Some (MoreLine number)) s
+    let from : CutsState = record s { forms = middle } in (
+      put_all made from,
+      line,
+      follows s middle s.worth s.proved made new e,
+      record { rises = put_all_rises cost made from; told = λ h. tt },
+    )
+word_judged o cost up s new (MoreLine number) made middle right e =
+    let line : judged_word o (Some (MoreLine number)) s
     ≡ Ok (put_all made (record s { forms = middle })) = rw right refl in
-    (put_all made (record s { forms = middle }), line, follows s middle s.worth s.proved made new e)
-word_judged k cost le s new (GroupLine inputs ids) made middle right e = absurd right
-word_judged k cost le s new (FormLine scale facts) made middle right e =
+    let from : CutsState = record s { forms = middle } in (
+      put_all made from,
+      line,
+      follows s middle s.worth s.proved made new e,
+      record { rises = put_all_rises cost made from; told = λ h. tt },
+    )
+word_judged o cost up s new (GroupLine inputs ids) made middle right e = absurd right
+word_judged o cost up s new (FormLine scale facts) made middle right e =
     let each = recursion_from_All (λ (f : NamedFact). f.is_numbered ≡ true) facts right.1 in
     let there = form_alike (listed_at s.live) no_clause scale (map fact_of facts) s.forms
     (numbered_facts facts each) ∙ right.0 in
-    let line : judged_word (Some k) (Some (FormLine scale facts)) s ≡ Ok (record s {
+    let line : judged_word o (Some (FormLine scale facts)) s ≡ Ok (record s {
       forms = middle;
     })
     = rw there refl in
@@ -134,13 +147,14 @@ word_judged k cost le s new (FormLine scale facts) made middle right e =
       line,
       subst (λ m. Follows s m new (record s { forms = middle })) (sym none)
           (follows s middle s.worth s.proved [] new plain),
+      record { rises = rises_same cost s; told = λ h. tt },
     )
-word_judged k cost le s new (CutLine c) made middle right e =
+word_judged o cost up s new (CutLine c) made middle right e =
     let w = right.0 in
-    let enough : nat_le k w ≡ true = le_true k w (omega (arith, right.2)) in
+    let enough = taken_up o cost ((s.forms).form).scale w up right.2 in
     let worth = right.1 in
     let next : CutsState = put (s.last + 1) c (record s { worth = min s.worth w }) in
-    let line : judged_word (Some k) (Some (CutLine c)) s ≡ Ok next = rw (worth, enough) refl in
+    let line : judged_word o (Some (CutLine c)) s ≡ Ok next = rw (worth, enough) refl in
     let one : made ≡ c ∷ [] = right.3 in
     let plain = e ∙ ap (λ m. with_clauses m (record { forms = middle; ended = s.ended })) one
     ∙ ap (λ f. with_clauses (c ∷ []) (record { forms = f; ended = s.ended })) right.4 in (
@@ -148,13 +162,20 @@ word_judged k cost le s new (CutLine c) made middle right e =
       line,
       subst (λ m. Follows s m new next) (sym one)
           (follows s s.forms (min s.worth w) s.proved (c ∷ []) new plain),
+      record {
+        rises = (
+          λ h. omega (arith, right.2, h),
+          (put_rises cost (s.last + 1) c (record s { worth = min s.worth w })).1,
+        );
+        told = λ h. tt;
+      },
     )
-word_judged k cost le s new (BoundLine lower) made middle right e =
+word_judged o cost up s new (BoundLine lower) made middle right e =
     let w = right.0 in
     let worth = right.1 in
     let enough : nat_le lower w ≡ true = le_true lower w right.2 in
     let next : CutsState = record s { proved = max s.proved (min lower s.worth) } in
-    let line : judged_word (Some k) (Some (BoundLine lower)) s ≡ Ok next = rw (worth, enough) refl
+    let line : judged_word o (Some (BoundLine lower)) s ≡ Ok next = rw (worth, enough) refl
     in
     let none : made ≡ [] = right.3 in
     let plain = e ∙ ap (λ m. with_clauses m (record { forms = middle; ended = s.ended })) none
@@ -163,43 +184,51 @@ word_judged k cost le s new (BoundLine lower) made middle right e =
       line,
       subst (λ m. Follows s m new next) (sym none)
           (follows s s.forms s.worth (max s.proved (min lower s.worth)) [] new plain),
+      record { rises = (λ h. h, omega arith); told = λ h. omega (arith, h) },
     )
 
 -- the tokens of a line say it
 some_of : (x y : Option WordLine) → Some x ≡ Some y → x ≡ y
 some_of x y e = cc
 
-abbrev said : ℕ → CutsState → Option WordLine → Bool → Result CutsState Cause
-said k s line ended = if ended then Err TrailingLine else judged_word (Some k) line s
+abbrev said : Option ℕ → CutsState → Option WordLine → Bool → Result CutsState Cause
+said o s line ended = if ended then Err TrailingLine else judged_word o line s
 
-closes : (k : ℕ) (s : CutsState) (x : Option WordLine) (w : WordLine) → s.ended ≡ false
-    → Some x ≡ Some (Some w) → said k s x s.ended ≡ judged_word (Some k) (Some w) s
-closes k s x w e f =
-    ap (said k s x) e ∙ ap (λ o. judged_word (Some k) o s) (some_of x (Some w) f)
+closes : (o : Option ℕ) (s : CutsState) (x : Option WordLine) (w : WordLine) → s.ended ≡ false
+    → Some x ≡ Some (Some w) → said o s x s.ended ≡ judged_word o (Some w) s
+closes o s x w e f =
+    ap (said o s x) e ∙ ap (λ x. judged_word o x s) (some_of x (Some w) f)
 
-line_said : (k : ℕ) (s : CutsState) (w : WordLine) → HasWordNumbers w → s.ended ≡ false
-    → judged_line (Some k) s (word_tokens w) ≡ judged_word (Some k) (Some w) s
-line_said k s (CountLine outputs inputs) h e = closes k s _ (CountLine outputs inputs) e
+line_said : (o : Option ℕ) (s : CutsState) (w : WordLine) → HasWordNumbers w → s.ended ≡ false
+    → judged_line o s (word_tokens w) ≡ judged_word o (Some w) s
+line_said o s (CountLine outputs inputs) h e = closes o s _ (CountLine outputs inputs) e
     (word_line_read (CountLine outputs inputs) h)
-line_said k s (MoreLine number) h e = closes k s _ (MoreLine number) e (word_line_read (MoreLine
+line_said o s (MoreLine number) h e = closes o s _ (MoreLine number) e (word_line_read (MoreLine
     number) h)
-line_said k s (GroupLine inputs ids) h e = closes k s _ (GroupLine inputs ids) e (word_line_read
+line_said o s (GroupLine inputs ids) h e = closes o s _ (GroupLine inputs ids) e (word_line_read
     (GroupLine inputs ids) h)
-line_said k s (FormLine scale facts) h e = closes k s _ (FormLine scale facts) e (word_line_read
+line_said o s (FormLine scale facts) h e = closes o s _ (FormLine scale facts) e (word_line_read
     (FormLine scale facts) h)
-line_said k s (CutLine c) h e = closes k s _ (CutLine c) e (word_line_read (CutLine c) h)
-line_said k s (BoundLine lower) h e = closes k s _ (BoundLine lower) e (word_line_read (BoundLine
+line_said o s (CutLine c) h e = closes o s _ (CutLine c) e (word_line_read (CutLine c) h)
+line_said o s (BoundLine lower) h e = closes o s _ (BoundLine lower) e (word_line_read (BoundLine
     lower) h)
 
 -- a line that the log took
-pub taken_judged : (k cost : ℕ) → k ≤ cost → (s : CutsState) (old new : Standing) (w : WordLine)
+pub taken_told : (o : Option ℕ) (cost : ℕ) → IsUpTo cost o → (s : CutsState) (old new : Standing)
+    (w : WordLine)
     (made : List (List Literal)) → s.forms ≡ old.forms → s.ended ≡ old.ended
     → TakesWord cost old w made new
-    → (t : CutsState) × (judged_line (Some k) s (word_tokens w) ≡ Ok t) × Follows s made new t
-taken_judged k cost le s old new w made forms ended t =
+    → (t : CutsState) × (judged_line o s (word_tokens w) ≡ Ok t) × Follows s made new t
+    × Tells cost s w t
+taken_told o cost up s old new w made forms ended t =
     let open_end = ended ∙ t.open_end in
     let right = subst (λ f. IsRightWord cost f w made t.middle) (sym forms) t.right in
     let clauses = t.clauses
     ∙ ap (λ b. with_clauses made (record { forms = t.middle; ended = b })) (sym ended) in
-    let j = word_judged k cost le s new w made t.middle right clauses in
-    (j.0, line_said k s w t.numbers open_end ∙ j.1, j.2)
+    let j = word_judged o cost up s new w made t.middle right clauses in
+    (j.0, line_said o s w t.numbers open_end ∙ j.1, j.2, j.3)
+
+pub taken_judged : WordsAreRight
+taken_judged k cost le s old new w made forms ended t =
+    let j = taken_told (Some k) cost le s old new w made forms ended t in
+    (j.0, j.1, j.2)

@@ -4,9 +4,15 @@ mod EventLines
 mod Noting
 mod Keeping
 mod Claims
+mod MadeClauses
 mod Beginning
+mod Worths
 mod JudgedWords
 mod JudgedLogs
 mod JudgedPlain
 mod JudgedSteps
 mod JudgedStart
+mod LogEnds
+mod LineWords
+mod LogTexts
+mod LogBounds

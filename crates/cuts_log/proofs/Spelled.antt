@@ -12,7 +12,6 @@ use Rattle.text.proofs.Laws.{flat_map-append, spaced-last}
 use Rattle.text.specs.LratText.{group_tokens, line_tokens}
 use Rattle.cnf.specs.Lrat.{Addition, Deletion}
 use Rattle.lrat_log.specs.declared.lines.Hint.{Hint}
-use Rattle.lrat_log.specs.declared.lines.Hint.TheVariants.{Plain, Group}
 use Rattle.lrat_log.specs.Log.{group_ids, id_of, leading_ids, name_of}
 use Rattle.lrat_log.specs.Texts.{hints_text, literals_text, number_text}
 use Rattle.lrat_log.proofs.Laws.{hints_spaced, literals_spaced, with_spaces}

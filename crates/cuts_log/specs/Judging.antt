@@ -1,16 +1,22 @@
 -- What a line of a log is judged as, by the definition of the checker.
-use Rattle.std.specs.Prelude.{◌≡◌, ℕ, ◌+◌, ◌≤◌, false, List, [], ◌∷◌, ◌++◌, length, map, Some, Ok}
-use Rattle.cnf.specs.Literal.{Literal}
+use Rattle.std.specs.Prelude.{◌≡◌, ℕ, ◌+◌, ◌≤◌, true, false, List, [], ◌∷◌, ◌++◌, length, map}
+use Rattle.std.specs.Prelude.{Option, Some, None, Ok, min}
+use Rattle.std.specs.List.{AllByRecursion, list_any}
+use Rattle.cnf.specs.Instance.{IsInstance}
+use Rattle.cnf.specs.Literal.{Assignment, Literal}
+use Rattle.cnf.specs.Problem.{IsFeasible, cost_under}
 use Rattle.bound.specs.Weighted.{weighted_cnf}
 use Rattle.lrat_live.specs.Listed.{listed_from}
 use Rattle.lrat_log.specs.Axioms.{FollowByRup, IsOpenLogOver}
 use Rattle.lrat_log.specs.Log.{LogLine, axiom_line}
-use Rattle.lrat_log.specs.Steps.{added_count, given_of}
-use Rattle.lrat_read.specs.Words.{WordLine}
+use Rattle.lrat_log.specs.Steps.{StopsAtEmptyClause, added_count, adds_empty_clause, given_of}
+use Rattle.lrat_read.specs.Words.{WordLine, BoundLine}
 use Rattle.lrat_read.specs.WordTokens.{word_tokens}
 use Rattle.lrat_cuts.specs.Cuts.{CutsState, cuts_start, judged_line, judged_lines}
+use Rattle.lrat_cuts.specs.Verdict.{judged_text}
 use Rattle.cuts_log.specs.declared.standing.Standing.{Standing}
-use Rattle.cuts_log.specs.Events.{Event, Plain, Word, lines_of, tokens_at, tokens_on}
+use Rattle.cuts_log.specs.Events.{Event, Plain, Word, lines_of, text_of, tokens_at}
+use Rattle.cuts_log.specs.Events.{tokens_on}
 use Rattle.cuts_log.specs.Books.{IsBook}
 use Rattle.cuts_log.specs.Logs.{IsKept, LogState, events_of, problem_of}
 use Rattle.cuts_log.specs.Stands.{TakesWord, with_line}
@@ -23,21 +29,26 @@ pub record Follows (old : CutsState) (made : List (List Literal)) (s : Standing)
   pub forms : new.forms ≡ s.forms
   pub ended : new.ended ≡ s.ended
 
+-- a cost up to what cuts hold for, or none
+abbrev pub IsUpTo : ℕ → Option ℕ → Type 0
+IsUpTo cost None = Unit {0}
+IsUpTo cost (Some k) = k ≤ cost
+
 -- an addition or a deletion is judged right, and then the checker stands as the log does
-pub record IsRightPlain (k base before : ℕ) (old : CutsState) (l : LogLine) (new : CutsState) :
-    Type 0 where
-  pub judged : judged_line (Some k) old (tokens_at base before (Plain l)) ≡ Ok new
+pub record IsRightPlain (o : Option ℕ) (base before : ℕ) (old : CutsState) (l : LogLine)
+    (new : CutsState) : Type 0 where
+  pub judged : judged_line o old (tokens_at base before (Plain l)) ≡ Ok new
   pub forms : new.forms ≡ (with_line l (record { forms = old.forms; ended = old.ended })).forms
   pub ended : new.ended ≡ (with_line l (record { forms = old.forms; ended = old.ended })).ended
 
 -- so is each where it stands
-abbrev pub ArePlainRight : ℕ → ℕ → ℕ → CutsState → List Event → Type 0
-ArePlainRight k base before s [] = Unit {0}
-ArePlainRight k base before s (Plain l ∷ es) = (t : CutsState) × IsRightPlain k base before s l t
-    × ArePlainRight k base (before + added_count (l ∷ [])) t es
-ArePlainRight k base before s (Word w made ∷ es) = (t : CutsState)
-    → judged_line (Some k) s (word_tokens w) ≡ Ok t
-    → ArePlainRight k base (before + added_count (map axiom_line made)) t es
+abbrev pub ArePlainRight : Option ℕ → ℕ → ℕ → CutsState → List Event → Type 0
+ArePlainRight o base before s [] = Unit {0}
+ArePlainRight o base before s (Plain l ∷ es) = (t : CutsState) × IsRightPlain o base before s l t
+    × ArePlainRight o base (before + added_count (l ∷ [])) t es
+ArePlainRight o base before s (Word w made ∷ es) = (t : CutsState)
+    → judged_line o s (word_tokens w) ≡ Ok t
+    → ArePlainRight o base (before + added_count (map axiom_line made)) t es
 
 -- a line that was taken is right for each cost up to the one that it was taken for
 abbrev pub WordsAreRight : Type 0
@@ -50,7 +61,7 @@ WordsAreRight = (k cost : ℕ) → k ≤ cost → (s : CutsState) (old new : Sta
 -- where its additions and deletions are; and then the checker stands as it does
 abbrev pub LogsAreRight : Type 0
 LogsAreRight = (l : LogState) (k : ℕ) → IsKept l → (l.book).failed ≡ false → k ≤ l.cost
-    → ArePlainRight k (l.book).base 0 (cuts_start (problem_of l)) (events_of l)
+    → ArePlainRight (Some k) (l.book).base 0 (cuts_start (problem_of l)) (events_of l)
     → (t : CutsState) × (judged_lines (Some k) (cuts_start (problem_of l)) 1
     (tokens_on (l.book).base 0 (events_of l)) ≡ Ok t)
     × (t.forms ≡ (l.standing).forms) × (t.ended ≡ (l.standing).ended)
@@ -65,3 +76,48 @@ StepsAreRight = (l : LogState) (k : ℕ) → IsKept l → IsBook l.book → (l.b
     → (t : CutsState) × (judged_lines (Some k) (cuts_start (problem_of l)) 1
     (tokens_on (l.book).base 0 (events_of l)) ≡ Ok t)
     × (t.forms ≡ (l.standing).forms) × (t.ended ≡ (l.standing).ended)
+
+-- one whose lines stop at the empty clause, and have one, has ended
+abbrev pub LogsEnd : Type 0
+LogsEnd = (l : LogState) → IsKept l → IsBook l.book → (l.book).failed ≡ false
+    → StopsAtEmptyClause (lines_of (events_of l))
+    → list_any adds_empty_clause (lines_of (events_of l)) ≡ true → (l.standing).ended ≡ true
+
+-- the text of one whose lines are steps, and follow, is judged right
+abbrev pub TextsAreRight : Type 0
+TextsAreRight = (l : LogState) (k : ℕ) → IsKept l → IsBook l.book → (l.book).failed ≡ false
+    → k ≤ l.cost
+    → IsOpenLogOver (given_of (weighted_cnf (problem_of l)).clauses) (lines_of (events_of l))
+    → FollowByRup (given_of (weighted_cnf (problem_of l)).clauses) (l.book).base []
+    (lines_of (events_of l))
+    → (t : CutsState)
+    × (judged_text (Some k) (problem_of l) (text_of (l.book).base (events_of l)) ≡ Ok t)
+    × (t.ended ≡ (l.standing).ended)
+
+-- where it has ended, nothing costs less than its cuts hold for
+abbrev pub NothingIsCheaper : Type 0
+NothingIsCheaper = (l : LogState) → IsKept l → IsBook l.book → (l.book).failed ≡ false
+    → IsOpenLogOver (given_of (weighted_cnf (problem_of l)).clauses) (lines_of (events_of l))
+    → FollowByRup (given_of (weighted_cnf (problem_of l)).clauses) (l.book).base []
+    (lines_of (events_of l))
+    → (l.standing).ended ≡ true → IsInstance (problem_of l)
+    → (u : Assignment) → IsFeasible (problem_of l) u → l.cost ≤ cost_under (problem_of l) u
+
+-- a lower bound that a line tells is proved, up to what cuts hold for
+abbrev pub IsProvedWord : ℕ → ℕ → WordLine → Type 0
+IsProvedWord cost proved (BoundLine lower) = min lower cost ≤ proved
+IsProvedWord cost proved w = Unit {0}
+
+abbrev pub IsProvedEvent : ℕ → ℕ → Event → Type 0
+IsProvedEvent cost proved (Plain l) = Unit {0}
+IsProvedEvent cost proved (Word w made) = IsProvedWord cost proved w
+
+-- the text is judged right for no cost, too, and proves each lower bound that it tells
+abbrev pub BoundsAreProved : Type 0
+BoundsAreProved = (l : LogState) → IsKept l → IsBook l.book → (l.book).failed ≡ false
+    → IsOpenLogOver (given_of (weighted_cnf (problem_of l)).clauses) (lines_of (events_of l))
+    → FollowByRup (given_of (weighted_cnf (problem_of l)).clauses) (l.book).base []
+    (lines_of (events_of l))
+    → (t : CutsState)
+    × (judged_text None (problem_of l) (text_of (l.book).base (events_of l)) ≡ Ok t)
+    × (t.ended ≡ (l.standing).ended) × AllByRecursion (IsProvedEvent l.cost t.proved) (events_of l)

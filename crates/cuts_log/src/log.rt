@@ -164,9 +164,12 @@ impl<W: Write + Drop> CutsLog<W> {
 
 impl<W: Write + Drop> CutsLog<W> {
     ghost use Rattle.cuts_log.specs.Logs.{Brings, SameLog, lines_seen};
+    ghost use Rattle.std.specs.List.{AllByRecursion};
+    ghost use Rattle.cuts_log.specs.Made.{IsMadeClause};
 
     /// A count of these literals with so many outputs, if the state takes it; its clauses, and no
-    /// others, are in `made` then, and the log has their lines last. Answers whether it does.
+    /// others, are in `made` then, and the log has their lines last. Answers whether it does. The
+    /// literals of each clause have different variables, up to the greatest one of the forms.
     ///
     /// # Errors
     ///
@@ -179,6 +182,8 @@ impl<W: Write + Drop> CutsLog<W> {
     ) -> Result<bool, AllocError>
         ensures taken { IfOk result (λ taken. taken ≡ true
             → Brings (map axiom_line made.new) self.old self.new) }
+        ensures made { IfOk result (λ taken. taken ≡ true
+            → AllByRecursion (IsMadeClause self.new.standing.forms.variables) made.new) }
         ensures refused { IfOk result (λ taken. taken ≡ false → self.new ≡ self.old) }
         ensures err { OnErr result (lines_seen self.new ≡ lines_seen self.old) }
         ensures same { SameLog self.old self.new }
@@ -206,7 +211,8 @@ impl<W: Write + Drop> CutsLog<W> {
     }
 
     /// One more output of the count with this number, if the state takes it; its clauses, and no
-    /// others, are in `made` then, and the log has their lines last. Answers whether it does.
+    /// others, are in `made` then, and the log has their lines last. Answers whether it does. The
+    /// literals of each clause have different variables, up to the greatest one of the forms.
     ///
     /// # Errors
     ///
@@ -214,6 +220,8 @@ impl<W: Write + Drop> CutsLog<W> {
     pub fn more(&mut self, number: u64, made: &mut ClauseList) -> Result<bool, AllocError>
         ensures taken { IfOk result (λ taken. taken ≡ true
             → Brings (map axiom_line made.new) self.old self.new) }
+        ensures made { IfOk result (λ taken. taken ≡ true
+            → AllByRecursion (IsMadeClause self.new.standing.forms.variables) made.new) }
         ensures refused { IfOk result (λ taken. taken ≡ false → self.new ≡ self.old) }
         ensures err { OnErr result (lines_seen self.new ≡ lines_seen self.old) }
         ensures same { SameLog self.old self.new }

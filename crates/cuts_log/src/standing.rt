@@ -6,6 +6,7 @@ ghost use Rattle.cnf.specs.declared.limits.TheConstants.{NUMBER_LIMIT};
 ghost use Rattle.lrat_read.specs.Words.{CountLine, MoreLine, FormLine, CutLine, BoundLine};
 ghost use Rattle.cnf.specs.Lrat.{IsId};
 ghost use Rattle.forms.specs.Forms.{heard};
+ghost use Rattle.std.specs.List.{AllByRecursion};
 ghost use Rattle.cuts_log.specs.Facts.{IsCountFact, is_worth, spelled};
 
 use cnf::clause_list::ClauseList;
@@ -85,6 +86,15 @@ fn limits(lits: &[Lit])
     }
 }
 
+/// Says that of the literals of each clause; it does nothing.
+fn limits_of_each(clauses: &ClauseList)
+    ensures { AllByRecursion (λ c. All (λ l. IsId l.variable) c) clauses.now }
+{
+    for clause in clauses.iter() {
+        limits(clause);
+    }
+}
+
 /// A clause is live from now on: a unit clause gives its variable a value.
 fn hear(forms: &mut Forms, clause: &[Lit]) -> Result<(), AllocError>
     ensures ok { OnOk result (forms.new ≡ heard clause.now forms.old) }
@@ -97,6 +107,7 @@ fn hear(forms: &mut Forms, clause: &[Lit]) -> Result<(), AllocError>
 }
 
 impl Standing {
+    ghost use Rattle.cuts_log.specs.Made.{IsMadeClause};
     ghost use Rattle.cuts_log.specs.Stands.{TakesWord, with_clause, with_clauses, with_line};
 
     /// A clause is live from now on.
@@ -157,17 +168,22 @@ impl Standing {
     ) -> Result<bool, AllocError>
         ensures taken { IfOk result (λ taken. taken ≡ true → (cost : ℕ)
             → TakesWord cost self.old (CountLine outputs inputs.now) made.new self.new) }
+        ensures made { IfOk result (λ taken. taken ≡ true
+            → AllByRecursion (IsMadeClause self.new.forms.variables) made.new) }
         ensures refused { IfOk result (λ taken. taken ≡ false → self.new ≡ self.old) }
     {
         if self.ended || outputs >= NUMBER_LIMIT || inputs.is_empty() {
             return Ok(false);
         }
         limits(inputs);
+        self.forms.clause_limits();
         let fault = self.forms.count(outputs, inputs, made)?;
         if fault.is_some() {
             return Ok(false);
         }
         self.take_all(made)?;
+        self.forms.limits();
+        limits_of_each(made);
         Ok(true)
     }
 
@@ -180,16 +196,21 @@ impl Standing {
     pub(crate) fn more(&mut self, number: u64, made: &mut ClauseList) -> Result<bool, AllocError>
         ensures taken { IfOk result (λ taken. taken ≡ true
             → (cost : ℕ) → TakesWord cost self.old (MoreLine number) made.new self.new) }
+        ensures made { IfOk result (λ taken. taken ≡ true
+            → AllByRecursion (IsMadeClause self.new.forms.variables) made.new) }
         ensures refused { IfOk result (λ taken. taken ≡ false → self.new ≡ self.old) }
     {
         if self.ended || number == 0 || number >= NUMBER_LIMIT {
             return Ok(false);
         }
+        self.forms.clause_limits();
         let fault = self.forms.more(number, made)?;
         if fault.is_some() {
             return Ok(false);
         }
         self.take_all(made)?;
+        self.forms.limits();
+        limits_of_each(made);
         Ok(true)
     }
 

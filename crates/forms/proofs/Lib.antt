@@ -8,6 +8,7 @@ pub mod NextOutput
 mod Withins
 mod Widths
 mod NewCount
+mod MadeClauses
 mod Weighing
 mod FormLines
 pub mod Laws

@@ -5,9 +5,9 @@ use Rattle.std.specs.Prelude.{Err}
 use Rattle.cnf.specs.Literal.{Literal}
 use Rattle.totalizer.specs.Stages.{Tree, size_of, stages, totalizer_of, tree_of}
 use Rattle.totalizer.specs.Grown.{HasStages}
-use Rattle.totalizer.proofs.Laws.{bare_has, outputs_count, stages_below, stages_from, stages_size}
-use Rattle.totalizer.proofs.Laws.{totalizer_has, totalizer_worth, tree_below_more, tree_of_below}
-use Rattle.totalizer.proofs.Laws.{tree_of_size}
+use Rattle.totalizer.proofs.Laws.{bare_has, outputs_count, stages_apart, stages_below, stages_from}
+use Rattle.totalizer.proofs.Laws.{stages_size, totalizer_has, totalizer_worth, tree_below_more}
+use Rattle.totalizer.proofs.Laws.{tree_of_apart, tree_of_below, tree_of_size}
 use Rattle.linear.specs.Costs.{CostForm, widened}
 use Rattle.forms.specs.declared.faults.LineFault.TheVariants.{Limit}
 use Rattle.forms.specs.declared.faults.TheConstants.{MOST_COUNT_CLAUSES}
@@ -101,6 +101,9 @@ module _ (outputs : ℕ) (inputs : List Literal) (f : Inside) (kept : IsKept f)
                 (sym (outputs_count outputs g.tree (totalizer_has outputs v inputs) some
                 (omega (arith, all))))
                 (totalizer_has outputs v inputs);
+            halves = stages_apart outputs 1 v (tree_of inputs)
+                (tree_of_below v inputs k.once k.open_one (omega arith))
+                (tree_of_apart v inputs k.once k.open_one (omega arith));
             small = omega (arith, all, small, kept.variables, kept.made);
             often = omega arith;
           })

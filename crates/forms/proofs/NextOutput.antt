@@ -10,8 +10,8 @@ use Rattle.std.proofs.lemmas.Option.{slice_get_within}
 use Rattle.cnf.specs.Literal.{Literal, positive}
 use Rattle.totalizer.specs.Stages.{Tree, Leaf, Node, Staged, size_of, outputs_of, stage}
 use Rattle.totalizer.specs.Grown.{HasStages}
-use Rattle.totalizer.proofs.Laws.{outputs_more, outputs_next, size_positive, stage_below, stage_has}
-use Rattle.totalizer.proofs.Laws.{stage_takes, stage_worth, tree_below_more}
+use Rattle.totalizer.proofs.Laws.{outputs_more, outputs_next, size_positive, stage_apart}
+use Rattle.totalizer.proofs.Laws.{stage_below, stage_has, stage_takes, stage_worth, tree_below_more}
 use Rattle.linear.specs.Costs.{CostForm, widened}
 use Rattle.forms.specs.declared.numbered.Numbered.{Numbered as Stamped}
 use Rattle.forms.specs.declared.numbered.Numbered.TheVariants.{Count as StampedCount}
@@ -44,6 +44,8 @@ count_grows v terms inputs tree multiplier some more h =
           (tree_below_more (v - 1 + 1) v tree (omega arith) h.below));
       stages = subst (λ k. HasStages k g.tree) (sym (outputs_more v tree more))
           (stage_has (length (outputs_of tree)) v tree h.stages);
+      halves = stage_apart height v tree
+          (tree_below_more (v - 1 + 1) v tree (omega arith) h.below) h.halves;
       small = omega (arith, takes.same_size, h.small);
       often = h.often;
     }

@@ -19,6 +19,7 @@ within_one variables m n (StampedCount c) le h =
       known = h.known;
       below = h.below;
       stages = h.stages;
+      halves = h.halves;
       small = h.small;
       often = omega (arith, h.often);
     }
@@ -46,6 +47,7 @@ wider_one v w terms (StampedCount c) le h = record {
       c.inputs.items h.known;
   below = tree_below_more (v + 1) (w + 1) c.totalizer (omega arith) h.below;
   stages = h.stages;
+  halves = h.halves;
   small = h.small;
   often = h.often;
 }

@@ -2,16 +2,18 @@
 use Rattle.std.specs.Prelude.{◌≡◌, ◌+◌, ◌<◌, ◌≤◌, ℕ, List, [], ◌++◌, length, Option, Some, None}
 use Rattle.std.specs.Prelude.{Result, Ok}
 use Rattle.std.specs.Prelude.{Err}
+use Rattle.std.specs.List.{AllByRecursion}
 use Rattle.cnf.specs.Literal.{Literal}
 use Rattle.cnf.specs.declared.limits.TheConstants.{NUMBER_LIMIT}
 use Rattle.totalizer.specs.Stages.{Staged, Tree}
+use Rattle.totalizer.specs.Grown.{IsStageClause}
 use Rattle.forms.specs.declared.faults.LineFault.{LineFault}
 use Rattle.forms.specs.declared.faults.LineFault.TheVariants.{Name, Limit, Worth}
 use Rattle.forms.specs.declared.types.NamedFact.{NamedFact}
 use Rattle.forms.specs.declared.faults.TheConstants.{MOST_TERMS}
 use Rattle.cnf.specs.Refute.{Clauses}
-use Rattle.forms.specs.Forms.{Forms, Made, Numbered, Count, begun, facts_size, form_line}
-use Rattle.forms.specs.Forms.{less_facts}
+use Rattle.forms.specs.Forms.{Forms, Made, Numbered, Count, begun, count_line, facts_size}
+use Rattle.forms.specs.Forms.{form_line, less_facts, more_line}
 
 -- what it leaves, or why it is refused; then nothing has changed
 abbrev pub IsTaken : Result Forms LineFault → Forms → Forms → Option LineFault → Type 0
@@ -29,6 +31,16 @@ IsMade line old new clauses (Some fault) = (line ≡ Err fault) × (new ≡ old)
 abbrev pub fault_of : Result Made LineFault → Option LineFault
 fault_of (Ok m) = None
 fault_of (Err fault) = Some fault
+
+-- each clause has two literals or more, of different variables up to the greatest that is left
+abbrev pub AreStageClauses : Made → Type 0
+AreStageClauses m = AllByRecursion (IsStageClause ((m.forms).variables + 1)) m.clauses
+
+-- the clauses of each line that makes some are so
+pub record MakesStageClauses (s : Forms) : Type 0 where
+  pub count : (outputs : ℕ) (inputs : List Literal) (m : Made) → count_line outputs inputs s ≡ Ok m
+      → AreStageClauses m
+  pub more : (number : ℕ) (m : Made) → more_line number s ≡ Ok m → AreStageClauses m
 
 -- the stages are there, with the next new variable, and make no more clauses than there is room
 -- for; or they make more

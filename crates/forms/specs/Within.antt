@@ -2,7 +2,7 @@
 use Rattle.std.specs.Prelude.{ℕ, ◌+◌, ◌*◌, ◌<◌, ◌≤◌, ◌^◌, List, All, length}
 use Rattle.cnf.specs.Literal.{Literal}
 use Rattle.totalizer.specs.Stages.{Tree, outputs_of, size_of}
-use Rattle.totalizer.specs.Grown.{HasStages, IsTreeBelow}
+use Rattle.totalizer.specs.Grown.{HasHalvesApart, HasStages, IsTreeBelow}
 use Rattle.forms.specs.declared.numbered.Numbered.{Numbered as Stamped}
 use Rattle.forms.specs.declared.numbered.Numbered.TheVariants.{Count as StampedCount}
 use Rattle.forms.specs.declared.numbered.Numbered.TheVariants.{Group as StampedGroup}
@@ -14,6 +14,7 @@ pub record IsCount (variables terms : ℕ) (inputs : List Literal) (tree : Tree)
   pub known : All (λ l. l.variable ≤ variables) inputs
   pub below : IsTreeBelow (variables + 1) tree
   pub stages : HasStages (length (outputs_of tree)) tree
+  pub halves : HasHalvesApart tree
   pub small : size_of tree ≤ 2 ^ 26
   pub often : multiplier ≤ terms * 2 ^ 62
 

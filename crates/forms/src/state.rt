@@ -12,6 +12,7 @@ ghost use Rattle.forms.specs.Forms.{inputs_of, numbered_size, outputs_at};
 ghost use Rattle.linear.specs.Costs.{least};
 ghost use Rattle.linear.specs.Linear.{coefficient};
 ghost use Rattle.forms.specs.Answers.{HasFormFault, HasRoom, HasSizeFault, IsFact, IsMade, IsTaken};
+ghost use Rattle.forms.specs.Answers.{MakesStageClauses};
 
 use crate::citing::{subtract_clause, subtract_item};
 use crate::faults::{LineFault, MOST_COUNT_CLAUSES, MOST_TERMS};
@@ -121,6 +122,15 @@ impl Forms {
     /// Says the limits of the state; it does nothing. `Instance::limits` has the reason.
     pub fn limits(&self)
         ensures { self.now.variables < VARIABLE_LIMIT }
+    {
+        let _ = &self.variables;
+    }
+
+    /// Says that the clauses of each line that makes some have two literals or more, of different
+    /// variables up to the greatest one that the line leaves; it does nothing. `Instance::limits`
+    /// has the reason.
+    pub fn clause_limits(&self)
+        ensures { MakesStageClauses self.now }
     {
         let _ = &self.variables;
     }

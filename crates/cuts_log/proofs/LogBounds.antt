@@ -1,0 +1,103 @@
+-- A log is judged right for no cost, too, and proves each lower bound that it tells.
+use Rattle.std.proofs.Common.{◌≡◌, ℕ, ◌+◌, ◌≤◌, List, [], ◌∷◌, map, Option, None, Ok, refl, sym}
+use Rattle.std.proofs.Common.{◌∙◌, ap, subst, arith, false}
+use Rattle.std.specs.List.{AllByRecursion}
+use Rattle.cnf.specs.Lrat.{Live}
+use Rattle.cnf.specs.Problem.{Problem}
+use Rattle.cnf.specs.declared.limits.TheConstants.{NUMBER_LIMIT}
+use Rattle.bound.specs.Weighted.{weighted_cnf, weights_of}
+use Rattle.forms.specs.Forms.{forms_of}
+use Rattle.lrat_log.specs.Log.{axiom_line, start_over}
+use Rattle.lrat_log.specs.Steps.{added_count, given_of}
+use Rattle.lrat_read.specs.WordTokens.{word_tokens}
+use Rattle.lrat_cuts.specs.Cuts.{CutsState, cuts_start, judged_lines}
+use Rattle.cuts_log.specs.declared.standing.Standing.{Standing}
+use Rattle.cuts_log.specs.Events.{Event, Plain, Word, lines_of, tokens_at, tokens_on}
+use Rattle.cuts_log.specs.Judging.{BoundsAreProved, IsProvedEvent, IsUpTo}
+use Rattle.cuts_log.specs.Logs.{events_of, problem_of}
+use Rattle.cuts_log.specs.Stands.{TakesAll, stand_of}
+use Rattle.cuts_log.proofs.JudgedLogs.{next_line, start_stands}
+use Rattle.cuts_log.proofs.JudgedStart.{start_right}
+use Rattle.cuts_log.proofs.JudgedSteps.{Stands, count_one, goes_same, plain_on, word_says}
+use Rattle.cuts_log.proofs.JudgedWords.{stands_as}
+use Rattle.cuts_log.proofs.LogTexts.{text_tokens}
+use Rattle.cuts_log.proofs.Worths.{proved_more, put_all_rises}
+
+-- what lines come to, where cuts are worth the cost at first
+record Proves (o : Option ℕ) (cost base before n : ℕ) (s : CutsState) (es : List Event)
+    (new : Standing) : Type 0 where
+  last : CutsState
+  judged : judged_lines o s n (tokens_on base before es) ≡ Ok last
+  stands : stands_as last ≡ new
+  rises : s.proved ≤ last.proved
+  told : AllByRecursion (IsProvedEvent cost last.proved) es
+
+steps_prove : (o : Option ℕ) (cost base before n : ℕ) → IsUpTo cost o → (s : CutsState)
+    (old new : Standing) (es : List Event) (live : Live) → stands_as s ≡ old
+    → TakesAll cost old es new → Stands base before s live (lines_of es) → cost ≤ s.worth
+    → Proves o cost base before n s es new
+steps_prove o cost base before n up s old new [] live same h st worth = record {
+  last = s;
+  judged = refl;
+  stands = same ∙ sym h;
+  rises = omega arith;
+  told = tt;
+}
+steps_prove o cost base before n up s old new (Plain l ∷ es) live same h st worth =
+    let after = before + added_count (l ∷ []) in
+    let g = plain_on o base before s live l (lines_of es) h.1.0 h.1.1 st in
+    let next = goes_same o base before s l (lines_of es) old h.0 g same h.1.2 in
+    let rise = g.rises cost in
+    let there = subst (λ m. Stands base m g.next g.live (lines_of es)) (count_one before l) g.stands
+    in
+    let rest = steps_prove o cost base after (n + 1) up g.next h.0 new es g.live next h.2 there
+    (rise.0 worth) in record {
+      last = rest.last;
+      judged = next_line o n s g.next rest.last (tokens_at base before (Plain l))
+          (tokens_on base after es) g.right.judged rest.judged;
+      stands = rest.stands;
+      rises = omega (arith, rise.1, rest.rises);
+      told = (tt, rest.told);
+    }
+steps_prove o cost base before n up s old new (Word w made ∷ es) live same h st worth =
+    let after = before + added_count (map axiom_line made) in
+    let g = word_says o cost base before up s old h.0 w made es live same h.1 st in
+    let rise = g.tells.rises in
+    let rest = steps_prove o cost base after (n + 1) up g.next h.0 new es g.live g.same h.2 g.stands
+    (rise.0 worth) in record {
+      last = rest.last;
+      judged = next_line o n s g.next rest.last (word_tokens w) (tokens_on base after es) g.judged
+          rest.judged;
+      stands = rest.stands;
+      rises = omega (arith, rise.1, rest.rises);
+      told = (
+        proved_more cost (g.next).proved (rest.last).proved w rest.rises (g.tells.told worth),
+        rest.told,
+      );
+    }
+
+start_worth : (p : Problem) (cost : ℕ) → cost ≤ NUMBER_LIMIT → cost ≤ (cuts_start p).worth
+start_worth p cost le =
+    let blank : CutsState = record {
+      live = [];
+      last = 0;
+      forms = forms_of (weighted_cnf p).variables (weights_of p);
+      ended = false;
+      worth = NUMBER_LIMIT;
+      proved = 0;
+    } in
+    (put_all_rises cost (weighted_cnf p).clauses blank).0 le
+
+pub bounds_proved : BoundsAreProved
+bounds_proved l h book works log follows =
+    let p = problem_of l in
+    let base = (l.book).base in
+    let start = start_over (given_of (weighted_cnf p).clauses) base in
+    let j = steps_prove None l.cost base 0 1 tt (cuts_start p) (stand_of p) h.left (events_of l)
+    start (start_stands p) h.taken (start_right l h book works log follows)
+    (start_worth p l.cost h.cost) in (
+      j.last,
+      ap (judged_lines None (cuts_start p) 1) (text_tokens l h book works log follows) ∙ j.judged,
+      ap (λ (x : Standing). x.ended) (j.stands ∙ sym (h.standing works)),
+      j.told,
+    )

@@ -1,0 +1,76 @@
+-- The text of a log has the tokens of its lines, and what it proves.
+use Rattle.std.proofs.Common.{◌≡◌, ℕ, ◌+◌, false, List, [], ◌∷◌, map, Option, Some}
+use Rattle.std.proofs.Common.{None, ◌∙◌, ap, subst, arith}
+use Rattle.std.specs.List.{AllByRecursion}
+use Rattle.cnf.specs.Lrat.{Live}
+use Rattle.bound.specs.Weighted.{weighted_cnf}
+use Rattle.text.specs.Text.{token_lines}
+use Rattle.lrat_log.specs.Axioms.{FollowByRup, IsOpenLogOver}
+use Rattle.lrat_log.specs.Log.{axiom_line, numbered_line, start_over}
+use Rattle.lrat_log.specs.Steps.{added_count, given_of}
+use Rattle.lrat_log.proofs.Laws.{after_line, token_lines-spaced}
+use Rattle.lrat_cuts.specs.Cuts.{CutsState, cuts_start, judged_lines}
+use Rattle.lrat_cuts.proofs.Laws.{cuts_prove, cuts_sound}
+use Rattle.cuts_log.specs.declared.standing.Standing.{Standing}
+use Rattle.cuts_log.specs.Books.{IsBook}
+use Rattle.cuts_log.specs.Events.{Event, Plain, Word, lines_of, text_of, tokens_on}
+use Rattle.cuts_log.specs.Judging.{IsUpTo, NothingIsCheaper, TextsAreRight}
+use Rattle.cuts_log.specs.Logs.{IsKept, LogState, events_of, problem_of}
+use Rattle.cuts_log.specs.Stands.{TakesAll, stand_of}
+use Rattle.cuts_log.proofs.JudgedLogs.{start_stands}
+use Rattle.cuts_log.proofs.JudgedStart.{start_right, steps_judged}
+use Rattle.cuts_log.proofs.JudgedSteps.{Stands, count_one, goes_same, plain_on, word_says}
+use Rattle.cuts_log.proofs.JudgedWords.{stands_as}
+use Rattle.cuts_log.proofs.LineWords.{AreWords, line_words, word_words}
+
+pub steps_words : (o : Option ℕ) (cost base before : ℕ) → IsUpTo cost o
+    → (s : CutsState) (old new : Standing)
+    (es : List Event) (live : Live) → stands_as s ≡ old → TakesAll cost old es new
+    → Stands base before s live (lines_of es) → AllByRecursion AreWords (tokens_on base before es)
+steps_words o cost base before up s old new [] live same h st = tt
+steps_words o cost base before up s old new (Plain l ∷ es) live same h st =
+    let g = plain_on o base before s live l (lines_of es) h.1.0 h.1.1 st in
+    let next = goes_same o base before s l (lines_of es) old h.0 g same h.1.2 in
+    let rest = steps_words o cost base (after_line l before) up g.next h.0 new es g.live next h.2
+    g.stands in (
+      line_words (numbered_line base before l) g.numbers,
+      subst (λ n. AllByRecursion AreWords (tokens_on base n es)) (count_one before l) rest,
+    )
+steps_words o cost base before up s old new (Word w made ∷ es) live same h st =
+    let after = before + added_count (map axiom_line made) in
+    let g = word_says o cost base before up s old h.0 w made es live same h.1 st in (
+      word_words w h.1.numbers,
+      steps_words o cost base after up g.next h.0 new es g.live g.same h.2 g.stands,
+    )
+
+-- the tokens of the text
+pub text_tokens : (l : LogState) → IsKept l → IsBook l.book → (l.book).failed ≡ false
+    → IsOpenLogOver (given_of (weighted_cnf (problem_of l)).clauses) (lines_of (events_of l))
+    → FollowByRup (given_of (weighted_cnf (problem_of l)).clauses) (l.book).base []
+    (lines_of (events_of l))
+    → token_lines (text_of (l.book).base (events_of l)) ≡ tokens_on (l.book).base 0 (events_of l)
+text_tokens l h book works log follows =
+    let p = problem_of l in
+    let base = (l.book).base in
+    let start = start_over (given_of (weighted_cnf p).clauses) base in
+    token_lines-spaced (tokens_on base 0 (events_of l))
+    (steps_words None l.cost base 0 tt (cuts_start p) (stand_of p) h.left (events_of l)
+    start (start_stands p) h.taken (start_right l h book works log follows))
+
+pub texts_judged : TextsAreRight
+texts_judged l k h book works le log follows =
+    let j = steps_judged l k h book works le log follows in (
+      j.0,
+      ap (judged_lines (Some k) (cuts_start (problem_of l)) 1)
+          (text_tokens l h book works log follows) ∙ j.1,
+      j.3,
+    )
+
+pub nothing_cheaper : NothingIsCheaper
+nothing_cheaper l h book works log follows ended i u feasible =
+    let p = problem_of l in
+    let lines = tokens_on (l.book).base 0 (events_of l) in
+    let j = steps_judged l l.cost h book works (omega arith) log follows in
+    let most = cuts_prove p l.cost lines j.0 h.cost j.1 (j.3 ∙ ended) in
+    let least = cuts_sound p (Some l.cost) lines j.0 i j.1 u feasible in
+    omega (arith, most, least)
