@@ -110,14 +110,29 @@ paid_join given a b c s t u v w =
         limit = x.limit;
         learned = x.learned + w.0;
         answers = x.answers;
-        waived = x.waived;
+        waived = u.waived;
       }) v.2
           ∙ (λ i. record {
             limit = s.limit;
             learned = e i;
             answers = s.answers;
-            waived = s.waived;
+            waived = u.waived;
           }),
+    )
+
+-- only what the watch waives was taken from the budget
+pub paid_waived : (given : Given) (a : List LogLine) (s t : BudgetState)
+    → t ≡ record s { waived = t.waived } → PaysOpen given a a s t
+paid_waived given a s t same =
+    let e : s.learned ≡ s.learned + 0 = omega arith in (
+      0,
+      open_writes given a a 0 (writes_none given a),
+      same ∙ (λ i. record {
+        limit = s.limit;
+        learned = e i;
+        answers = s.answers;
+        waived = t.waived;
+      }),
     )
 
 -- How a turn ends.
@@ -193,23 +208,44 @@ pub cut_refused : {E : Type 0} (s : Search) (p : Input) (ls more : List LogLine)
 cut_refused s p ls more b same = record {
   takes = (refl, same, refl);
   pays = subst (λ x. PaysOpen p.given ls x b b) (sym same) (paid_nothing p.given ls b);
+  kept = refl;
   err = tt;
 }
 
 pub cut_fails : {E : Type 0} (result : Result Taking E) (old new : Search) (p : Input)
     (before after : List LogLine) (had left : BudgetState) → IsErr result → StaysOpen p after
-    → PaysOpen p.given before after had left → TakesCut result old new p before after had left
-cut_fails result old new p before after had left fails log pays = record {
+    → PaysOpen p.given before after had left → left.waived ≡ had.waived
+    → TakesCut result old new p before after had left
+cut_fails result old new p before after had left fails log pays kept = record {
   takes = IfOk-from_err result (IsTaking old new p before after had left) fails;
   pays = pays;
+  kept = kept;
   err = when_err result log;
 }
+
+-- a unit was paid
+pub waived_of : (s t : BudgetState) (n : ℕ) → t ≡ record s { learned = n } → t.waived ≡ s.waived
+waived_of s t n paid = ap (λ (b : BudgetState). b.waived) paid
+
+pub waived_kept : (s t : BudgetState) (n : ℕ) → t ≡ record s { learned = n }
+    → t ≡ record s { learned = n; waived = t.waived }
+waived_kept s t n paid =
+    let kept = waived_of s t n paid in
+    paid ∙ (λ i. record {
+      limit = s.limit;
+      learned = n;
+      answers = s.answers;
+      waived = sym kept i;
+    })
 
 -- the line of one, for which a unit was paid
 pub paid_axiom : (given : Given) (a b : List LogLine) (c : List Literal) (s t : BudgetState)
     → b ≡ a ++ axiom_line c ∷ [] → t ≡ record s { learned = s.learned + 1 } → PaysOpen given a b s t
-paid_axiom given a b c s t lines paid =
-    (1, subst (λ x. WritesOpen given a x 1) (sym lines) (open_axiom given a c), paid)
+paid_axiom given a b c s t lines paid = (
+  1,
+  subst (λ x. WritesOpen given a x 1) (sym lines) (open_axiom given a c),
+  waived_kept s t (s.learned + 1) paid,
+)
 
 -- Which assumptions cannot hold together.
 
@@ -220,18 +256,20 @@ finds_none old new p asked ls b r same = record {
   runs = subst (λ (s : Search). Runs s p ls) (sym same) r;
   shown = tt;
   pays = paid_nothing p.given ls b;
+  kept = refl;
   err = tt;
 }
 
 pub finds_fails : {E : Type 0} (result : Result (Option (Vec Literal Global)) E) (new : Search)
     (p : Input) (asked : List Literal) (before after : List LogLine) (had left : BudgetState)
     → IsErr result → StaysOpen p after → PaysOpen p.given before after had left
-    → FindsCore result new p asked before after had left
-finds_fails result new p asked before after had left fails log pays = record {
+    → left.waived ≡ had.waived → FindsCore result new p asked before after had left
+finds_fails result new p asked before after had left fails log pays kept = record {
   runs = IfOk-from_err result (λ found. Runs new p after) fails;
   shown =
       IfOk-from_err result
       (λ found. IfSome found (λ core. IsShown (new.store).slots asked core.items)) fails;
   pays = pays;
+  kept = kept;
   err = when_err result log;
 }

@@ -10,3 +10,4 @@ mod Halts
 mod Assumed
 mod Frozen
 mod Solved
+pub mod Laws

@@ -40,10 +40,10 @@ pub record WritesOpen (given : Given) (before after : List LogLine) (spent : ℕ
   pub new : (base : ℕ) → IsBaseOf given base → LearnsNew nothing_exempt given base before more
   pub follows : (base : ℕ) → IsBaseOf given base → FollowByRup given base before more
 
--- and that a unit was paid for each of these
+-- and that a unit was paid for each of these; beside that effort was only waived
 abbrev pub PaysOpen : Given → List LogLine → List LogLine → BudgetState → BudgetState → Type 0
 PaysOpen given before after old new = (n : ℕ) × WritesOpen given before after n
-    × (new ≡ record old { learned = old.learned + n })
+    × (new ≡ record old { learned = old.learned + n; waived = new.waived })
 
 -- the guide stopped it where no clause is false or unit, and each literal of level 0 has a clause
 -- of its own
@@ -86,6 +86,7 @@ pub record TakesCut {E : Type 0} (result : Result Taking E) (old new : Search) (
     (before after : List LogLine) (had left : BudgetState) : Type 0 where
   pub takes : IfOk result (IsTaking old new p before after had left)
   pub pays : PaysOpen p.given before after had left
+  pub kept : left.waived ≡ had.waived
   pub err : OnErr result (StaysOpen p after)
 
 -- What a search finds where an assumption is false: a core, for which a unit was paid if its clause
@@ -97,4 +98,5 @@ pub record FindsCore {E : Type 0} (result : Result (Option (Vec Literal Global))
   pub shown : IfOk result (λ found. IfSome found
       (λ core. IsShown (new.store).slots assumptions core.items))
   pub pays : PaysOpen p.given before after had left
+  pub kept : left.waived ≡ had.waived
   pub err : OnErr result (StaysOpen p after)

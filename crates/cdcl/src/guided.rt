@@ -1,7 +1,8 @@
 // The loop of a search that a guide leads: propagate, then learn from a conflict or ask the guide.
 // Clauses may come from outside the log while it runs, as the guide hands them out and the sink
 // takes them. Each of them costs a unit of the budget, as a learned one does. So a search is
-// bounded by its budget and the variables without a value, whatever the guide says.
+// bounded by its budget and the variables without a value, whatever the guide says. The watch can
+// end it, as it waives what is left of the budget.
 ghost use Rattle.std.specs.Prelude.{◌≡◌, ◌+◌, ◌*◌, ◌<◌, ◌≤◌, true, false, length, OnOk};
 ghost use Rattle.cnf.specs.Literal.{negation};
 ghost use Rattle.cnf.specs.Marks.{mark_of, HasPlace};
@@ -9,7 +10,7 @@ ghost use Rattle.cnf.specs.declared.limits.TheConstants.{VARIABLE_LIMIT};
 ghost use Rattle.propagate.specs.Trail.{literals_of};
 ghost use Rattle.propagate.specs.Fits.{IsFalseClause, IsWithin};
 ghost use Rattle.analyze.specs.Analyzer.{IsFixpoint};
-ghost use Rattle.cdcl_order.specs.Budgets.{left_of};
+ghost use Rattle.cdcl_order.specs.Budgets.{WaivesAs, left_of};
 ghost use Rattle.cdcl_search.specs.Invariant.{zero_of};
 ghost use Rattle.cdcl_search.specs.Running.{Runs, IsReady, CanDecide, KeepsRunning, EngineMoves};
 ghost use Rattle.cdcl_search.specs.Parts.{LearnsNothing, Reduces};
@@ -18,7 +19,9 @@ ghost use Rattle.cdcl.specs.Guiding.{GuidedEnds, GuidedTurns, TakesCut};
 
 use crate::budget::Budget;
 use crate::guide::{Advice, Guide};
+use crate::searching::pay_learned;
 use crate::watch::SearchWatch;
+use cdcl_order::watch::heed;
 use cdcl_search::axioms::take_axiom;
 use cdcl_search::input::Input;
 use cdcl_search::learning::learn;
@@ -75,7 +78,9 @@ pub fn search_guided<S: Sink, G: Guide, W: SearchWatch>(
         budget.old budget.new }
     ensures follows { (first : G) → G.follows first guide.old → G.follows first guide.new }
     ensures same_seen { W.seen watch.new ≡ W.seen watch.old }
+    ensures waives { WaivesAs budget.old budget.new (W.waived watch.old) (W.waived watch.new) }
 {
+    heed(budget, watch);
     search.begin();
     guide.went_back(search.engine.assigned());
     let mut marks = Marks::empty(search.store.allocator());
@@ -103,6 +108,7 @@ fn round<S: Sink, G: Guide, W: SearchWatch>(
         (S.lines sink.new) budget.old budget.new }
     ensures follows { (first : G) → G.follows first guide.old → G.follows first guide.new }
     ensures same_seen { W.seen watch.new ≡ W.seen watch.old }
+    ensures waives { WaivesAs budget.old budget.new (W.waived watch.old) (W.waived watch.new) }
 {
     match search.propagate()? {
         Some(conflict) => on_conflict(search, input, sink, guide, budget, watch, conflict),
@@ -126,6 +132,7 @@ fn on_conflict<S: Sink, G: Guide, W: SearchWatch>(
         (S.lines sink.new) budget.old budget.new }
     ensures follows { (first : G) → G.follows first guide.old → G.follows first guide.new }
     ensures same_seen { W.seen watch.new ≡ W.seen watch.old }
+    ensures waives { WaivesAs budget.old budget.new (W.waived watch.old) (W.waived watch.new) }
 {
     if search.engine.depth() == 0 {
         refute(search, input, sink, conflict)?;
@@ -135,8 +142,7 @@ fn on_conflict<S: Sink, G: Guide, W: SearchWatch>(
         return Ok(Some(GuidedEnd::Spent));
     }
     learn(search, input, sink, conflict)?;
-    budget.count_learned();
-    watch.learned(&search.policy.report(budget));
+    pay_learned(search, budget, watch);
     guide.went_back(search.engine.assigned());
     guide.learned();
     Ok(None)
@@ -155,6 +161,7 @@ fn on_fixpoint<S: Sink, G: Guide>(
     requires fixpoint { IsFixpoint search.old.store.slots (literals_of search.old.engine.trail) }
     ensures turns { GuidedTurns result search.old search.new input.now (S.lines sink.old)
         (S.lines sink.new) budget.old budget.new }
+    ensures kept { budget.new.waived ≡ budget.old.waived }
     ensures follows { (first : G) → G.follows first guide.old → G.follows first guide.new }
 {
     if budget.left() == 0 {
@@ -184,6 +191,7 @@ fn go_on<S: Sink, G: Guide>(
     requires left { 0 < left_of budget.old }
     ensures turns { GuidedTurns result search.old search.new input.now (S.lines sink.old)
         (S.lines sink.new) budget.old budget.new }
+    ensures kept { budget.new.waived ≡ budget.old.waived }
     ensures follows { (first : G) → G.follows first guide.old → G.follows first guide.new }
 {
     let advice = ask(search, guide)?;
@@ -339,6 +347,7 @@ fn cut<S: Sink, G: Guide>(
     requires left { 0 < left_of budget.old }
     ensures turns { GuidedTurns result search.old search.new input.now (S.lines sink.old)
         (S.lines sink.new) budget.old budget.new }
+    ensures kept { budget.new.waived ≡ budget.old.waived }
     ensures follows { (first : G) → G.follows first guide.old → G.follows first guide.new }
 {
     let taking = take_cut(search, input, sink, budget, marks, guide.cut(), lbd)?;

@@ -1,10 +1,11 @@
-use Rattle.std.proofs.Common.{subst, sym, refl}
+use Rattle.std.proofs.Common.{◌+◌, subst, sym, refl}
 use Rattle.cdcl_search.specs.declared.search.Search.{Search}
 use Rattle.cdcl_search.specs.Running.{Runs, StaysOpen}
 use Rattle.cdcl_search.specs.Cores.{HasSubset, IsRefusal, IsShown}
 use Rattle.cdcl.specs.Guiding.{PaysOpen}
 use Rattle.cdcl.proofs.Rounds.{open_log}
 use Rattle.cdcl.proofs.Guiding.{finds_none, finds_fails, open_writes, paid_nothing}
+use Rattle.cdcl.proofs.Guiding.{waived_kept, waived_of}
 use Rattle.cdcl.proofs.core_finding.find_core.Goals as goal
 
 pub returns-then-not-is_refused : goal.returns-then-not-is_refused
@@ -19,7 +20,7 @@ returns-in_err-refusal g c =
     let ls = g.S.Sink.lines c.args.sink.now in
     finds_fails c.from_residual.result c.refuse.new.self p c.args.assumptions.now ls ls b b
     c.from_residual.ensures.0 (open_log c.args.search.now p ls c.requires.runs)
-    (paid_nothing p.given ls b)
+    (paid_nothing p.given ls b) refl
 
 pub returns-in-Unknown : goal.returns-in-Unknown
 returns-in-Unknown g c =
@@ -40,6 +41,7 @@ returns-in-Shown g c =
           (subst (IsRefusal c.args.search.now asked) c.in-Shown.is
           c.in_ok-refusal.ensures.refusal);
       pays = paid_nothing p.given ls b;
+      kept = refl;
       err = tt;
     }
 
@@ -53,7 +55,7 @@ returns-in_err-learn_core-in-Follows g c =
     finds_fails c.from_residual-in_err-learn_core-in-Follows.result c.learn_core.new.search p
     c.args.assumptions.now ls more b b c.from_residual-in_err-learn_core-in-Follows.ensures.0
     (subst (StaysOpen p) (sym same) (open_log c.args.search.now p ls c.requires.runs))
-    (subst (λ x. PaysOpen p.given ls x b b) (sym same) (paid_nothing p.given ls b))
+    (subst (λ x. PaysOpen p.given ls x b b) (sym same) (paid_nothing p.given ls b)) refl
 
 pub returns-in_ok-learn_core-in-Follows : goal.returns-in_ok-learn_core-in-Follows
 returns-in_ok-learn_core-in-Follows g c =
@@ -61,6 +63,8 @@ returns-in_ok-learn_core-in-Follows g c =
     let ls = g.S.Sink.lines c.args.sink.now in
     let more = g.S.Sink.lines c.learn_core.new.sink in
     let n = c.learn_core.new.search in
+    let b = c.args.budget.now in
+    let paid = c.count_learned.new.self in
     let refusal =
     subst (IsRefusal c.args.search.now c.args.assumptions.now) c.in-Follows.is
     c.in_ok-refusal.ensures.refusal in
@@ -71,6 +75,11 @@ returns-in_ok-learn_core-in-Follows g c =
         assumed = refusal.assumed;
         shown = subst (HasSubset n.store.slots) (sym refusal.negated) learns.has;
       };
-      pays = (1, open_writes p.given ls more 1 learns.writes, c.count_learned.ensures);
+      pays = (
+        1,
+        open_writes p.given ls more 1 learns.writes,
+        waived_kept b paid (b.learned + 1) c.count_learned.ensures,
+      );
+      kept = waived_of b paid (b.learned + 1) c.count_learned.ensures;
       err = tt;
     }

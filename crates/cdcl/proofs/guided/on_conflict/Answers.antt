@@ -2,7 +2,7 @@ use Rattle.std.proofs.Common.{sym, ◌∙◌, subst, arith}
 use Rattle.cdcl.specs.declared.guided.GuidedEnd.TheVariants.{Refuted, Spent}
 use Rattle.cdcl_search.specs.Running.{StaysOpen, Writes}
 use Rattle.cdcl_search.proofs.Laws.{writes_none}
-use Rattle.cdcl.proofs.Rounds.{goes_paid, open_log}
+use Rattle.cdcl.proofs.Rounds.{goes_learned, open_log}
 use Rattle.cdcl.proofs.Guiding.{guided_breaks, guided_ends, guided_goes, paid_none, paid_nothing}
 use Rattle.cdcl.proofs.Guiding.{open_writes}
 use Rattle.cdcl.proofs.guided.on_conflict.Goals as goal
@@ -55,8 +55,9 @@ returns-clause-turns g c =
     let ls = g.S.Sink.lines c.args.sink.now in
     let more = g.S.Sink.lines c.learn.new.sink in
     let learns = c.in_ok-learn.ensures.learns in
-    guided_goes c.args.search.now c.learn.new.search p ls more b c.count_learned.new.self
-    (goes_paid c.args.search.now c.learn.new.search p more b c.count_learned.new.self
-    learns.runs learns.variables c.count_learned.ensures
-    (omega (arith, c.left.ensures.left, c.if-left-eq0.false)))
-    (1, open_writes p.given ls more 1 learns.writes, c.count_learned.ensures)
+    let paid = c.pay_learned.new.budget in
+    let e = c.pay_learned.ensures in
+    guided_goes c.args.search.now c.learn.new.search p ls more b paid
+    (goes_learned c.args.search.now c.learn.new.search p more b paid learns.runs learns.variables
+    e.pays e.more (omega (arith, c.left.ensures.left, c.if-left-eq0.false)))
+    (1, open_writes p.given ls more 1 learns.writes, e.pays)

@@ -1,14 +1,15 @@
-use Rattle.std.proofs.Common.{refl, ◌∙◌}
-use Rattle.cdcl.proofs.Guiding.{guided_fails, paid_nothing, paid_join}
+use Rattle.std.proofs.Common.{◌∙◌, arith}
+use Rattle.cdcl.proofs.Guiding.{guided_fails, paid_waived, paid_join}
 use Rattle.cdcl.proofs.guided.search_guided.Goals as goal
 
 pub rounds-init : goal.rounds-init
 rounds-init g c = record {
   runs = c.begin.ensures.runs c.args.input.now (g.S.Sink.lines c.args.sink.now) c.requires.runs;
-  pays = paid_nothing c.args.input.now.given (g.S.Sink.lines c.args.sink.now)
-      c.args.budget.now;
+  pays = paid_waived c.args.input.now.given (g.S.Sink.lines c.args.sink.now)
+      c.args.budget.now c.heed.new.budget c.heed.ensures.budget;
   follows = λ first f. c.went_back.ensures.follows first f;
-  same_seen = refl;
+  same_seen = c.heed.ensures.same_seen;
+  waives = c.heed.ensures.waives;
 }
 
 pub rounds-preserved : goal.rounds-preserved
@@ -20,6 +21,7 @@ rounds-preserved g c = record {
       c.rounds.budget c.round.new.budget c.rounds.invariant.pays c.round.ensures.turns.pays;
   follows = λ first f. c.round.ensures.follows first (c.rounds.invariant.follows first f);
   same_seen = c.round.ensures.same_seen ∙ c.rounds.invariant.same_seen;
+  waives = omega (arith, c.round.ensures.waives, c.rounds.invariant.waives);
 }
 
 pub returns-in_err-end-clause-search : goal.returns-in_err-end-clause-search

@@ -1,4 +1,5 @@
 use Rattle.std.proofs.Common.{◌≡◌}
+use Rattle.cdcl_order.specs.Budgets.{WaivesAs}
 use Rattle.cdcl_search.specs.Running.{Runs}
 use Rattle.cdcl.specs.Turns.{rounds_left}
 use Rattle.cdcl.specs.Guiding.{PaysOpen}
@@ -12,6 +13,8 @@ invariant-rounds g l = record {
   follows : (first : g.row.G.Denot) → g.G.Guide.follows first l.fn.guide
       → g.G.Guide.follows first l.guide;
   same_seen : g.W.SearchWatch.seen l.watch ≡ g.W.SearchWatch.seen l.fn.watch;
+  waives : WaivesAs l.fn.budget l.budget (g.W.SearchWatch.waived l.fn.watch)
+      (g.W.SearchWatch.waived l.watch);
 }
 
 abbrev pub decreases-rounds : goal.decreases-rounds

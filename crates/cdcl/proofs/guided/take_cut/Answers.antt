@@ -1,4 +1,4 @@
-use Rattle.std.proofs.Common.{◌≡◌, ◌<◌, List, [], ◌∷◌, ◌++◌, length, refl, sym, ◌∙◌, subst, arith}
+use Rattle.std.proofs.Common.{◌≡◌, ◌+◌, ◌<◌, List, [], ◌∷◌, ◌++◌, length, refl, sym, ◌∙◌, subst, arith}
 use Rattle.std.proofs.lemmas.Bool.{eqb-true, eqb-false}
 use Rattle.std.proofs.lemmas.List.{nil_from_length}
 use Rattle.cnf.specs.Literal.{Literal}
@@ -9,6 +9,7 @@ use Rattle.cdcl_search.proofs.Laws.{axiom_ends, axiom_stays}
 use Rattle.cdcl.specs.Guiding.{PaysOpen}
 use Rattle.cdcl.proofs.Rounds.{goes_paid, open_log}
 use Rattle.cdcl.proofs.Guiding.{cut_refused, cut_fails, paid_axiom, paid_nothing}
+use Rattle.cdcl.proofs.Guiding.{waived_of}
 use Rattle.cdcl.proofs.guided.take_cut.Goals as goal
 
 pub returns-in_err-make_room : goal.returns-in_err-make_room
@@ -18,7 +19,7 @@ returns-in_err-make_room g c =
     let b = c.args.budget.now in
     let ls = g.S.Sink.lines c.args.sink.now in
     cut_fails c.from_residual.result s s p ls ls b b c.from_residual.ensures.0
-    (open_log s p ls c.requires.runs) (paid_nothing p.given ls b)
+    (open_log s p ls c.requires.runs) (paid_nothing p.given ls b) refl
 
 pub returns-then-not-are_apart : goal.returns-then-not-are_apart
 returns-then-not-are_apart g c =
@@ -36,7 +37,7 @@ returns-in_err-taken g c =
     cut_fails c.from_residual-in_err-taken.result s s p ls more b b
     c.from_residual-in_err-taken.ensures.0
     (subst (StaysOpen p) (sym same) (open_log s p ls c.requires.runs))
-    (subst (λ x. PaysOpen p.given ls x b b) (sym same) (paid_nothing p.given ls b))
+    (subst (λ x. PaysOpen p.given ls x b b) (sym same) (paid_nothing p.given ls b)) refl
 
 pub returns-then-not-taken : goal.returns-then-not-taken
 returns-then-not-taken g c =
@@ -51,6 +52,7 @@ returns-then-is_empty g c =
     let ls = g.S.Sink.lines c.args.sink.now in
     let lits = c.args.lits.now in
     let lines = c.in_ok-taken.ensures.taken c.if-not-taken.false in
+    let b = c.args.budget.now in
     let none : lits ≡ [] =
     nil_from_length lits
     (eqb-true (length lits) 0 (sym c.is_empty.ensures ∙ c.if-is_empty.true)) in
@@ -61,8 +63,9 @@ returns-then-is_empty g c =
           (subst (λ (x : List Literal). IsEnded p (ls ++ axiom_line x ∷ [])) (sym none)
           (axiom_ends s p ls c.requires.runs (subst IsNewClause none new)));
       pays =
-          paid_axiom p.given ls (g.S.Sink.lines c.cut.new.self) lits c.args.budget.now
+          paid_axiom p.given ls (g.S.Sink.lines c.cut.new.self) lits b
           c.count_learned.new.self lines c.count_learned.ensures;
+      kept = waived_of b c.count_learned.new.self (b.learned + 1) c.count_learned.ensures;
       err = tt;
     }
 
@@ -82,6 +85,8 @@ returns-in_err-take_axiom g c =
     (c.are_apart.ensures.new c.if-not-are_apart.false)))
     (paid_axiom p.given ls more lits c.args.budget.now c.count_learned.new.self lines
     c.count_learned.ensures)
+    (waived_of c.args.budget.now c.count_learned.new.self (c.args.budget.now.learned + 1)
+    c.count_learned.ensures)
 
 pub returns : goal.returns
 returns g c =
@@ -100,5 +105,6 @@ returns g c =
       pays =
           paid_axiom p.given ls more c.args.lits.now b c.count_learned.new.self lines
           c.count_learned.ensures;
+      kept = waived_of b c.count_learned.new.self (b.learned + 1) c.count_learned.ensures;
       err = tt;
     }
