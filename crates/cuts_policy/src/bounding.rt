@@ -1,0 +1,221 @@
+// The present form as a bound of the search, as pseudo-Boolean solvers use theirs (Chai and
+// Kuehlmann, "A fast pseudo-Boolean constraint solver", 2003): where what is true already costs
+// too much, that is a conflict, and its clause is a cut. Conflicts alone: what the bound implies is
+// left to propagation after the next cut.
+//
+// The sum is kept by the trail: what comes to the trail is looked at once, and what leaves it is
+// taken off again. A cut has the first costly literals of the trail that are too much together,
+// without those that it can do without. Its length is what the certificate pays for, and those of
+// high levels are left out first.
+ghost use Rattle.std.specs.Prelude.{⊤};
+
+use crate::desk::Desk;
+use crate::tables::{at, set};
+use cdcl::guide::{Advice, Guide};
+use cdcl_search::search::Search;
+use cnf::types::Lit;
+use std::alloc::{AllocError, Global};
+
+/// A literal of the trail that costs something.
+#[derive(Clone, Copy, Drop)]
+struct Paid {
+    // Its place on the trail.
+    place: usize,
+    // What it costs, from 1.
+    weight: u64,
+}
+
+/// A bound of what the true literals cost together.
+#[derive(Drop)]
+pub(crate) struct BoundGuide {
+    // By literal: what it costs where it is true, up to one more than the limit.
+    weights: Vec<u64>,
+    // More than this is too much.
+    limit: u64,
+    // So many literals of the trail were looked at.
+    seen: usize,
+    // What the costly ones among them cost together.
+    sum: u128,
+    // The costly ones among them, in the order of the trail.
+    paid: Vec<Paid>,
+    // The last cut.
+    cut: Vec<Lit>,
+    // So many clauses may still be learned, or cut.
+    left: u64,
+}
+
+impl BoundGuide {
+    /// The present form as a bound, for about so many clauses that are learned or cut: what is
+    /// cheaper than the best solution stays below it. None where nothing does.
+    pub(crate) fn new<D: Desk>(desk: &D, share: u64) -> Result<Option<Self>, AllocError> {
+        let Some(limit) = limit_below_best(desk) else {
+            return Ok(None);
+        };
+        let alloc = desk.allocator();
+        Ok(Some(BoundGuide {
+            weights: open_weights(desk, limit.saturating_add(1))?,
+            limit,
+            seen: 0,
+            sum: 0,
+            paid: Vec::new(alloc),
+            cut: Vec::new(alloc),
+            left: share,
+        }))
+    }
+
+    /// Looks at what came to the trail.
+    fn look(&mut self, trail: &[Lit]) -> Result<(), AllocError> {
+        for place in self.seen..trail.len() {
+            let lit = at(trail, place);
+            let weight = at(&self.weights, lit.index());
+            if weight > 0 {
+                self.sum = self.sum.saturating_add(weight as u128);
+                self.paid.push(Paid { place, weight })?;
+            }
+        }
+        self.seen = trail.len();
+        Ok(())
+    }
+
+    /// How many of the first costly literals are too much together, and by how much more than need
+    /// be.
+    fn enough(&self) -> (usize, u128) {
+        let limit = self.limit as u128;
+        let mut sum: u128 = 0;
+        let mut count: usize = 0;
+        for paid in &self.paid {
+            if sum > limit {
+                break;
+            }
+            sum = sum.saturating_add(paid.weight as u128);
+            count = count.saturating_add(1);
+        }
+        (count, sum.saturating_sub(limit).saturating_sub(1))
+    }
+
+    /// Makes the cut of what is too much; answers of how many levels its literals are. What is true
+    /// at level 0 stands first on the trail, and is no part of it.
+    fn make_cut(&mut self, search: &Search) -> Result<u32, AllocError> {
+        let trail = search.engine.trail();
+        let fixed = search.engine.first_above(0);
+        let (count, mut slack) = self.enough();
+        let mut level: Option<u32> = None;
+        let mut levels: u32 = 0;
+        self.cut.clear();
+        for back in 0..count {
+            let place = count.saturating_sub(back).saturating_sub(1);
+            let Some(paid) = self.paid.get(place).copied() else {
+                break;
+            };
+            if paid.place < fixed {
+                break;
+            }
+            if paid.weight as u128 <= slack {
+                slack = slack.saturating_sub(paid.weight as u128);
+                continue;
+            }
+            let lit = at(trail, paid.place);
+            self.cut.push(lit.negation())?;
+            let own = level_of(search, lit);
+            if own != level {
+                level = own;
+                levels = levels.saturating_add(1);
+            }
+        }
+        Ok(levels)
+    }
+}
+
+/// How much of the present form may be true, beside its least value, in what is cheaper than the
+/// best solution. None where nothing can be.
+fn limit_below_best<D: Desk>(desk: &D) -> Option<u64> {
+    let cost = desk.cost().checked_sub(1)?;
+    let most = (desk.forms().scale() as u128).saturating_mul(cost as u128);
+    let least = desk.forms().least();
+    let room = if least < 0 {
+        most.saturating_add(least.unsigned_abs())
+    } else {
+        most.checked_sub(least.unsigned_abs())?
+    };
+    Some(u64::try_from(room).unwrap_or(u64::MAX))
+}
+
+/// By literal: what it adds to the least value of the present form where it is true, and no more
+/// than this much. Variables that have a value add nothing.
+fn open_weights<D: Desk>(desk: &D, most: u64) -> Result<Vec<u64>, AllocError> {
+    let forms = desk.forms();
+    let last = forms.variables();
+    let mut weights = Vec::from_elem(desk.allocator(), 0, (last as usize).saturating_mul(2))?;
+    for variable in 1..last.saturating_add(1) {
+        let coefficient = forms.coefficient(variable);
+        if coefficient == 0 || forms.value(variable).is_some() {
+            continue;
+        }
+        let lit = Lit::new(variable, coefficient < 0);
+        let weight = u64::try_from(coefficient.unsigned_abs()).unwrap_or(u64::MAX);
+        set(&mut weights, lit.index(), weight.min(most));
+    }
+    Ok(weights)
+}
+
+/// The level of the literal, if it has one.
+fn level_of(search: &Search, lit: Lit) -> Option<u32> {
+    if lit.variable() > search.engine.variables() {
+        return None;
+    }
+    search.engine.level(lit.variable())
+}
+
+impl Guide for BoundGuide {
+    ghost follows = { λ _ _. ⊤ };
+
+    fn advise(&mut self, search: &Search) -> Result<Advice, AllocError> {
+        if self.left == 0 {
+            return Ok(Advice::Stop);
+        }
+        self.look(search.engine.trail())?;
+        if self.sum <= self.limit as u128 {
+            return Ok(Advice::Free);
+        }
+        self.left = self.left.saturating_sub(1);
+        let levels = self.make_cut(search)?;
+        Ok(Advice::Cut(Some(levels)))
+    }
+
+    fn cut(&self) -> &[Lit] {
+        &self.cut
+    }
+
+    fn refused(&mut self) {
+        self.left = 0;
+    }
+
+    fn explained(&mut self, _falsified: Lit, _clause: &[Lit]) -> Result<(), AllocError> {
+        Ok(())
+    }
+
+    fn went_back(&mut self, assigned: usize) {
+        for _ in 0..self.paid.len() {
+            match self.paid.last() {
+                Some(paid) if paid.place >= assigned => {
+                    self.sum = self.sum.saturating_sub(paid.weight as u128);
+                }
+                _ => break,
+            }
+            self.paid.pop();
+        }
+        self.seen = self.seen.min(assigned);
+    }
+
+    fn learned(&mut self) {
+        self.left = self.left.saturating_sub(1);
+    }
+
+    fn kept_levels(&self) -> usize {
+        0
+    }
+
+    fn may_delete(&self) -> bool {
+        true
+    }
+}

@@ -1,0 +1,92 @@
+// The present form: that of the cores, which is the cost less the facts of their counts, each as
+// many times as its core is worth, so that its literals cost that much less and its outputs that
+// much (the reformulation of OLL, as one linear form); or the cost itself. Lines are written only
+// for what is new.
+
+use crate::desk::{Desk, DeskFault};
+use forms::types::NamedFact;
+use std::alloc::{AllocError, Global};
+
+/// What the present form is.
+#[derive(Clone, Copy, Debug, PartialEq, Eq, Drop)]
+enum Present {
+    /// There is none yet.
+    None,
+    /// The cost itself.
+    Cost,
+    /// That of the cores, with so many of their facts.
+    Cores(usize),
+}
+
+/// What the log was told of forms and bounds.
+#[derive(Drop)]
+pub(crate) struct Citing {
+    // The facts of the cores' form.
+    facts: Vec<NamedFact>,
+    // The present form.
+    present: Present,
+    // The greatest bound that was told.
+    told: u64,
+}
+
+impl Citing {
+    /// Before the first form.
+    pub(crate) fn new(alloc: Global) -> Self {
+        Citing {
+            facts: Vec::new(alloc),
+            present: Present::None,
+            told: 0,
+        }
+    }
+
+    /// The cores' form is less so many times the fact of the count with this number.
+    pub(crate) fn add(&mut self, weight: u64, number: u64) -> Result<(), AllocError> {
+        self.facts.push(NamedFact {
+            weight,
+            is_numbered: true,
+            number,
+        })?;
+        Ok(())
+    }
+
+    /// The form of the cores becomes the present one, with all facts so far; answers whether it is.
+    pub(crate) fn cite_cores<D: Desk>(&mut self, desk: &mut D) -> Result<bool, DeskFault>
+        ensures follows { (first : D) → D.follows first desk.old → D.follows first desk.new }
+    {
+        let all = self.facts.len();
+        let is_right = match self.present {
+            Present::Cores(count) if count >= all => true,
+            Present::Cores(count) => desk.form_more(self.facts.get(count..).unwrap_or(&[]))?,
+            Present::None | Present::Cost => desk.form(1, &self.facts)?,
+        };
+        if is_right {
+            self.present = Present::Cores(all);
+        }
+        Ok(is_right)
+    }
+
+    /// The cost itself becomes the present form; answers whether it was another.
+    pub(crate) fn cite_cost<D: Desk>(&mut self, desk: &mut D) -> Result<bool, DeskFault>
+        ensures follows { (first : D) → D.follows first desk.old → D.follows first desk.new }
+    {
+        let is_new = self.present != Present::Cost && desk.form(1, &[])?;
+        if is_new {
+            self.present = Present::Cost;
+        }
+        Ok(is_new)
+    }
+
+    /// Says what the present form is worth, where that is more than what was said.
+    pub(crate) fn tell_bound<D: Desk>(&mut self, desk: &mut D) -> Result<(), DeskFault>
+        ensures follows { (first : D) → D.follows first desk.old → D.follows first desk.new }
+    {
+        let worth = match desk.forms().bound() {
+            Ok(Some(worth)) => worth,
+            _ => 0,
+        };
+        if worth > self.told && desk.bound(worth)? {
+            self.told = worth;
+        }
+        Ok(())
+    }
+}

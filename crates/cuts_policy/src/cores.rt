@@ -1,0 +1,384 @@
+// Lower bounds by cores, stratified and weight-aware, with counts that grow. It is OLL (Andres,
+// Kaufmann, Matheis and Schaub, "Unsatisfiability-based optimization in clasp", 2012), as for soft
+// cardinality constraints (Morgado, Dodaro and Marques-Silva, "Core-Guided MaxSAT with Soft
+// Cardinality Constraints", 2014).
+//
+// In a stratum all relaxation literals and outputs with a rest of at least the threshold are
+// assumed false (stratification: Ansótegui, Bonet and Levy, "Improving SAT-Based Weighted MaxSAT
+// Solvers", 2012). A core takes the least rest of its literals; where one of them is the last
+// output of a count, that gets the next one. What is too dear to be true in anything cheaper than
+// the best solution is fixed by a cut under the form of the cores (hardening, of the same paper).
+//
+// One search of a stratum finds many cores: it passes over each assumption that is false where
+// those before it hold, and what explains it is a core. They are shortened and taken one after the
+// other, as long as all their literals have a rest. Made disjoint beforehand they were worth less.
+use crate::counting::Counting;
+use crate::desk::{Desk, DeskFault, Trial};
+use crate::items::Items;
+use crate::shortening::{Shortened, negations, shorten};
+use crate::tables::at;
+use adder::relaxations::Relaxation;
+use cdcl::assumptions::Assumptions;
+use cdcl::outcome::{Passed, Share};
+use cnf::clause_list::ClauseList;
+use cnf::types::Lit;
+use std::alloc::{AllocError, Global};
+
+/// What explains the assumptions that are passed over in one search has about so many literals for
+/// each assumption.
+const PASSED: usize = 4;
+
+/// How a turn of a part of the search goes on.
+#[derive(Clone, Copy, Debug, PartialEq, Eq, Drop)]
+pub(crate) enum Course {
+    /// There is more to do in this turn.
+    GoesOn,
+    /// Its share is spent, or it knows nothing more to do.
+    Over,
+    /// Nothing is cheaper than the best solution, or nothing is left of the budget.
+    Ended,
+}
+
+/// The search for cores.
+#[derive(Drop)]
+pub(crate) struct Cores {
+    // What may be assumed false.
+    items: Items,
+    // The cores so far, and their form.
+    counting: Counting,
+    // What has at least so much as its rest is assumed false; 0 before the first stratum.
+    threshold: u64,
+    // What the cores are worth together: no solution costs less.
+    lower: u64,
+    // Whether no further core can be looked for.
+    is_over: bool,
+}
+
+impl Cores {
+    /// No core yet.
+    pub(crate) fn new(
+        alloc: Global,
+        weights: &[Relaxation],
+        last: u32,
+    ) -> Result<Self, AllocError> {
+        let mut items = Items::new(alloc, weights, last)?;
+        let lower = items.pay_both();
+        Ok(Cores {
+            items,
+            counting: Counting::new(alloc),
+            threshold: 0,
+            lower,
+            is_over: false,
+        })
+    }
+
+    /// Looks for cores until about so many clauses were learned.
+    pub(crate) fn turn<D: Desk>(&mut self, desk: &mut D, share: u64) -> Result<Course, DeskFault>
+        ensures follows { (first : D) → D.follows first desk.old → D.follows first desk.new }
+    {
+        let end = desk.learned().saturating_add(share);
+        for _ in 0..u64::MAX {
+            let left = end.saturating_sub(desk.learned());
+            match self.step(desk, left)? {
+                Course::GoesOn => {}
+                Course::Over => return self.leave(desk),
+                Course::Ended => return Ok(Course::Ended),
+            }
+        }
+        Ok(Course::Over)
+    }
+
+    /// Ends a turn: what waits comes, and the bound is told.
+    fn leave<D: Desk>(&mut self, desk: &mut D) -> Result<Course, DeskFault>
+        ensures follows { (first : D) → D.follows first desk.old → D.follows first desk.new }
+    {
+        self.flush(desk)?;
+        self.counting.release(&mut self.items)?;
+        if self.settle(desk)? {
+            return Ok(Course::Ended);
+        }
+        self.counting.citing.cite_cores(desk)?;
+        self.counting.citing.tell_bound(desk)?;
+        Ok(Course::Over)
+    }
+
+    /// Says what the present form is worth, where that is more than what was said.
+    pub(crate) fn tell_bound<D: Desk>(&mut self, desk: &mut D) -> Result<(), DeskFault>
+        ensures follows { (first : D) → D.follows first desk.old → D.follows first desk.new }
+    {
+        if desk.is_refuted() {
+            return Ok(());
+        }
+        self.counting.citing.tell_bound(desk)
+    }
+
+    /// The form of the cores becomes the present one; answers whether it has.
+    pub(crate) fn cite_cores<D: Desk>(&mut self, desk: &mut D) -> Result<bool, DeskFault>
+        ensures follows { (first : D) → D.follows first desk.old → D.follows first desk.new }
+    {
+        self.counting.citing.cite_cores(desk)
+    }
+
+    /// The present form comes to say what the solution costs that the search has ended at, by more
+    /// outputs or as the cost itself; answers whether it has changed.
+    pub(crate) fn mend_form<D: Desk>(&mut self, desk: &mut D) -> Result<bool, DeskFault>
+        ensures follows { (first : D) → D.follows first desk.old → D.follows first desk.new }
+    {
+        if self.counting.grow_for_solution(desk, &mut self.items)? {
+            self.is_over = false;
+            return Ok(true);
+        }
+        self.counting.citing.cite_cost(desk)
+    }
+
+    /// One search of the stratum, and what follows from it.
+    fn step<D: Desk>(&mut self, desk: &mut D, share: u64) -> Result<Course, DeskFault>
+        ensures follows { (first : D) → D.follows first desk.old → D.follows first desk.new }
+    {
+        if self.settle(desk)? {
+            return Ok(Course::Ended);
+        }
+        if self.is_over || share == 0 || (self.threshold == 0 && !self.next_stratum()) {
+            return Ok(Course::Over);
+        }
+        let alloc = desk.allocator();
+        let assumed = self.assumed(desk)?;
+        let room = assumed.len().saturating_mul(PASSED);
+        let share = Share {
+            learned: share,
+            decisions: u64::MAX,
+        };
+        let start = desk.learned();
+        let mut guide = Assumptions::new(alloc, assumed, share, Passed::new(alloc, room));
+        match desk.assume(&mut guide)? {
+            Trial::Refuted | Trial::Spent => Ok(Course::Ended),
+            Trial::Met => self.after_solution(desk),
+            Trial::Core(lits) => {
+                let mut one = ClauseList::new(alloc);
+                one.push(&negations(alloc, &lits)?)?;
+                self.take_all(desk, &one, start)
+            }
+            Trial::Stopped => self.take_all(desk, &guide.passed().clauses, start),
+        }
+    }
+
+    /// Counts what is fixed, and fixes what is too dear; answers whether nothing is cheaper than
+    /// the best solution.
+    fn settle<D: Desk>(&mut self, desk: &mut D) -> Result<bool, DeskFault>
+        ensures follows { (first : D) → D.follows first desk.old → D.follows first desk.new }
+    {
+        self.pay_fixed(desk)?;
+        if desk.is_refuted() || self.close(desk)? {
+            return Ok(true);
+        }
+        self.harden(desk)?;
+        Ok(desk.is_refuted())
+    }
+
+    /// What is fixed true is paid, and what is fixed false never is. Where the last output of a
+    /// count is true, that gets the next one.
+    fn pay_fixed<D: Desk>(&mut self, desk: &mut D) -> Result<(), DeskFault>
+        ensures follows { (first : D) → D.follows first desk.old → D.follows first desk.new }
+    {
+        for place in 0..self.items.list().len() {
+            let lit = at(self.items.list(), place);
+            let Some(is_true) = desk.fixed(lit) else {
+                continue;
+            };
+            let rest = self.items.drop_rest(lit);
+            if is_true {
+                self.lower = self.lower.saturating_add(rest);
+                self.counting.grow_after(desk, &mut self.items, lit)?;
+            }
+        }
+        self.items.tidy();
+        Ok(())
+    }
+
+    /// Refutes what is cheaper than the best solution, where the cores are worth that; answers
+    /// whether it has.
+    fn close<D: Desk>(&mut self, desk: &mut D) -> Result<bool, DeskFault>
+        ensures follows { (first : D) → D.follows first desk.old → D.follows first desk.new }
+    {
+        if self.lower < desk.cost() {
+            return Ok(false);
+        }
+        self.flush(desk)?;
+        if self.lower < desk.cost() {
+            return Ok(false);
+        }
+        self.is_over = true;
+        if !self.cite_cores(desk)? {
+            return Ok(false);
+        }
+        desk.cut(&[])
+    }
+
+    /// Fixes what costs more than is left below the best solution.
+    fn harden<D: Desk>(&mut self, desk: &mut D) -> Result<(), DeskFault>
+        ensures follows { (first : D) → D.follows first desk.old → D.follows first desk.new }
+    {
+        if !desk.has_solution() {
+            return Ok(());
+        }
+        let gap = desk.cost().saturating_sub(self.lower).saturating_sub(1);
+        let dear = self.dearer_than(desk, gap)?;
+        if dear.is_empty() {
+            return Ok(());
+        }
+        self.flush(desk)?;
+        if self.cite_cores(desk)? {
+            self.fix_false(desk, &dear)?;
+        }
+        Ok(())
+    }
+
+    /// Fixes the literals false, by cuts under the present form, as long as those are right. Then
+    /// they never cost anything: that they are fixed is seen by the next search alone.
+    fn fix_false<D: Desk>(&mut self, desk: &mut D, dear: &[Lit]) -> Result<(), DeskFault>
+        ensures follows { (first : D) → D.follows first desk.old → D.follows first desk.new }
+    {
+        for lit in dear {
+            if !desk.cut(&[lit.negation()])? {
+                break;
+            }
+            self.items.drop_rest(*lit);
+        }
+        self.items.tidy();
+        Ok(())
+    }
+
+    /// Literals without a value that cost more than this.
+    fn dearer_than<D: Desk>(&self, desk: &D, gap: u64) -> Result<Vec<Lit>, AllocError> {
+        let mut dear = Vec::new(desk.allocator());
+        for lit in self.items.list() {
+            if self.items.rest(*lit) > gap && desk.fixed(*lit).is_none() {
+                dear.push(*lit)?;
+            }
+        }
+        Ok(dear)
+    }
+
+    /// What the stratum assumes: the negations of what is dear, the dearest first.
+    fn assumed<D: Desk>(&self, desk: &D) -> Result<Vec<Lit>, AllocError> {
+        let mut dear = self.dearer_than(desk, self.threshold.saturating_sub(1))?;
+        let items = &self.items;
+        dear.sort_by_key(|lit| u64::MAX.saturating_sub(items.rest(*lit)))?;
+        negations(desk.allocator(), &dear)
+    }
+
+    /// The next lower threshold; false where there is none.
+    fn next_stratum(&mut self) -> bool {
+        let mut top: u64 = 0;
+        for lit in self.items.list() {
+            let rest = self.items.rest(*lit);
+            if rest > top && (self.threshold == 0 || rest < self.threshold) {
+                top = rest;
+            }
+        }
+        if top == 0 {
+            return false;
+        }
+        let next = if self.threshold == 0 {
+            top / 2
+        } else {
+            top.min((top / 2).saturating_add(1))
+        };
+        self.threshold = next.max(1);
+        true
+    }
+
+    /// A solution under all assumptions of the stratum: what waits comes, or the threshold falls.
+    /// Where all that costs something was assumed, and the solution costs more than the cores are
+    /// worth, the counts lack outputs.
+    fn after_solution<D: Desk>(&mut self, desk: &mut D) -> Result<Course, DeskFault>
+        ensures follows { (first : D) → D.follows first desk.old → D.follows first desk.new }
+    {
+        if self.counting.waits() {
+            self.flush(desk)?;
+            self.counting.release(&mut self.items)?;
+            return Ok(Course::GoesOn);
+        }
+        if self.next_stratum() || self.lower >= desk.cost() {
+            return Ok(Course::GoesOn);
+        }
+        if self.counting.grow_for_solution(desk, &mut self.items)? {
+            self.counting.release(&mut self.items)?;
+        } else {
+            self.is_over = true;
+        }
+        Ok(Course::GoesOn)
+    }
+
+    /// Takes the cores one after the other, as long as all their literals have a rest. The turn is
+    /// over where nothing came of them, and of the search since so many clauses were learned.
+    fn take_all<D: Desk>(
+        &mut self,
+        desk: &mut D,
+        cores: &ClauseList,
+        start: u64,
+    ) -> Result<Course, DeskFault>
+        ensures follows { (first : D) → D.follows first desk.old → D.follows first desk.new }
+    {
+        let mut is_idle = true;
+        for core in cores.iter() {
+            if !self.is_open(desk, core) {
+                is_idle = false;
+                continue;
+            }
+            match shorten(desk, &mut self.items, core)? {
+                Shortened::Ended => return Ok(Course::Ended),
+                Shortened::Open => {}
+                Shortened::Core(lits) => {
+                    self.take(desk, lits)?;
+                    is_idle = false;
+                }
+            }
+        }
+        if is_idle && desk.learned() == start {
+            return Ok(Course::Over);
+        }
+        Ok(Course::GoesOn)
+    }
+
+    /// Whether all literals of a core have a rest, and none has a value.
+    fn is_open<D: Desk>(&self, desk: &D, core: &[Lit]) -> bool {
+        for lit in core {
+            if self.items.rest(*lit) == 0 || desk.fixed(*lit).is_some() {
+                return false;
+            }
+        }
+        true
+    }
+
+    /// Takes the weight of a core from its literals. A core of one literal has fixed it, so it is
+    /// paid as such.
+    fn take<D: Desk>(&mut self, desk: &mut D, lits: Vec<Lit>) -> Result<(), DeskFault>
+        ensures follows { (first : D) → D.follows first desk.old → D.follows first desk.new }
+    {
+        let weight = self.items.least_rest(&lits);
+        if weight == 0 || lits.len() < 2 {
+            return Ok(());
+        }
+        self.lower = self.lower.saturating_add(weight);
+        for place in 0..lits.len() {
+            let lit = at(&lits, place);
+            self.items.charge(lit, weight);
+            self.counting.grow_after(desk, &mut self.items, lit)?;
+        }
+        self.counting.add(lits, weight)?;
+        Ok(())
+    }
+
+    /// Makes the counts that wait. Cores for which there is no room are worth nothing to the form.
+    fn flush<D: Desk>(&mut self, desk: &mut D) -> Result<(), DeskFault>
+        ensures follows { (first : D) → D.follows first desk.old → D.follows first desk.new }
+    {
+        let lost = self.counting.flush(desk, &mut self.items)?;
+        if lost > 0 {
+            self.lower = self.lower.saturating_sub(lost);
+            self.is_over = true;
+        }
+        Ok(())
+    }
+}

@@ -1,0 +1,13 @@
+//! What the search by forms and cuts does next: lower bounds by cores, and solutions below the best
+//! one, in turns. Nothing that is promised of the search rests on it.
+#![tactic(auto)]
+
+mod bounding;
+mod citing;
+mod cores;
+mod counting;
+pub mod desk;
+mod items;
+pub mod rounds;
+mod shortening;
+mod tables;

@@ -1,0 +1,119 @@
+// The rounds of the search: cores, then solutions below the best one, each for a share of conflicts
+// that grows from round to round. Some instances are closed by cores alone, and some only from
+// above (Ansótegui, Bonet and Levy, "SAT-based MaxSAT algorithms", 2013, compare the two).
+//
+// The cores' form is the bound under which solutions are looked for. A solution that is no cheaper
+// shows that the form leaves cost unsaid: then counts grow; and where that takes too much, the cost
+// itself is the form until the round's end.
+ghost use Rattle.std.specs.Prelude.{◌≡◌, ◌⊎◌, OnOk};
+
+use crate::bounding::BoundGuide;
+use crate::cores::{Cores, Course};
+use crate::desk::{Descent, Desk, DeskFault};
+use crate::tables::set;
+use adder::relaxations::Relaxation;
+use cdcl::assumptions::Assumptions;
+use cdcl::outcome::{Passed, Share};
+use std::alloc::{AllocError, Global};
+
+/// The first turns learn about so many clauses.
+const FIRST: u64 = 1000;
+
+/// Searches until nothing is cheaper than the best solution, or the budget is spent. `weights` are
+/// the literals that cost something, with what they cost. Each round costs a unit at least.
+///
+/// # Errors
+///
+/// Those of `Desk`.
+pub fn search<D: Desk>(desk: &mut D, weights: &[Relaxation]) -> Result<(), DeskFault>
+    ensures ended { OnOk result (D.refuted desk.new ⊎ (D.left desk.new ≡ 0)) }
+    ensures follows { (first : D) → D.follows first desk.old → D.follows first desk.new }
+{
+    begin(desk, weights)?;
+    let mut cores = Cores::new(desk.allocator(), weights, desk.last())?;
+    let mut share = FIRST;
+    let mut left = desk.left();
+    while left > 0 {
+        if desk.is_refuted() {
+            return Ok(());
+        }
+        round(desk, &mut cores, share)?;
+        share = share.saturating_add(share / 2);
+        desk.charge(left - 1);
+        left = desk.left();
+    }
+    Ok(())
+}
+
+/// Decisions try the best solution first. Where there is none, they try what costs nothing, until a
+/// first one is found.
+fn begin<D: Desk>(desk: &mut D, weights: &[Relaxation]) -> Result<(), DeskFault>
+    ensures follows { (first : D) → D.follows first desk.old → D.follows first desk.new }
+{
+    if desk.has_solution() {
+        desk.suggest_best();
+        return Ok(());
+    }
+    let alloc = desk.allocator();
+    let values = cheap_values(alloc, weights, desk.last())?;
+    desk.suggest(&values);
+    let all = Share {
+        learned: u64::MAX,
+        decisions: u64::MAX,
+    };
+    let mut free = Assumptions::new(alloc, Vec::new(alloc), all, Passed::new(alloc, 0));
+    desk.assume(&mut free)?;
+    Ok(())
+}
+
+/// By variable, that of 1 first: the value that costs nothing, where the other one does.
+fn cheap_values(alloc: Global, weights: &[Relaxation], last: u32) -> Result<Vec<bool>, AllocError> {
+    let mut values = Vec::from_elem(alloc, false, last as usize)?;
+    for weight in weights {
+        let place = (weight.lit.variable() as usize).saturating_sub(1);
+        set(&mut values, place, weight.lit.is_negated());
+    }
+    Ok(values)
+}
+
+/// Cores, and then solutions, for a share of conflicts each.
+fn round<D: Desk>(desk: &mut D, cores: &mut Cores, share: u64) -> Result<(), DeskFault>
+    ensures follows { (first : D) → D.follows first desk.old → D.follows first desk.new }
+{
+    match cores.turn(desk, share)? {
+        Course::GoesOn | Course::Over => descend(desk, cores, share)?,
+        Course::Ended => {}
+    }
+    cores.tell_bound(desk)
+}
+
+/// Looks for solutions below the best one.
+fn descend<D: Desk>(desk: &mut D, cores: &mut Cores, share: u64) -> Result<(), DeskFault>
+    ensures follows { (first : D) → D.follows first desk.old → D.follows first desk.new }
+{
+    let end = desk.learned().saturating_add(share);
+    cores.cite_cores(desk)?;
+    for _ in 0..u64::MAX {
+        let left = end.saturating_sub(desk.learned());
+        if left == 0 || !descend_once(desk, cores, left)? {
+            return Ok(());
+        }
+    }
+    Ok(())
+}
+
+/// Looks for a solution below the best one; answers whether to go on from where that has led.
+fn descend_once<D: Desk>(desk: &mut D, cores: &mut Cores, share: u64) -> Result<bool, DeskFault>
+    ensures follows { (first : D) → D.follows first desk.old → D.follows first desk.new }
+{
+    let Some(mut guide) = BoundGuide::new(desk, share)? else {
+        desk.cut(&[])?;
+        return Ok(false);
+    };
+    desk.suggest_best();
+    match desk.descend(&mut guide)? {
+        Descent::Cheaper => Ok(true),
+        Descent::NoCheaper => cores.mend_form(desk),
+        Descent::Refuted | Descent::Stopped | Descent::Spent => Ok(false),
+    }
+}

@@ -1,0 +1,168 @@
+// A core is shortened, as its count and the bound grow with its length: the search is repeated with
+// the core as its assumptions while it shrinks (core trimming, as in RC2: Ignatiev, Morgado and
+// Marques-Silva, "RC2: an efficient MaxSAT solver", 2019), and then each literal in turn is left
+// out, and the others are assumed for a few conflicts (deletion-based extraction of minimal cores).
+// Each core that a search ends with is a clause of the log.
+
+use crate::desk::{Desk, DeskFault, Trial};
+use crate::items::Items;
+use cdcl::assumptions::Assumptions;
+use cdcl::outcome::{Passed, Share};
+use cnf::types::Lit;
+use std::alloc::{AllocError, Global};
+
+/// A core is searched again so often at most,
+const AGAIN: u32 = 5;
+
+/// with so many conflicts each time.
+const AGAIN_CONFLICTS: u64 = 1000;
+
+/// A core of more literals is not shortened literal by literal.
+const LONG: usize = 500;
+
+/// A search without one literal takes so many conflicts at most,
+const WITHOUT_ONE: u64 = 50;
+
+/// and all of them for a core about so many.
+const WITHOUT_EACH: u64 = 10 * WITHOUT_ONE;
+
+/// A search that shortens ends once so many variables were decided beside the assumptions.
+const DECISIONS: u64 = 100;
+
+/// What is left of a core.
+#[derive(Drop)]
+pub(crate) enum Shortened {
+    /// One of these literals is true, as a clause of the log says.
+    Core(Vec<Lit>),
+    /// No core was found in time.
+    Open,
+    /// Nothing is cheaper than the best solution, or nothing is left of the budget.
+    Ended,
+}
+
+/// A core as short as the effort allows. Of what explains an assumption that a search has passed
+/// over, no clause of the log says that it is a core, so it is searched again at least once.
+pub(crate) fn shorten<D: Desk>(
+    desk: &mut D,
+    items: &mut Items,
+    core: &[Lit],
+) -> Result<Shortened, DeskFault>
+    ensures follows { (first : D) → D.follows first desk.old → D.follows first desk.new }
+{
+    let core = Vec::from_slice(desk.allocator(), core)?;
+    match search_again(desk, items, core)? {
+        Shortened::Core(shorter) => leave_out_each(desk, items, shorter),
+        other => Ok(other),
+    }
+}
+
+/// Searches under the core while it shrinks. The dearest is assumed first, so what is left is
+/// worth much.
+fn search_again<D: Desk>(
+    desk: &mut D,
+    items: &Items,
+    first: Vec<Lit>,
+) -> Result<Shortened, DeskFault>
+    ensures follows { (first : D) → D.follows first desk.old → D.follows first desk.new }
+{
+    let share = Share {
+        learned: AGAIN_CONFLICTS,
+        decisions: u64::MAX,
+    };
+    let mut core = first;
+    let mut is_shown = false;
+    for _ in 0..AGAIN {
+        core.sort_by_key(|lit| u64::MAX.saturating_sub(items.rest(*lit)))?;
+        match find_core(desk, &core, core.len(), share)? {
+            Shortened::Core(shorter) => {
+                let shrinks = shorter.len() < core.len();
+                is_shown = true;
+                core = shorter;
+                if !shrinks || core.len() < 2 {
+                    break;
+                }
+            }
+            Shortened::Open => break,
+            Shortened::Ended => return Ok(Shortened::Ended),
+        }
+    }
+    if is_shown {
+        Ok(Shortened::Core(core))
+    } else {
+        Ok(Shortened::Open)
+    }
+}
+
+/// Leaves out each literal that is not needed, the cheapest first.
+fn leave_out_each<D: Desk>(
+    desk: &mut D,
+    items: &mut Items,
+    first: Vec<Lit>,
+) -> Result<Shortened, DeskFault>
+    ensures follows { (first : D) → D.follows first desk.old → D.follows first desk.new }
+{
+    let share = Share {
+        learned: WITHOUT_ONE,
+        decisions: DECISIONS,
+    };
+    let mut core = first;
+    if core.len() < 2 || core.len() > LONG {
+        return Ok(Shortened::Core(core));
+    }
+    sort_cheapest_first(items, &mut core)?;
+    let start = desk.learned();
+    // Those before this place are needed.
+    let mut place: usize = 0;
+    for _ in 0..LONG {
+        let spent = desk.learned().saturating_sub(start);
+        if place >= core.len() || core.len() < 2 || spent > WITHOUT_EACH {
+            break;
+        }
+        match find_core(desk, &core, place, share)? {
+            Shortened::Core(needed) => place = items.keep_needed(&mut core, &needed, place),
+            Shortened::Open => place = place.saturating_add(1),
+            Shortened::Ended => return Ok(Shortened::Ended),
+        }
+    }
+    Ok(Shortened::Core(core))
+}
+
+/// Those with the least rest come first.
+fn sort_cheapest_first(items: &Items, core: &mut Vec<Lit>) -> Result<(), AllocError> {
+    core.sort_by_key(|lit| items.rest(*lit))
+}
+
+/// A core among these literals, without the one at a place, where there is one.
+fn find_core<D: Desk>(
+    desk: &mut D,
+    lits: &[Lit],
+    without: usize,
+    share: Share,
+) -> Result<Shortened, DeskFault>
+    ensures follows { (first : D) → D.follows first desk.old → D.follows first desk.new }
+{
+    let alloc = desk.allocator();
+    let assumed = negations_without(alloc, lits, without)?;
+    let mut guide = Assumptions::new(alloc, assumed, share, Passed::new(alloc, 0));
+    match desk.assume(&mut guide)? {
+        Trial::Core(core) => Ok(Shortened::Core(negations(alloc, &core)?)),
+        Trial::Met | Trial::Stopped => Ok(Shortened::Open),
+        Trial::Refuted | Trial::Spent => Ok(Shortened::Ended),
+    }
+}
+
+/// The negations of the literals.
+pub(crate) fn negations(alloc: Global, lits: &[Lit]) -> Result<Vec<Lit>, AllocError> {
+    negations_without(alloc, lits, lits.len())
+}
+
+/// The negations of the literals, but for the one at a place, where there is one.
+fn negations_without(alloc: Global, lits: &[Lit], without: usize) -> Result<Vec<Lit>, AllocError> {
+    let mut negations = Vec::with_capacity(alloc, lits.len())?;
+    for (place, lit) in lits.iter().enumerate() {
+        if place != without {
+            negations.push(lit.negation())?;
+        }
+    }
+    Ok(negations)
+}
