@@ -34,8 +34,9 @@ pub fn find_core<S: Sink>(
     requires runs { Runs search.old input.now (S.lines sink.old) }
     requires noted { length (zero_of search.old.engine.trail) ≤ search.old.noted }
     requires left { 0 < left_of budget.old }
-    ensures { FindsCore result search.new input.now assumptions.now (S.lines sink.old)
+    ensures finds { FindsCore result search.new input.now assumptions.now (S.lines sink.old)
         (S.lines sink.new) budget.old budget.new }
+    ensures follows { (first : S) → S.follows first sink.old → S.follows first sink.new }
 {
     if !is_refused(&search.engine, assumptions, falsified) {
         return Ok(None);

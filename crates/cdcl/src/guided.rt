@@ -77,6 +77,7 @@ pub fn search_guided<S: Sink, G: Guide, W: SearchWatch>(
     ensures search { GuidedEnds result search.new input.now (S.lines sink.old) (S.lines sink.new)
         budget.old budget.new }
     ensures follows { (first : G) → G.follows first guide.old → G.follows first guide.new }
+    ensures sink_follows { (first : S) → S.follows first sink.old → S.follows first sink.new }
     ensures same_seen { W.seen watch.new ≡ W.seen watch.old }
     ensures waives { WaivesAs budget.old budget.new (W.waived watch.old) (W.waived watch.new) }
 {
@@ -107,6 +108,7 @@ fn round<S: Sink, G: Guide, W: SearchWatch>(
     ensures turns { GuidedTurns result search.old search.new input.now (S.lines sink.old)
         (S.lines sink.new) budget.old budget.new }
     ensures follows { (first : G) → G.follows first guide.old → G.follows first guide.new }
+    ensures sink_follows { (first : S) → S.follows first sink.old → S.follows first sink.new }
     ensures same_seen { W.seen watch.new ≡ W.seen watch.old }
     ensures waives { WaivesAs budget.old budget.new (W.waived watch.old) (W.waived watch.new) }
 {
@@ -131,6 +133,7 @@ fn on_conflict<S: Sink, G: Guide, W: SearchWatch>(
     ensures turns { GuidedTurns result search.old search.new input.now (S.lines sink.old)
         (S.lines sink.new) budget.old budget.new }
     ensures follows { (first : G) → G.follows first guide.old → G.follows first guide.new }
+    ensures sink_follows { (first : S) → S.follows first sink.old → S.follows first sink.new }
     ensures same_seen { W.seen watch.new ≡ W.seen watch.old }
     ensures waives { WaivesAs budget.old budget.new (W.waived watch.old) (W.waived watch.new) }
 {
@@ -163,6 +166,7 @@ fn on_fixpoint<S: Sink, G: Guide>(
         (S.lines sink.new) budget.old budget.new }
     ensures kept { budget.new.waived ≡ budget.old.waived }
     ensures follows { (first : G) → G.follows first guide.old → G.follows first guide.new }
+    ensures sink_follows { (first : S) → S.follows first sink.old → S.follows first sink.new }
 {
     if budget.left() == 0 {
         return Ok(Some(GuidedEnd::Spent));
@@ -193,6 +197,7 @@ fn go_on<S: Sink, G: Guide>(
         (S.lines sink.new) budget.old budget.new }
     ensures kept { budget.new.waived ≡ budget.old.waived }
     ensures follows { (first : G) → G.follows first guide.old → G.follows first guide.new }
+    ensures sink_follows { (first : S) → S.follows first sink.old → S.follows first sink.new }
 {
     let advice = ask(search, guide)?;
     match advice {
@@ -255,8 +260,9 @@ fn decide<S: Sink, G: Guide>(
     requires fixpoint { IsFixpoint search.old.store.slots (literals_of search.old.engine.trail) }
     requires noted { length (zero_of search.old.engine.trail) ≤ search.old.noted }
     requires left { 0 < left_of budget.now }
-    ensures { GuidedTurns result search.old search.new input.now (S.lines sink.old)
+    ensures turns { GuidedTurns result search.old search.new input.now (S.lines sink.old)
         (S.lines sink.new) budget.now budget.now }
+    ensures sink_follows { (first : S) → S.follows first sink.old → S.follows first sink.new }
 {
     if !decide_open(search, lit) {
         return branch(search, input, sink, guide, budget);
@@ -303,8 +309,9 @@ fn branch<S: Sink, G: Guide>(
     requires fixpoint { IsFixpoint search.old.store.slots (literals_of search.old.engine.trail) }
     requires noted { length (zero_of search.old.engine.trail) ≤ search.old.noted }
     requires left { 0 < left_of budget.now }
-    ensures { GuidedTurns result search.old search.new input.now (S.lines sink.old)
+    ensures turns { GuidedTurns result search.old search.new input.now (S.lines sink.old)
         (S.lines sink.new) budget.now budget.now }
+    ensures sink_follows { (first : S) → S.follows first sink.old → S.follows first sink.new }
 {
     if !search.branch() {
         return Ok(Some(GuidedEnd::Satisfied));
@@ -322,8 +329,10 @@ fn thin_out<S: Sink, G: Guide>(
     guide: &G,
 ) -> Result<(), AllocError>
     requires runs { Runs search.old input.now (S.lines sink.old) }
-    ensures { LearnsNothing result (Reduces search.old search.new input.now (S.lines sink.new))
-        input.now (S.lines sink.old) (S.lines sink.new) }
+    ensures reduces { LearnsNothing result
+        (Reduces search.old search.new input.now (S.lines sink.new)) input.now
+        (S.lines sink.old) (S.lines sink.new) }
+    ensures sink_follows { (first : S) → S.follows first sink.old → S.follows first sink.new }
 {
     if !guide.may_delete() {
         return Ok(());
@@ -349,6 +358,7 @@ fn cut<S: Sink, G: Guide>(
         (S.lines sink.new) budget.old budget.new }
     ensures kept { budget.new.waived ≡ budget.old.waived }
     ensures follows { (first : G) → G.follows first guide.old → G.follows first guide.new }
+    ensures sink_follows { (first : S) → S.follows first sink.old → S.follows first sink.new }
 {
     let taking = take_cut(search, input, sink, budget, marks, guide.cut(), lbd)?;
     match taking {
@@ -377,8 +387,9 @@ fn take_cut<S: Sink>(
 ) -> Result<Taking, AllocError>
     requires runs { Runs search.old input.now (S.lines sink.old) }
     requires left { 0 < left_of budget.old }
-    ensures { TakesCut result search.old search.new input.now (S.lines sink.old)
+    ensures taking { TakesCut result search.old search.new input.now (S.lines sink.old)
         (S.lines sink.new) budget.old budget.new }
+    ensures sink_follows { (first : S) → S.follows first sink.old → S.follows first sink.new }
 {
     let variables = search.engine.variables();
     make_room(marks, variables)?;
@@ -399,7 +410,11 @@ fn take_cut<S: Sink>(
 }
 
 /// Makes room for the marks of so many variables.
-fn make_room(marks: &mut Marks, variables: u32) -> Result<(), AllocError>
+///
+/// # Errors
+///
+/// `AllocError` where memory was refused.
+pub fn make_room(marks: &mut Marks, variables: u32) -> Result<(), AllocError>
     ensures { OnOk result (2 * variables ≤ length marks.new) }
 {
     if marks.len() < 2 * variables as usize {
@@ -410,7 +425,7 @@ fn make_room(marks: &mut Marks, variables: u32) -> Result<(), AllocError>
 
 /// Whether the literals are of different variables, none of which is greater than this one: in time
 /// linear in their number.
-fn are_apart(marks: &mut Marks, variables: u32, lits: &[Lit]) -> bool
+pub fn are_apart(marks: &mut Marks, variables: u32, lits: &[Lit]) -> bool
     requires few { variables < VARIABLE_LIMIT }
     requires room { 2 * variables ≤ length marks.old }
     ensures new { result ≡ true → IsNewClause lits.now }

@@ -25,6 +25,8 @@ pub(crate) struct Tally<S: Sink> {
 impl<S: Sink> Sink for Tally<S> {
     ghost lines = { λ t. S.lines t.sink };
 
+    ghost follows = { λ first now. S.follows first.sink now.sink };
+
     fn append(&mut self, kind: Kind, lits: &[Lit], hints: &[Hint]) -> Result<(), AllocError> {
         self.sink.is_short();
         self.sink.append(kind, lits, hints)?;

@@ -198,6 +198,13 @@ impl Policy {
         self.standings.add(reference, ClauseStanding::fresh(lbd));
     }
 
+    /// A clause that stays came to the search.
+    pub fn note_kept(&mut self, reference: CRef)
+        ensures same_view { self.new ≡ self.old }
+    {
+        self.standings.add(reference, ClauseStanding::fresh(0));
+    }
+
     /// Whether it is time to restart.
     pub fn is_restart_due(&self) -> bool
         ensures { result ≡ true → self.now.has_learned ≡ true }

@@ -31,8 +31,9 @@ pub fn take_axiom(search: &mut Search, lits: &[Lit], lbd: Option<u32>) -> Result
     ensures additions { OnOk result (search.new.additions ≡ search.old.additions + 1) }
 {
     let reference = attach_axiom(search, lits)?;
-    if let Some(lbd) = lbd {
-        search.policy.note_learned(reference, lits.len(), lbd);
+    match lbd {
+        Some(lbd) => search.policy.note_learned(reference, lits.len(), lbd),
+        None => search.policy.note_kept(reference),
     }
     Ok(())
 }

@@ -165,6 +165,7 @@ pub fn learn_core<S: Sink>(
     ensures learns { OnOk result (LearnsCore search.old search.new input.now (S.lines sink.old)
         (S.lines sink.new) clause.now.lits.items) }
     ensures err { OnErr result (S.lines sink.new ≡ S.lines sink.old) }
+    ensures follows { (first : S) → S.follows first sink.old → S.follows first sink.new }
 {
     let hints = search.hints_of(clause.hints.as_slice())?;
     search.backtrack(0);

@@ -26,6 +26,7 @@ pub fn learn<S: Sink>(
     ensures learns { OnOk result
         (Learns search.old search.new input.now (S.lines sink.old) (S.lines sink.new)) }
     ensures err { OnErr result (S.lines sink.new ≡ S.lines sink.old) }
+    ensures follows { (first : S) → S.follows first sink.old → S.follows first sink.new }
 {
     let learned = search
         .analyzer

@@ -20,8 +20,10 @@ pub fn note_level<S: Sink>(
     sink: &mut S,
 ) -> Result<(), AllocError>
     requires runs { Runs search.old input.now (S.lines sink.old) }
-    ensures { LearnsNothing result (NotesAll search.old search.new input.now (S.lines sink.new))
-        input.now (S.lines sink.old) (S.lines sink.new) }
+    ensures notes { LearnsNothing result
+        (NotesAll search.old search.new input.now (S.lines sink.new)) input.now
+        (S.lines sink.old) (S.lines sink.new) }
+    ensures follows { (first : S) → S.follows first sink.old → S.follows first sink.new }
 {
     if search.engine.depth() > 0 {
         return Ok(());
@@ -33,8 +35,10 @@ pub fn note_level<S: Sink>(
 fn note_units<S: Sink>(search: &mut Search, input: &Input, sink: &mut S) -> Result<(), AllocError>
     requires runs { Runs search.old input.now (S.lines sink.old) }
     requires flat { depth_of search.old.engine.trail ≡ 0 }
-    ensures { LearnsNothing result (NotesAll search.old search.new input.now (S.lines sink.new))
-        input.now (S.lines sink.old) (S.lines sink.new) }
+    ensures notes { LearnsNothing result
+        (NotesAll search.old search.new input.now (S.lines sink.new)) input.now
+        (S.lines sink.old) (S.lines sink.new) }
+    ensures follows { (first : S) → S.follows first sink.old → S.follows first sink.new }
 {
     while search.noted < search.engine.assigned() {
         note_unit(search, input, sink)?;
@@ -51,6 +55,7 @@ fn note_unit<S: Sink>(search: &mut Search, input: &Input, sink: &mut S) -> Resul
     ensures notes { OnOk result
         (NotesNext search.old search.new input.now (S.lines sink.old) (S.lines sink.new)) }
     ensures err { OnErr result (S.lines sink.new ≡ S.lines sink.old) }
+    ensures follows { (first : S) → S.follows first sink.old → S.follows first sink.new }
 {
     let lit = search.engine.trail()[search.noted];
     let place = lit.variable() as usize - 1;
@@ -74,8 +79,9 @@ pub fn refute<S: Sink>(
     requires runs { Runs search.old input.now (S.lines sink.old) }
     requires flat { depth_of search.old.engine.trail ≡ 0 }
     requires conflict { IsFalseClause search.old.store.slots search.old.engine conflict }
-    ensures { LearnsNothing result (IsEnded input.now (S.lines sink.new)) input.now
+    ensures refutes { LearnsNothing result (IsEnded input.now (S.lines sink.new)) input.now
         (S.lines sink.old) (S.lines sink.new) }
+    ensures follows { (first : S) → S.follows first sink.old → S.follows first sink.new }
 {
     note_units(search, input, sink)?;
     let hints = search.hints_of(&[conflict])?;

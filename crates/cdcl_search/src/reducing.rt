@@ -30,6 +30,7 @@ fn delete<S: Sink>(
     ensures deletes { OnOk result (Deletes search.old search.new input.now (S.lines sink.old)
         (S.lines sink.new) doomed.now reference) }
     ensures err { OnErr result (S.lines sink.new ≡ S.lines sink.old) }
+    ensures follows { (first : S) → S.follows first sink.old → S.follows first sink.new }
 {
     if !search.store.is_live(reference) {
         return Ok(());
@@ -120,8 +121,10 @@ fn is_reason(engine: &Engine, lits: &[Lit], reference: CRef) -> bool
 /// Deletes the learned clauses that the policy chooses, where it says that it is time for that.
 pub fn reduce<S: Sink>(search: &mut Search, input: &Input, sink: &mut S) -> Result<(), AllocError>
     requires runs { Runs search.old input.now (S.lines sink.old) }
-    ensures { LearnsNothing result (Reduces search.old search.new input.now (S.lines sink.new))
-        input.now (S.lines sink.old) (S.lines sink.new) }
+    ensures reduces { LearnsNothing result
+        (Reduces search.old search.new input.now (S.lines sink.new)) input.now
+        (S.lines sink.old) (S.lines sink.new) }
+    ensures follows { (first : S) → S.follows first sink.old → S.follows first sink.new }
 {
     if !search.policy.is_deletion_due() {
         return Ok(());
@@ -145,8 +148,10 @@ fn delete_all<S: Sink>(
     chosen: &[CRef],
 ) -> Result<(), AllocError>
     requires runs { Runs search.old input.now (S.lines sink.old) }
-    ensures { LearnsNothing result (Reduces search.old search.new input.now (S.lines sink.new))
-        input.now (S.lines sink.old) (S.lines sink.new) }
+    ensures reduces { LearnsNothing result
+        (Reduces search.old search.new input.now (S.lines sink.new)) input.now
+        (S.lines sink.old) (S.lines sink.new) }
+    ensures follows { (first : S) → S.follows first sink.old → S.follows first sink.new }
 {
     let doomed = search.mark(chosen)?;
     search.engine.detach_all(&doomed);

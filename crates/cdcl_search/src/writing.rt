@@ -53,6 +53,7 @@ impl Search {
             }) }
         ensures reference { IfOk result (λ r. r ≡ length self.old.store.slots) }
         ensures err { OnErr result (S.lines sink.new ≡ S.lines sink.old) }
+        ensures follows { (first : S) → S.follows first sink.old → S.follows first sink.new }
     {
         let name = Name::Added(Number::new(self.additions + 1));
         let reference = self.attach_clause(name, lits)?;

@@ -12,7 +12,7 @@ use Rattle.lrat_read.specs.Words.{BoundLine}
 use Rattle.cuts_log.specs.declared.standing.Standing.{Standing}
 use Rattle.cuts_log.specs.Books.{BookState, FailsAt, IsBook, Notes, seen_next}
 use Rattle.cuts_log.specs.Events.{Event, Plain, TraceState, Word, lines_in, lines_of}
-use Rattle.cuts_log.specs.Logs.{Brings, IsKept, LogState, events_of, lines_seen}
+use Rattle.cuts_log.specs.Logs.{Brings, IsKept, LogState, SameLog, events_of, lines_seen}
 use Rattle.cuts_log.specs.Logs.{problem_of}
 use Rattle.cuts_log.specs.Stands.{IsRightWord, Takes, TakesAll, stand_of}
 use Rattle.cuts_log.proofs.EventLines.{lines_of-push}
@@ -128,3 +128,10 @@ pub short_seen : (l : LogState) → IsBook l.book → length (lines_seen l) < LI
 short_seen l h =
     let within : (l.book).lines ≤ length (lines_of (events_of l)) = h.within in
     omega (arith, h.short, length-take-le (l.book).lines (lines_of (events_of l)) within)
+
+pub same_on : (first old new : LogState) → SameLog first old → SameLog old new → SameLog first new
+same_on first old new h n = record {
+  problem = n.problem ∙ h.problem;
+  origin = n.origin ∙ h.origin;
+  cost = n.cost ∙ h.cost;
+}

@@ -8,7 +8,7 @@ use Rattle.text.specs.Text.{token_lines}
 use Rattle.lrat_log.specs.Axioms.{FollowByRup, IsOpenLogOver}
 use Rattle.lrat_log.specs.Log.{axiom_line, numbered_line, start_over}
 use Rattle.lrat_log.specs.Steps.{added_count, given_of}
-use Rattle.lrat_log.proofs.Laws.{after_line, token_lines-spaced}
+use Rattle.lrat_log.proofs.Laws.{after_line, line_words, token_lines-spaced}
 use Rattle.lrat_cuts.specs.Cuts.{CutsState, cuts_start, judged_lines}
 use Rattle.lrat_cuts.proofs.Laws.{cuts_prove, cuts_sound}
 use Rattle.cuts_log.specs.declared.standing.Standing.{Standing}
@@ -21,7 +21,7 @@ use Rattle.cuts_log.proofs.JudgedLogs.{start_stands}
 use Rattle.cuts_log.proofs.JudgedStart.{start_right, steps_judged}
 use Rattle.cuts_log.proofs.JudgedSteps.{Stands, count_one, goes_same, plain_on, word_says}
 use Rattle.cuts_log.proofs.JudgedWords.{stands_as}
-use Rattle.cuts_log.proofs.LineWords.{AreWords, line_words, word_words}
+use Rattle.cuts_log.proofs.LineWords.{AreWords, word_words}
 
 pub steps_words : (o : Option ℕ) (cost base before : ℕ) → IsUpTo cost o
     → (s : CutsState) (old new : Standing)

@@ -3,9 +3,10 @@
 // The state of forms stands beside the text, and each line that begins with a word is put to it
 // first: what the state refuses is not written. The state is the one that the checker keeps, so a
 // search need prove nothing of what it proposes.
-ghost use Rattle.std.specs.Prelude.{◌≡◌, ◌≤◌, true, false, [], map, min, IfOk, OnOk, OnErr, None};
-ghost use Rattle.std.specs.Prelude.{Some};
-ghost use Rattle.lrat_log.specs.Log.{axiom_line, is_axiom};
+ghost use Rattle.std.specs.Prelude.{◌≡◌, ◌≤◌, ◌∷◌, ◌++◌, true, false, [], map, min, IfOk, OnOk};
+ghost use Rattle.std.specs.Prelude.{None, OnErr, Some};
+ghost use Rattle.lrat_log.specs.Log.{IsLine, axiom_line, is_axiom};
+ghost use Rattle.lrat_log.specs.Axioms.{IsNewClause};
 
 use crate::book::Book;
 use crate::events::{BoundLine, CountLine, CutLine, FormLine, MoreLine, PlainLine};
@@ -315,6 +316,49 @@ impl<W: Write + Drop> CutsLog<W> {
         self.book.note(&BoundLine { lower })?;
         Ok(true)
     }
+
+    /// A cut of these literals under the present form, if the state takes it; its clause is the
+    /// last line then. Answers whether it does.
+    ///
+    /// # Errors
+    ///
+    /// `AllocError` where memory was refused, or the log has failed. The lines stay as they were.
+    pub fn take_cut(&mut self, lits: &[Lit]) -> Result<bool, AllocError>
+        requires new { IsNewClause lits.now }
+        ensures taken { IfOk result (λ taken. taken ≡ true
+            → Brings (axiom_line lits.now ∷ []) self.old self.new) }
+        ensures refused { IfOk result (λ taken. taken ≡ false → self.new ≡ self.old) }
+        ensures err { OnErr result (lines_seen self.new ≡ lines_seen self.old) }
+        ensures same { SameLog self.old self.new }
+    {
+        if !self.book.has_room(1) {
+            return Err(AllocError);
+        }
+        if !self.standing.cut(lits, self.cost)? {
+            return Ok(false);
+        }
+        self.book.note(&CutLine { lits })?;
+        Ok(true)
+    }
+
+    /// An addition by hints, or a deletion. It is the last line then.
+    fn take_line(&mut self, kind: Kind, lits: &[Lit], hints: &[Hint]) -> Result<(), AllocError>
+        requires line { IsLine (record { kind = kind; clause = lits.now; hints = hints.now }) }
+        ensures ok { OnOk result (lines_seen self.new ≡ lines_seen self.old ++ record {
+          kind = kind;
+          clause = lits.now;
+          hints = hints.now;
+        } ∷ []) }
+        ensures err { OnErr result (lines_seen self.new ≡ lines_seen self.old) }
+        ensures same { SameLog self.old self.new }
+    {
+        if is_axiom(kind) || !self.book.has_room(1) {
+            return Err(AllocError);
+        }
+        self.standing.take_line(kind, lits)?;
+        self.book.note(&PlainLine { kind, lits, hints })?;
+        Ok(())
+    }
 }
 
 /// Whether lines of this kind bring a clause from outside.
@@ -325,28 +369,18 @@ fn is_axiom(kind: Kind) -> bool
 }
 
 impl<W: Write + Drop> Sink for CutsLog<W> {
-    ghost use Rattle.cuts_log.specs.Logs.{lines_seen};
+    ghost use Rattle.cuts_log.specs.Logs.{SameLog, lines_seen};
 
     ghost lines = { lines_seen };
 
+    ghost follows = { SameLog };
+
     fn append(&mut self, kind: Kind, lits: &[Lit], hints: &[Hint]) -> Result<(), AllocError> {
-        if is_axiom(kind) || !self.book.has_room(1) {
-            return Err(AllocError);
-        }
-        self.standing.take_line(kind, lits)?;
-        self.book.note(&PlainLine { kind, lits, hints })?;
-        Ok(())
+        self.take_line(kind, lits, hints)
     }
 
     fn cut(&mut self, lits: &[Lit]) -> Result<bool, AllocError> {
-        if !self.book.has_room(1) {
-            return Err(AllocError);
-        }
-        if !self.standing.cut(lits, self.cost)? {
-            return Ok(false);
-        }
-        self.book.note(&CutLine { lits })?;
-        Ok(true)
+        self.take_cut(lits)
     }
 
     fn is_short(&self) {

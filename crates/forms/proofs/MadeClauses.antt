@@ -1,5 +1,5 @@
 -- The clauses that counts and their further outputs make.
-use Rattle.std.proofs.Common.{◌≡◌, ℕ, zero, suc, ◌+◌, ◌-◌, ◌≤◌, ◌&&◌, true, false, List, [], ◌∷◌}
+use Rattle.std.proofs.Common.{◌≡◌, ℕ, zero, suc, ◌+◌, ◌-◌, ◌≤◌, ◌&&◌, List, [], ◌∷◌}
 use Rattle.std.proofs.Common.{◌++◌, length, map, refl, sym, ◌∙◌, subst, arith, inl, inr, Some}
 use Rattle.std.proofs.Common.{None, Ok, nat_le, pos, slice_set}
 use Rattle.std.specs.Prelude.{Option, Err, slice_get}

@@ -20,4 +20,6 @@ pub use Rattle.lrat_log.proofs.Numbering.{given_below}
 pub use Rattle.lrat_log.proofs.RebasedLines.{learned_rebased, open_rebased}
 pub use Rattle.lrat_log.proofs.Rebasing.{accepts_of_log, steps_of_log}
 pub use Rattle.lrat_log.proofs.Refusals.{when_err}
-pub use Rattle.lrat_log.proofs.Text.{IsWord, decimal_word, token_lines-spaced}
+pub use Rattle.lrat_log.proofs.Text.{IsWord, decimal_word, line_words, literal_word}
+pub use Rattle.lrat_log.proofs.Text.{token_lines-spaced, words_append, words_clause, words_decimal}
+pub use Rattle.lrat_log.proofs.Text.{zero_word}

@@ -170,20 +170,20 @@ word_from (b ∷ ds) h = h
 dashed_word : (n : ℕ) → n < 2 ^ 62 → IsWord (45 ∷ decimal n)
 dashed_word n h = (omega arith, word_from (decimal n) (decimal_word n h))
 
-literal_word : (s : Bool) (v : ℕ) → v < 2 ^ 62 → IsWord (if s then 45 ∷ decimal v else decimal v)
+pub literal_word : (s : Bool) (v : ℕ) → v < 2 ^ 62 → IsWord (if s then 45 ∷ decimal v else decimal v)
 literal_word true v h = dashed_word v h
 literal_word false v h = decimal_word v h
 
-words_append : (xs ys : List (List ℕ)) → AllByRecursion IsWord xs → AllByRecursion IsWord ys
+pub words_append : (xs ys : List (List ℕ)) → AllByRecursion IsWord xs → AllByRecursion IsWord ys
     → AllByRecursion IsWord (xs ++ ys)
 words_append [] ys h k = k
 words_append (x ∷ xs) ys h k = (h.0, words_append xs ys h.1 k)
 
-words_decimal : (ns : List ℕ) → AllByRecursion IsId ns → AllByRecursion IsWord (map decimal ns)
+pub words_decimal : (ns : List ℕ) → AllByRecursion IsId ns → AllByRecursion IsWord (map decimal ns)
 words_decimal [] h = tt
 words_decimal (n ∷ ns) h = (decimal_word n h.0.1, words_decimal ns h.1)
 
-words_clause : (c : List Literal) → AllByRecursion (λ l. IsId l.variable) c
+pub words_clause : (c : List Literal) → AllByRecursion (λ l. IsId l.variable) c
     → AllByRecursion IsWord (map literal_text c)
 words_clause [] h = tt
 words_clause (l ∷ c) h = (literal_word l.negated l.variable h.0.1, words_clause c h.1)
@@ -197,7 +197,7 @@ words_groups (g ∷ gs) h = (
       (words_decimal g.hints (recursion_from_All IsId g.hints h.0.1)) (words_groups gs h.1),
 )
 
-zero_word : AllByRecursion IsWord (codes "0" ∷ [])
+pub zero_word : AllByRecursion IsWord (codes "0" ∷ [])
 zero_word = ((omega arith, tt), tt)
 
 pub line_words : (l : ProofLine) → HasNumbers l → HasWords l

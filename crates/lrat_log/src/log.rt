@@ -4,7 +4,7 @@
 // clauses gives 372,000 lines of 3.7 literals and 1.6 hints: 25.7 bytes a line. With hints of 8
 // bytes and heads of 12 they were 39.8. The view is that of three plain lists, so no other proof
 // knows how they are packed. What is left is mostly literals, whose slices are lent as they lie.
-ghost use Rattle.std.specs.Prelude.{◌≡◌, ◌+◌, ◌<◌, ◌≤◌, List, [], Some, length, All};
+ghost use Rattle.std.specs.Prelude.{◌≡◌, ◌+◌, ◌<◌, ◌≤◌, List, [], Some, length, All, ⊤};
 ghost use Rattle.std.specs.Prelude.{IfOk, slice_get, slice_range, ◌==◌};
 ghost use Rattle.cnf.specs.declared.limits.TheConstants.{NUMBER_LIMIT};
 ghost use Rattle.text.specs.LratText.{IsTextOf};
@@ -188,6 +188,8 @@ impl<'a> Model for LineSlice<'a> {
 
 impl Sink for Log {
     ghost lines = { λ l. l };
+
+    ghost follows = { λ _ _. ⊤ };
 
     fn append(&mut self, kind: Kind, lits: &[Lit], hints: &[Hint]) -> Result<(), AllocError> {
         if self.heads.len() >= LINE_LIMIT - 1 {

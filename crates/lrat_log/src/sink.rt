@@ -14,6 +14,10 @@ pub trait Sink: Drop {
     /// The lines that it has.
     ghost lines: { Self → List LogLine };
 
+    /// Whether the second came from the first by these calls alone. Who hands a sink to a search
+    /// learns by it what the sink keeps.
+    ghost follows: { Self → Self → Type 0 };
+
     /// Takes a line, after those that it has: the clause that it adds, with the hints by which it
     /// follows; or a deletion, which has no literals, and whose hints name the clauses that it
     /// deletes, each a plain one.
@@ -29,7 +33,8 @@ pub trait Sink: Drop {
           clause = lits.now;
           hints = hints.now;
         } ∷ []) }
-        ensures err { OnErr result (lines self.new ≡ lines self.old) };
+        ensures err { OnErr result (lines self.new ≡ lines self.old) }
+        ensures follows { (first : Self) → follows first self.old → follows first self.new };
 
     /// Brings a clause from outside, if it may, and answers whether it did: then its line is the
     /// last one. A log in memory takes none.
@@ -43,7 +48,8 @@ pub trait Sink: Drop {
         ensures taken { IfOk result (λ taken. taken ≡ true
             → lines self.new ≡ lines self.old ++ axiom_line lits.now ∷ []) }
         ensures refused { IfOk result (λ taken. taken ≡ false → lines self.new ≡ lines self.old) }
-        ensures err { OnErr result (lines self.new ≡ lines self.old) };
+        ensures err { OnErr result (lines self.new ≡ lines self.old) }
+        ensures follows { (first : Self) → follows first self.old → follows first self.new };
 
     /// Says that it has fewer than 2^61 lines; it does nothing. It is a call and no law of the
     /// trait: a law has to hold of every list of lines, and this holds of those that were built, by

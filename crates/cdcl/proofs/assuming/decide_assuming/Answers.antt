@@ -36,17 +36,18 @@ returns-in_err-note_level-clause-turns g c =
     let more = g.S.Sink.lines c.note_level.new.sink in
     turn_breaks c.from_residual.result c.args.search.now c.note_level.new.search p
     c.args.assumptions.now ls more b b c.from_residual.ensures.0
-    c.in_err-note_level.ensures.err (pays_none p.given ls more b c.note_level.ensures.writes)
+    c.in_err-note_level.ensures.notes.err
+    (pays_none p.given ls more b c.note_level.ensures.notes.writes)
 
 pub pass_and_choose-requires-clause-runs : goal.pass_and_choose-requires-clause-runs
-pass_and_choose-requires-clause-runs g c = c.in_ok-note_level.ensures.leaves.keeps.runs
+pass_and_choose-requires-clause-runs g c = c.in_ok-note_level.ensures.notes.leaves.keeps.runs
 
 pub pass_and_choose-requires-clause-fixpoint : goal.pass_and_choose-requires-clause-fixpoint
 pass_and_choose-requires-clause-fixpoint g c =
-    c.in_ok-note_level.ensures.leaves.keeps.fixpoint c.requires.fixpoint
+    c.in_ok-note_level.ensures.notes.leaves.keeps.fixpoint c.requires.fixpoint
 
 pub pass_and_choose-requires-clause-noted : goal.pass_and_choose-requires-clause-noted
-pass_and_choose-requires-clause-noted g c = c.in_ok-note_level.ensures.leaves.all
+pass_and_choose-requires-clause-noted g c = c.in_ok-note_level.ensures.notes.leaves.all
 
 pub pass_and_choose-requires-clause-left : goal.pass_and_choose-requires-clause-left
 pass_and_choose-requires-clause-left g c = omega (arith, c.left.ensures.left, c.if-left-eq0.false)
@@ -54,11 +55,11 @@ pass_and_choose-requires-clause-left g c = omega (arith, c.left.ensures.left, c.
 pub returns-clause-turns : goal.returns-clause-turns
 returns-clause-turns g c =
     let s = c.args.search.now in
-    let n = c.in_ok-note_level.ensures.leaves.keeps in
+    let n = c.in_ok-note_level.ensures.notes.leaves.keeps in
     let same : length c.note_level.new.search.engine.trail ≡ length s.engine.trail =
     ap (λ (T : List Assigned). length T) n.trail in
     turn_after c.pass_and_choose.result s c.note_level.new.search c.pass_and_choose.new.search
     c.args.input.now c.args.assumptions.now (g.S.Sink.lines c.args.sink.now)
     (g.S.Sink.lines c.note_level.new.sink) (g.S.Sink.lines c.pass_and_choose.new.sink)
     c.args.budget.now c.pass_and_choose.new.budget n.variables n.policy (omega arith)
-    c.note_level.ensures.writes c.pass_and_choose.ensures.turns
+    c.note_level.ensures.notes.writes c.pass_and_choose.ensures.turns

@@ -14,8 +14,8 @@ returns-in_err-refute-clause-turns g c =
     let ls = g.S.Sink.lines c.args.sink.now in
     let more = g.S.Sink.lines c.refute.new.sink in
     turn_breaks c.from_residual.result c.args.search.now c.refute.new.search p
-    c.args.assumptions.now ls more b b c.from_residual.ensures.0 c.in_err-refute.ensures.err
-    (pays_none p.given ls more b c.refute.ensures.writes)
+    c.args.assumptions.now ls more b b c.from_residual.ensures.0 c.in_err-refute.ensures.refutes.err
+    (pays_none p.given ls more b c.refute.ensures.refutes.writes)
 
 pub returns-then-depth-eq0-clause-turns : goal.returns-then-depth-eq0-clause-turns
 returns-then-depth-eq0-clause-turns g c =
@@ -24,7 +24,8 @@ returns-then-depth-eq0-clause-turns g c =
     let ls = g.S.Sink.lines c.args.sink.now in
     let more = g.S.Sink.lines c.refute.new.sink in
     turn_halts c.args.search.now c.refute.new.search p c.args.assumptions.now ls more b b Refuted
-    c.in_ok-refute.ensures.leaves (pays_none p.given ls more b c.refute.ensures.writes)
+    c.in_ok-refute.ensures.refutes.leaves
+    (pays_none p.given ls more b c.refute.ensures.refutes.writes)
 
 pub returns-then-left-eq0-clause-turns : goal.returns-then-left-eq0-clause-turns
 returns-then-left-eq0-clause-turns g c =

@@ -8,13 +8,13 @@ use Rattle.cdcl.proofs.Guiding.{finds_none, finds_fails, open_writes, paid_nothi
 use Rattle.cdcl.proofs.Guiding.{waived_kept, waived_of}
 use Rattle.cdcl.proofs.core_finding.find_core.Goals as goal
 
-pub returns-then-not-is_refused : goal.returns-then-not-is_refused
-returns-then-not-is_refused g c =
+pub returns-then-not-is_refused-clause-finds : goal.returns-then-not-is_refused-clause-finds
+returns-then-not-is_refused-clause-finds g c =
     finds_none c.args.search.now c.args.search.now c.args.input.now c.args.assumptions.now
     (g.S.Sink.lines c.args.sink.now) c.args.budget.now c.requires.runs refl
 
-pub returns-in_err-refusal : goal.returns-in_err-refusal
-returns-in_err-refusal g c =
+pub returns-in_err-refusal-clause-finds : goal.returns-in_err-refusal-clause-finds
+returns-in_err-refusal-clause-finds g c =
     let p = c.args.input.now in
     let b = c.args.budget.now in
     let ls = g.S.Sink.lines c.args.sink.now in
@@ -22,13 +22,13 @@ returns-in_err-refusal g c =
     c.from_residual.ensures.0 (open_log c.args.search.now p ls c.requires.runs)
     (paid_nothing p.given ls b) refl
 
-pub returns-in-Unknown : goal.returns-in-Unknown
-returns-in-Unknown g c =
+pub returns-in-Unknown-clause-finds : goal.returns-in-Unknown-clause-finds
+returns-in-Unknown-clause-finds g c =
     finds_none c.args.search.now c.refuse.new.self c.args.input.now c.args.assumptions.now
     (g.S.Sink.lines c.args.sink.now) c.args.budget.now c.requires.runs c.refuse.ensures.unchanged
 
-pub returns-in-Shown : goal.returns-in-Shown
-returns-in-Shown g c =
+pub returns-in-Shown-clause-finds : goal.returns-in-Shown-clause-finds
+returns-in-Shown-clause-finds g c =
     let p = c.args.input.now in
     let b = c.args.budget.now in
     let ls = g.S.Sink.lines c.args.sink.now in
@@ -45,8 +45,9 @@ returns-in-Shown g c =
       err = tt;
     }
 
-pub returns-in_err-learn_core-in-Follows : goal.returns-in_err-learn_core-in-Follows
-returns-in_err-learn_core-in-Follows g c =
+pub returns-in_err-learn_core-in-Follows-clause-finds
+    : goal.returns-in_err-learn_core-in-Follows-clause-finds
+returns-in_err-learn_core-in-Follows-clause-finds g c =
     let p = c.args.input.now in
     let b = c.args.budget.now in
     let ls = g.S.Sink.lines c.args.sink.now in
@@ -57,8 +58,9 @@ returns-in_err-learn_core-in-Follows g c =
     (subst (StaysOpen p) (sym same) (open_log c.args.search.now p ls c.requires.runs))
     (subst (λ x. PaysOpen p.given ls x b b) (sym same) (paid_nothing p.given ls b)) refl
 
-pub returns-in_ok-learn_core-in-Follows : goal.returns-in_ok-learn_core-in-Follows
-returns-in_ok-learn_core-in-Follows g c =
+pub returns-in_ok-learn_core-in-Follows-clause-finds
+    : goal.returns-in_ok-learn_core-in-Follows-clause-finds
+returns-in_ok-learn_core-in-Follows-clause-finds g c =
     let p = c.args.input.now in
     let ls = g.S.Sink.lines c.args.sink.now in
     let more = g.S.Sink.lines c.learn_core.new.sink in

@@ -11,8 +11,8 @@ use Rattle.cdcl.proofs.Rounds.{goes_decided}
 use Rattle.cdcl.proofs.Guiding.{guided_breaks, guided_ends, guided_goes, paid_none, paid_nothing}
 use Rattle.cdcl.proofs.guided.branch.Goals as goal
 
-pub returns-then-not-branch : goal.returns-then-not-branch
-returns-then-not-branch g c =
+pub returns-then-not-branch-clause-turns : goal.returns-then-not-branch-clause-turns
+returns-then-not-branch-clause-turns g c =
     let p = c.args.input.now in
     let s = c.args.search.now in
     let b = c.args.budget.now in
@@ -39,29 +39,29 @@ thin_out-requires g c = record {
       c.requires.runs;
 }
 
-pub returns-in_err-thin_out : goal.returns-in_err-thin_out
-returns-in_err-thin_out g c =
+pub returns-in_err-thin_out-clause-turns : goal.returns-in_err-thin_out-clause-turns
+returns-in_err-thin_out-clause-turns g c =
     let p = c.args.input.now in
     let b = c.args.budget.now in
     let ls = g.S.Sink.lines c.args.sink.now in
     let more = g.S.Sink.lines c.thin_out.new.sink in
     guided_breaks c.from_residual.result c.args.search.now c.thin_out.new.search p ls more b b
-    c.from_residual.ensures.0 c.in_err-thin_out.ensures.err
-    (paid_none p.given ls more b c.thin_out.ensures.writes)
+    c.from_residual.ensures.0 c.in_err-thin_out.ensures.reduces.err
+    (paid_none p.given ls more b c.thin_out.ensures.reduces.writes)
 
-pub returns : goal.returns
-returns g c =
+pub returns-clause-turns : goal.returns-clause-turns
+returns-clause-turns g c =
     let s = c.args.search.now in
     let p = c.args.input.now in
     let b = c.args.budget.now in
     let ls = g.S.Sink.lines c.args.sink.now in
     let more = g.S.Sink.lines c.thin_out.new.sink in
     let e = c.branch-search.ensures in
-    let r = c.in_ok-thin_out.ensures.leaves in
+    let r = c.in_ok-thin_out.ensures.reduces.leaves in
     let longer = e.longer c.if-not-branch.false in
     let policy = ap (λ (x : Search). x.policy) e.engine.rest in
     guided_goes s c.thin_out.new.search p ls more b b
     (goes_decided s c.thin_out.new.search p more b r.runs (r.variables ∙ e.engine.variables)
     (ap (λ (x : PolicyState). x.has_learned) (r.policy ∙ policy))
     (let l = r.long in omega arith) e.within)
-    (paid_none p.given ls more b c.thin_out.ensures.writes)
+    (paid_none p.given ls more b c.thin_out.ensures.reduces.writes)

@@ -14,8 +14,8 @@ returns-in_err-refute-clause-turns g c =
     let ls = g.S.Sink.lines c.args.sink.now in
     let more = g.S.Sink.lines c.refute.new.sink in
     guided_breaks c.from_residual.result c.args.search.now c.refute.new.search p ls more b b
-    c.from_residual.ensures.0 c.in_err-refute.ensures.err
-    (paid_none p.given ls more b c.refute.ensures.writes)
+    c.from_residual.ensures.0 c.in_err-refute.ensures.refutes.err
+    (paid_none p.given ls more b c.refute.ensures.refutes.writes)
 
 pub returns-then-depth-eq0-clause-turns : goal.returns-then-depth-eq0-clause-turns
 returns-then-depth-eq0-clause-turns g c =
@@ -24,7 +24,8 @@ returns-then-depth-eq0-clause-turns g c =
     let ls = g.S.Sink.lines c.args.sink.now in
     let more = g.S.Sink.lines c.refute.new.sink in
     guided_ends c.args.search.now c.refute.new.search p ls more b b Refuted
-    c.in_ok-refute.ensures.leaves (paid_none p.given ls more b c.refute.ensures.writes)
+    c.in_ok-refute.ensures.refutes.leaves
+    (paid_none p.given ls more b c.refute.ensures.refutes.writes)
 
 pub returns-then-left-eq0-clause-turns : goal.returns-then-left-eq0-clause-turns
 returns-then-left-eq0-clause-turns g c =

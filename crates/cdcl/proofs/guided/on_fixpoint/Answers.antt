@@ -35,18 +35,18 @@ returns-in_err-note_level-clause-turns g c =
     let ls = g.S.Sink.lines c.args.sink.now in
     let more = g.S.Sink.lines c.note_level.new.sink in
     guided_breaks c.from_residual.result c.args.search.now c.note_level.new.search p ls more b b
-    c.from_residual.ensures.0 c.in_err-note_level.ensures.err
-    (paid_none p.given ls more b c.note_level.ensures.writes)
+    c.from_residual.ensures.0 c.in_err-note_level.ensures.notes.err
+    (paid_none p.given ls more b c.note_level.ensures.notes.writes)
 
 pub go_on-requires-clause-runs : goal.go_on-requires-clause-runs
-go_on-requires-clause-runs g c = c.in_ok-note_level.ensures.leaves.keeps.runs
+go_on-requires-clause-runs g c = c.in_ok-note_level.ensures.notes.leaves.keeps.runs
 
 pub go_on-requires-clause-fixpoint : goal.go_on-requires-clause-fixpoint
 go_on-requires-clause-fixpoint g c =
-    c.in_ok-note_level.ensures.leaves.keeps.fixpoint c.requires.fixpoint
+    c.in_ok-note_level.ensures.notes.leaves.keeps.fixpoint c.requires.fixpoint
 
 pub go_on-requires-clause-noted : goal.go_on-requires-clause-noted
-go_on-requires-clause-noted g c = c.in_ok-note_level.ensures.leaves.all
+go_on-requires-clause-noted g c = c.in_ok-note_level.ensures.notes.leaves.all
 
 pub go_on-requires-clause-left : goal.go_on-requires-clause-left
 go_on-requires-clause-left g c = omega (arith, c.left.ensures.left, c.if-left-eq0.false)
@@ -54,10 +54,10 @@ go_on-requires-clause-left g c = omega (arith, c.left.ensures.left, c.if-left-eq
 pub returns-clause-turns : goal.returns-clause-turns
 returns-clause-turns g c =
     let s = c.args.search.now in
-    let n = c.in_ok-note_level.ensures.leaves.keeps in
+    let n = c.in_ok-note_level.ensures.notes.leaves.keeps in
     let same : length c.note_level.new.search.engine.trail ≡ length s.engine.trail =
     ap (λ (T : List Assigned). length T) n.trail in
     guided_after c.go_on.result s c.note_level.new.search c.go_on.new.search c.args.input.now
     (g.S.Sink.lines c.args.sink.now) (g.S.Sink.lines c.note_level.new.sink)
     (g.S.Sink.lines c.go_on.new.sink) c.args.budget.now c.go_on.new.budget n.variables n.policy
-    (omega arith) c.note_level.ensures.writes c.go_on.ensures.turns
+    (omega arith) c.note_level.ensures.notes.writes c.go_on.ensures.turns

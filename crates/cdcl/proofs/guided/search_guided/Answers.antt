@@ -8,6 +8,7 @@ rounds-init g c = record {
   pays = paid_waived c.args.input.now.given (g.S.Sink.lines c.args.sink.now)
       c.args.budget.now c.heed.new.budget c.heed.ensures.budget;
   follows = λ first f. c.went_back.ensures.follows first f;
+  sink_follows = λ first f. f;
   same_seen = c.heed.ensures.same_seen;
   waives = c.heed.ensures.waives;
 }
@@ -20,6 +21,8 @@ rounds-preserved g c = record {
       (g.S.Sink.lines c.rounds.sink) (g.S.Sink.lines c.round.new.sink) c.args.budget.now
       c.rounds.budget c.round.new.budget c.rounds.invariant.pays c.round.ensures.turns.pays;
   follows = λ first f. c.round.ensures.follows first (c.rounds.invariant.follows first f);
+  sink_follows =
+      λ first f. c.round.ensures.sink_follows first (c.rounds.invariant.sink_follows first f);
   same_seen = c.round.ensures.same_seen ∙ c.rounds.invariant.same_seen;
   waives = omega (arith, c.round.ensures.waives, c.rounds.invariant.waives);
 }

@@ -12,6 +12,8 @@ invariant-rounds g l = record {
       l.budget;
   follows : (first : g.row.G.Denot) → g.G.Guide.follows first l.fn.guide
       → g.G.Guide.follows first l.guide;
+  sink_follows : (first : g.row.S.Denot) → g.S.Sink.follows first l.fn.sink
+      → g.S.Sink.follows first l.sink;
   same_seen : g.W.SearchWatch.seen l.watch ≡ g.W.SearchWatch.seen l.fn.watch;
   waives : WaivesAs l.fn.budget l.budget (g.W.SearchWatch.waived l.fn.watch)
       (g.W.SearchWatch.waived l.watch);

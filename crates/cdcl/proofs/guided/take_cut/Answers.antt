@@ -12,8 +12,8 @@ use Rattle.cdcl.proofs.Guiding.{cut_refused, cut_fails, paid_axiom, paid_nothing
 use Rattle.cdcl.proofs.Guiding.{waived_of}
 use Rattle.cdcl.proofs.guided.take_cut.Goals as goal
 
-pub returns-in_err-make_room : goal.returns-in_err-make_room
-returns-in_err-make_room g c =
+pub returns-in_err-make_room-clause-taking : goal.returns-in_err-make_room-clause-taking
+returns-in_err-make_room-clause-taking g c =
     let s = c.args.search.now in
     let p = c.args.input.now in
     let b = c.args.budget.now in
@@ -21,13 +21,13 @@ returns-in_err-make_room g c =
     cut_fails c.from_residual.result s s p ls ls b b c.from_residual.ensures.0
     (open_log s p ls c.requires.runs) (paid_nothing p.given ls b) refl
 
-pub returns-then-not-are_apart : goal.returns-then-not-are_apart
-returns-then-not-are_apart g c =
+pub returns-then-not-are_apart-clause-taking : goal.returns-then-not-are_apart-clause-taking
+returns-then-not-are_apart-clause-taking g c =
     let ls = g.S.Sink.lines c.args.sink.now in
     cut_refused c.args.search.now c.args.input.now ls ls c.args.budget.now refl
 
-pub returns-in_err-taken : goal.returns-in_err-taken
-returns-in_err-taken g c =
+pub returns-in_err-taken-clause-taking : goal.returns-in_err-taken-clause-taking
+returns-in_err-taken-clause-taking g c =
     let s = c.args.search.now in
     let p = c.args.input.now in
     let b = c.args.budget.now in
@@ -39,14 +39,14 @@ returns-in_err-taken g c =
     (subst (StaysOpen p) (sym same) (open_log s p ls c.requires.runs))
     (subst (λ x. PaysOpen p.given ls x b b) (sym same) (paid_nothing p.given ls b)) refl
 
-pub returns-then-not-taken : goal.returns-then-not-taken
-returns-then-not-taken g c =
+pub returns-then-not-taken-clause-taking : goal.returns-then-not-taken-clause-taking
+returns-then-not-taken-clause-taking g c =
     cut_refused c.args.search.now c.args.input.now (g.S.Sink.lines c.args.sink.now)
     (g.S.Sink.lines c.cut.new.self) c.args.budget.now
     (c.in_ok-taken.ensures.refused c.if-not-taken.true)
 
-pub returns-then-is_empty : goal.returns-then-is_empty
-returns-then-is_empty g c =
+pub returns-then-is_empty-clause-taking : goal.returns-then-is_empty-clause-taking
+returns-then-is_empty-clause-taking g c =
     let s = c.args.search.now in
     let p = c.args.input.now in
     let ls = g.S.Sink.lines c.args.sink.now in
@@ -69,8 +69,8 @@ returns-then-is_empty g c =
       err = tt;
     }
 
-pub returns-in_err-take_axiom : goal.returns-in_err-take_axiom
-returns-in_err-take_axiom g c =
+pub returns-in_err-take_axiom-clause-taking : goal.returns-in_err-take_axiom-clause-taking
+returns-in_err-take_axiom-clause-taking g c =
     let s = c.args.search.now in
     let p = c.args.input.now in
     let ls = g.S.Sink.lines c.args.sink.now in
@@ -88,8 +88,8 @@ returns-in_err-take_axiom g c =
     (waived_of c.args.budget.now c.count_learned.new.self (c.args.budget.now.learned + 1)
     c.count_learned.ensures)
 
-pub returns : goal.returns
-returns g c =
+pub returns-clause-taking : goal.returns-clause-taking
+returns-clause-taking g c =
     let s = c.args.search.now in
     let p = c.args.input.now in
     let b = c.args.budget.now in

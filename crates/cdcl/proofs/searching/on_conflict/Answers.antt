@@ -10,13 +10,13 @@ pub returns-in_err-refute-clause-turns : goal.returns-in_err-refute-clause-turns
 returns-in_err-refute-clause-turns g c =
     turn_fails c.from_residual.result c.args.search.now c.refute.new.search c.args.input.now
     (g.S.Sink.lines c.args.sink.now) (g.S.Sink.lines c.refute.new.sink) c.args.budget.now
-    c.from_residual.ensures.0 c.in_err-refute.ensures.err c.refute.ensures.writes
+    c.from_residual.ensures.0 c.in_err-refute.ensures.refutes.err c.refute.ensures.refutes.writes
 
 pub returns-then-depth-eq0-clause-turns : goal.returns-then-depth-eq0-clause-turns
 returns-then-depth-eq0-clause-turns g c =
     turn_ends c.args.search.now c.refute.new.search c.args.input.now
     (g.S.Sink.lines c.args.sink.now) (g.S.Sink.lines c.refute.new.sink) c.args.budget.now
-    Refuted c.in_ok-refute.ensures.leaves c.refute.ensures.writes
+    Refuted c.in_ok-refute.ensures.refutes.leaves c.refute.ensures.refutes.writes
 
 pub returns-then-left-eq0-clause-turns : goal.returns-then-left-eq0-clause-turns
 returns-then-left-eq0-clause-turns g c =

@@ -40,12 +40,12 @@ pub returns-in_err-note_level : goal.returns-in_err-note_level
 returns-in_err-note_level g c =
     turn_fails c.from_residual.result c.args.search.now c.note_level.new.search
     c.args.input.now (g.S.Sink.lines c.args.sink.now) (g.S.Sink.lines c.note_level.new.sink)
-    c.args.budget.now c.from_residual.ensures.0 c.in_err-note_level.ensures.err
-    c.note_level.ensures.writes
+    c.args.budget.now c.from_residual.ensures.0 c.in_err-note_level.ensures.notes.err
+    c.note_level.ensures.notes.writes
 
 pub branch-search-requires : goal.branch-search-requires
 branch-search-requires g c =
-    let n = c.in_ok-note_level.ensures.leaves in
+    let n = c.in_ok-note_level.ensures.notes.leaves in
     record {
       ready = record {
         searches = n.keeps.runs.running.searches;
@@ -60,7 +60,7 @@ pub returns-then-not-branch : goal.returns-then-not-branch
 returns-then-not-branch g c =
     let p = c.args.input.now in
     let n = c.note_level.new.search in
-    let keeps = c.in_ok-note_level.ensures.leaves.keeps in
+    let keeps = c.in_ok-note_level.ensures.notes.leaves.keeps in
     let b = c.branch-search.ensures in
     let f = c.branch-search.new.self in
     let ls = g.S.Sink.lines c.note_level.new.sink in
@@ -77,12 +77,12 @@ returns-then-not-branch g c =
           (b.closed c.if-not-branch.true);
       left = omega (arith, c.left.ensures.left, c.if-left-eq0.false);
     })
-    c.note_level.ensures.writes
+    c.note_level.ensures.notes.writes
 
 pub reduce-requires : goal.reduce-requires
 reduce-requires g c = record {
   runs = c.branch-search.ensures.runs c.args.input.now (g.S.Sink.lines c.note_level.new.sink)
-      c.in_ok-note_level.ensures.leaves.keeps.runs;
+      c.in_ok-note_level.ensures.notes.leaves.keeps.runs;
 }
 
 pub returns-in_err-reduce : goal.returns-in_err-reduce
@@ -92,9 +92,9 @@ returns-in_err-reduce g c =
     let more = g.S.Sink.lines c.reduce.new.sink in
     turn_fails c.from_residual-in_err-reduce.result c.args.search.now c.reduce.new.search
     c.args.input.now ls more c.args.budget.now c.from_residual-in_err-reduce.ensures.0
-    c.in_err-reduce.ensures.err
+    c.in_err-reduce.ensures.reduces.err
     (writes_join given ls (g.S.Sink.lines c.note_level.new.sink) more 0 0
-    c.note_level.ensures.writes c.reduce.ensures.writes)
+    c.note_level.ensures.notes.writes c.reduce.ensures.reduces.writes)
 
 pub returns : goal.returns
 returns g c =
@@ -102,9 +102,9 @@ returns g c =
     let p = c.args.input.now in
     let ls = g.S.Sink.lines c.args.sink.now in
     let more = g.S.Sink.lines c.reduce.new.sink in
-    let n = c.in_ok-note_level.ensures.leaves.keeps in
+    let n = c.in_ok-note_level.ensures.notes.leaves.keeps in
     let b = c.branch-search.ensures in
-    let r = c.in_ok-reduce.ensures.leaves in
+    let r = c.in_ok-reduce.ensures.reduces.leaves in
     let same : length c.note_level.new.search.engine.trail ≡ length s.engine.trail =
     ap (λ (T : List Assigned). length T) n.trail in
     let longer = b.longer c.if-not-branch.false in
@@ -115,4 +115,4 @@ returns g c =
     (ap (λ (x : PolicyState). x.has_learned) (r.policy ∙ policy ∙ n.policy))
     (let l = r.long in omega arith) (omega (arith, b.within, n.variables)))
     (writes_join p.given ls (g.S.Sink.lines c.note_level.new.sink) more 0 0
-    c.note_level.ensures.writes c.reduce.ensures.writes)
+    c.note_level.ensures.notes.writes c.reduce.ensures.reduces.writes)

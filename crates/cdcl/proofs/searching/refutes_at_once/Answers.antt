@@ -33,14 +33,14 @@ pub returns-in_err-refute-in-Some : goal.returns-in_err-refute-in-Some
 returns-in_err-refute-in-Some g c =
     opens_not c.from_residual-in_err-refute-in-Some.result c.refute.new.search
     c.args.input.now (g.S.Sink.lines c.args.sink.now) (g.S.Sink.lines c.refute.new.sink)
-    c.from_residual-in_err-refute-in-Some.ensures.0 c.in_err-refute-in-Some.ensures.err
-    c.refute.ensures.writes
+    c.from_residual-in_err-refute-in-Some.ensures.0 c.in_err-refute-in-Some.ensures.refutes.err
+    c.refute.ensures.refutes.writes
 
 pub returns-in_ok-refute-in-Some : goal.returns-in_ok-refute-in-Some
 returns-in_ok-refute-in-Some g c = record {
-  ended = λ e. c.in_ok-refute-in-Some.ensures.leaves;
+  ended = λ e. c.in_ok-refute-in-Some.ensures.refutes.leaves;
   opened = λ e. absurd (true≢false e);
-  writes = c.refute.ensures.writes;
+  writes = c.refute.ensures.refutes.writes;
   err = tt;
 }
 

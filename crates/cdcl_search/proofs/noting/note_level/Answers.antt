@@ -3,8 +3,8 @@ use Rattle.cdcl_search.proofs.NotedUnits.{keeps_trail}
 use Rattle.cdcl_search.proofs.Written.{writes_none}
 use Rattle.cdcl_search.proofs.noting.note_level.Goals as goal
 
-pub returns-then-depth-gt0 : goal.returns-then-depth-gt0
-returns-then-depth-gt0 g c =
+pub returns-then-depth-gt0-clause-notes : goal.returns-then-depth-gt0-clause-notes
+returns-then-depth-gt0-clause-notes g c =
     let p = c.args.input.now in
     let ls = g.S.Sink.lines c.args.sink.now in
     record {

@@ -17,7 +17,7 @@ use Rattle.cdcl_search.proofs.noting.refute.Goals as goal
 pub hints_of-requires-clause-attached : goal.hints_of-requires-clause-attached
 hints_of-requires-clause-attached g c =
     let s = c.note_units.new.search in
-    let k = c.in_ok-note_units.ensures.leaves.keeps in
+    let k = c.in_ok-note_units.ensures.notes.leaves.keeps in
     let w = k.false_stays c.args.conflict c.requires.conflict in
     All-cons (λ q. is_attached s.engine q ≡ true) c.args.conflict []
     (k.runs.running.searches.all_attached c.args.conflict (w.0, w.1))
@@ -27,12 +27,12 @@ pub hints_of-requires-clause-noted : goal.hints_of-requires-clause-noted
 hints_of-requires-clause-noted g c =
     let s = c.note_units.new.search in
     all_noted s c.args.input.now (g.S.Sink.lines c.note_units.new.sink) (c.args.conflict ∷ [])
-    c.in_ok-note_units.ensures.leaves.keeps.runs c.in_ok-note_units.ensures.leaves.all
+    c.in_ok-note_units.ensures.notes.leaves.keeps.runs c.in_ok-note_units.ensures.notes.leaves.all
 
 pub append-requires : goal.append-requires
 append-requires g c =
     let s = c.note_units.new.search in
-    let e = c.in_ok-note_units.ensures.leaves.keeps in
+    let e = c.in_ok-note_units.ensures.notes.leaves.keeps in
     let w = e.false_stays c.args.conflict c.requires.conflict in
     record {
       line = adding_line Empty [] c.deref.result.now (s.engine).variables refl e.runs.room.few
@@ -43,21 +43,21 @@ append-requires g c =
           e.runs.running.recorded.numbers ((w.0, w.1), tt));
     }
 
-pub returns-in_err-hints : goal.returns-in_err-hints
-returns-in_err-hints g c =
-    let e = c.in_ok-note_units.ensures in
+pub returns-in_err-hints-clause-refutes : goal.returns-in_err-hints-clause-refutes
+returns-in_err-hints-clause-refutes g c =
+    let e = c.in_ok-note_units.ensures.notes in
     refused c.from_residual-in_err-hints.result c.args.input.now
     (g.S.Sink.lines c.args.sink.now) (g.S.Sink.lines c.note_units.new.sink)
     (g.S.Sink.lines c.note_units.new.sink) c.from_residual-in_err-hints.ensures.0
     e.leaves.keeps.runs.running.recorded.log e.writes refl
 
-pub returns : goal.returns
-returns g c =
+pub returns-clause-refutes : goal.returns-clause-refutes
+returns-clause-refutes g c =
     let s = c.note_units.new.search in
     let p = c.args.input.now in
     let old = g.S.Sink.lines c.args.sink.now in
     let ls = g.S.Sink.lines c.note_units.new.sink in
-    let e = c.in_ok-note_units.ensures in
+    let e = c.in_ok-note_units.ensures.notes in
     let k = e.leaves.keeps in
     let adds =
     adds_empty s p ls c.deref.result.now c.args.conflict k.runs (ap depth_of k.trail

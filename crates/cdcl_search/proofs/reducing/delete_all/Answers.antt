@@ -39,6 +39,7 @@ loop-reference-init g c =
       long = ap (λ (T : List Assigned). length T) d.frame.0;
       policy = refl;
       writes = writes_none c.args.input.now.given (g.S.Sink.lines c.args.sink.now);
+      follows = λ first f. f;
     }
 
 pub loop-reference-preserved : goal.loop-reference-preserved
@@ -69,6 +70,7 @@ loop-reference-preserved g c =
       writes =
           writes_join input.given before (g.S.Sink.lines l.sink)
           (g.S.Sink.lines c.delete.new.sink) 0 0 l.invariant.writes d.writes;
+      follows = λ first f. c.delete.ensures.follows first (l.invariant.follows first f);
     }
 
 pub delete-requires : goal.delete-requires
@@ -79,21 +81,21 @@ delete-requires g c =
           c.loop-reference.invariant.deleting;
     }
 
-pub returns-in_err-doomed : goal.returns-in_err-doomed
-returns-in_err-doomed g c =
+pub returns-in_err-doomed-clause-reduces : goal.returns-in_err-doomed-clause-reduces
+returns-in_err-doomed-clause-reduces g c =
     refused_at_once c.from_residual.result c.args.input.now (g.S.Sink.lines c.args.sink.now)
     c.from_residual.ensures.0 c.requires.runs.running.recorded.log
 
-pub returns-in_err-delete : goal.returns-in_err-delete
-returns-in_err-delete g c =
+pub returns-in_err-delete-clause-reduces : goal.returns-in_err-delete-clause-reduces
+returns-in_err-delete-clause-reduces g c =
     let l = c.loop-reference in
     refused c.from_residual-in_err-delete.result c.args.input.now
     (g.S.Sink.lines c.args.sink.now) (g.S.Sink.lines l.sink) (g.S.Sink.lines c.delete.new.sink)
     c.from_residual-in_err-delete.ensures.0 l.invariant.deleting.recorded.log l.invariant.writes
     c.in_err-delete.ensures.err
 
-pub returns : goal.returns
-returns g c =
+pub returns-clause-reduces : goal.returns-clause-reduces
+returns-clause-reduces g c =
     let l = c.loop-reference in
     record {
       leaves = record {

@@ -12,4 +12,6 @@ invariant-loop-reference g l = record {
   long : length l.search.engine.trail ≡ length l.fn.search.engine.trail;
   policy : l.search.policy ≡ l.fn.search.policy;
   writes : Writes l.input.given (g.S.Sink.lines l.fn.sink) (g.S.Sink.lines l.sink) 0;
+  follows : (first : g.row.S.Denot) → g.S.Sink.follows first l.fn.sink
+      → g.S.Sink.follows first l.sink;
 }

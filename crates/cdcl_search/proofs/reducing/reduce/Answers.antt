@@ -6,20 +6,21 @@ use Rattle.cdcl_search.proofs.Written.{writes_none, refused_at_once}
 use Rattle.cdcl_search.proofs.reducing.reduce.Goals as goal
 use Rattle.cdcl_search.proofs.reducing.reduce.Goals.{then-is_sparse+in_ok-compact, else-is_sparse}
 
-pub returns-then-not-is_deletion_due : goal.returns-then-not-is_deletion_due
-returns-then-not-is_deletion_due g c = record {
+pub returns-then-not-is_deletion_due-clause-reduces
+    : goal.returns-then-not-is_deletion_due-clause-reduces
+returns-then-not-is_deletion_due-clause-reduces g c = record {
   leaves = record { runs = c.requires.runs; long = refl; variables = refl; policy = refl };
   writes = writes_none c.args.input.now.given (g.S.Sink.lines c.args.sink.now);
   err = tt;
 }
 
-pub returns-in_err-candidates : goal.returns-in_err-candidates
-returns-in_err-candidates g c =
+pub returns-in_err-candidates-clause-reduces : goal.returns-in_err-candidates-clause-reduces
+returns-in_err-candidates-clause-reduces g c =
     refused_at_once c.from_residual.result c.args.input.now (g.S.Sink.lines c.args.sink.now)
     c.from_residual.ensures.0 c.requires.runs.running.recorded.log
 
-pub returns-in_err-chosen : goal.returns-in_err-chosen
-returns-in_err-chosen g c =
+pub returns-in_err-chosen-clause-reduces : goal.returns-in_err-chosen-clause-reduces
+returns-in_err-chosen-clause-reduces g c =
     refused_at_once c.from_residual-in_err-chosen.result c.args.input.now
     (g.S.Sink.lines c.args.sink.now) c.from_residual-in_err-chosen.ensures.0
     c.requires.runs.running.recorded.log
@@ -31,11 +32,11 @@ delete_all-requires g c = record {
       c.requires.runs;
 }
 
-pub returns : goal.returns
-returns g c =
+pub returns-clause-reduces : goal.returns-clause-reduces
+returns-clause-reduces g c =
     let p = c.args.input.now in
     let ls = g.S.Sink.lines c.delete_all.new.sink in
-    let d = c.in_ok-delete_all.ensures in
+    let d = c.in_ok-delete_all.ensures.reduces in
     let r = d.leaves in
     let Leaves : Search → Type 0 = λ s. Reduces c.args.search.now s p ls in
     let policy = r.policy ∙ c.choose.ensures.same_view in

@@ -1,0 +1,23 @@
+use Rattle.std.proofs.Common.{◌≡◌, ◌∷◌, [], true, rules}
+use Rattle.lrat_read.specs.Words.{CutLine}
+use Rattle.cuts_log.specs.Events.{Word}
+use Rattle.cuts_log.proofs.Keeping.{kept_next}
+use Rattle.cuts_log.proofs.log.CutsLog.take_cut.Goals as goal
+
+pub invariant_of-self-in_err-note : goal.invariant_of-self-in_err-note
+invariant_of-self-in_err-note g c =
+    let room : c.has_room.result ≡ true = search rules in
+    let yes : c.in_ok-cut.field-0 ≡ true = search rules in
+    let f = c.in_err-note.ensures.err in
+    kept_next _ (Word (CutLine c.args.lits.now) (c.args.lits.now ∷ [])) c.cut.new.self
+    c.note.new.self c.self.invariant (c.has_room.ensures.works room) (c.in_ok-cut.ensures.taken yes)
+    f.seen f.base
+
+pub invariant_of-self-2 : goal.invariant_of-self-2
+invariant_of-self-2 g c =
+    let room : c.has_room.result ≡ true = search rules in
+    let yes : c.in_ok-cut.field-0 ≡ true = search rules in
+    let n = c.in_ok-note.ensures.ok in
+    kept_next _ (Word (CutLine c.args.lits.now) (c.args.lits.now ∷ [])) c.cut.new.self
+    c.note.new.self c.self.invariant (c.has_room.ensures.works room) (c.in_ok-cut.ensures.taken yes)
+    n.seen n.base
