@@ -377,14 +377,11 @@ for cost in 0 3; do
     expect "encode, a soft clause that is no unit, $cost" 0 $'p cnf 3 2\n1 2 0\n-2 1 3 0' ''
 done
 call encode --profile 3 --proof tea.lrat tea.wcnf 3
-expect 'encode of a certificate' 2 '' 'error: encode takes --proof only with --profile 5'
-refusal='error: solve does not write certificates of profile 3'
-lines proof before
-call solve --profile 3 --proof proof --best best --lower bound tea.wcnf
-expect 'solve' 2 '' "$refusal"
-ok 'solve: nothing was written' [ "$(cat "$work/proof")" = before -a ! -e "$work/best" -a ! -e "$work/bound" ]
+expect 'encode of a certificate' 0 $'p cnf 2 2\n1 2 0\n0' ''
 with solve --proof proof tea.wcnf
-expect 'solve in the profile of the environment' 2 '' "$refusal"
+expect 'solve in the profile of the environment' 30 $'o 3\ns OPTIMUM FOUND\nv 10' ''
+with check tea.wcnf tea.result proof
+expect 'solve in the profile of the environment: certificate' 0 YES ''
 with solve --profile 1 tea.wcnf
 expect 'solve in another one than that of the environment' 30 $'o 3\ns OPTIMUM FOUND\nv 10' ''
 with lower tea.wcnf tea.lrat

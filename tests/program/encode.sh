@@ -132,12 +132,12 @@ for name in tea package_choice_60_1 diagnosis_100_1 random_30_1; do
 done
 lines text 'h 1 2 0' '3 -1 0' '4 -2 0'
 lines proof 'core 3 1 3 4 0'
-for profile in 1 2 3 4; do
+for profile in 1 2 4; do
     call encode --profile $profile --proof proof text 3
-    expect "a certificate in profile $profile" 2 '' 'error: encode takes --proof only with --profile 5'
+    expect "a certificate in profile $profile" 2 '' 'error: encode takes --proof only with --profile 3 or 5'
 done
 call encode --proof proof text 3
-expect 'a certificate in the profile that is meant without a word' 2 '' 'error: encode takes --proof only with --profile 5'
+expect 'a certificate in the profile that is meant without a word' 2 '' 'error: encode takes --proof only with --profile 3 or 5'
 call encode --profile 5 --proof missing text 3
 expect 'a missing certificate' 3 '' 'error: Read missing'
 call encode --profile 5 --proof . text 3

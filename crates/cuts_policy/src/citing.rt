@@ -7,6 +7,10 @@ use crate::desk::{Desk, DeskFault};
 use forms::types::NamedFact;
 use std::alloc::{AllocError, Global};
 
+/// A bound is told in the course of a turn once this part of the clauses so far were learned since
+/// the last one.
+const PART: u64 = 100;
+
 /// What the present form is.
 #[derive(Clone, Copy, Debug, PartialEq, Eq, Drop)]
 enum Present {
@@ -27,6 +31,8 @@ pub(crate) struct Citing {
     present: Present,
     // The greatest bound that was told.
     told: u64,
+    // The next one is told in the course of a turn once so many clauses were learned.
+    next: u64,
 }
 
 impl Citing {
@@ -36,6 +42,7 @@ impl Citing {
             facts: Vec::new(alloc),
             present: Present::None,
             told: 0,
+            next: 0,
         }
     }
 
@@ -76,10 +83,18 @@ impl Citing {
         Ok(is_new)
     }
 
+    /// Whether it is time to say that nothing costs less than this, so that no more is said than
+    /// for each hundredth of the clauses that were learned.
+    pub(crate) fn is_due<D: Desk>(&self, desk: &D, lower: u64) -> bool {
+        lower > self.told && desk.learned() >= self.next
+    }
+
     /// Says what the present form is worth, where that is more than what was said.
     pub(crate) fn tell_bound<D: Desk>(&mut self, desk: &mut D) -> Result<(), DeskFault>
         ensures follows { (first : D) → D.follows first desk.old → D.follows first desk.new }
     {
+        let learned = desk.learned();
+        self.next = learned.saturating_add(learned / PART).saturating_add(1);
         let worth = match desk.forms().bound() {
             Ok(Some(worth)) => worth,
             _ => 0,

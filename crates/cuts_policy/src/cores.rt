@@ -112,6 +112,19 @@ impl Cores {
         self.counting.citing.tell_bound(desk)
     }
 
+    /// Says in the course of a turn what the cores are worth, where it is time for that. Cores that
+    /// wait get their counts, and only what is new comes to the form.
+    fn tell_in_time<D: Desk>(&mut self, desk: &mut D) -> Result<(), DeskFault>
+        ensures follows { (first : D) → D.follows first desk.old → D.follows first desk.new }
+    {
+        if !self.counting.citing.is_due(desk, self.lower) {
+            return Ok(());
+        }
+        self.flush(desk)?;
+        self.cite_cores(desk)?;
+        self.tell_bound(desk)
+    }
+
     /// The form of the cores becomes the present one; answers whether it has.
     pub(crate) fn cite_cores<D: Desk>(&mut self, desk: &mut D) -> Result<bool, DeskFault>
         ensures follows { (first : D) → D.follows first desk.old → D.follows first desk.new }
@@ -141,6 +154,7 @@ impl Cores {
         if self.is_over || share == 0 || (self.threshold == 0 && !self.next_stratum()) {
             return Ok(Course::Over);
         }
+        self.tell_in_time(desk)?;
         let alloc = desk.allocator();
         let assumed = self.assumed(desk)?;
         let room = assumed.len().saturating_mul(PASSED);
@@ -331,6 +345,7 @@ impl Cores {
                 Shortened::Open => {}
                 Shortened::Core(lits) => {
                     self.take(desk, lits)?;
+                    self.tell_in_time(desk)?;
                     is_idle = false;
                 }
             }

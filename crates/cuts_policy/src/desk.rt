@@ -7,6 +7,7 @@ use cdcl::guide::Guide;
 use cnf::types::Lit;
 use forms::state::Forms;
 use forms::types::NamedFact;
+use improve_local::kinds::WalkKind;
 use std::alloc::{AllocError, Global};
 
 /// How a search that a guide leads has ended.
@@ -37,6 +38,15 @@ pub enum Trial {
     Stopped,
     /// Nothing is left of the budget.
     Spent,
+}
+
+/// What came of a walk.
+#[derive(Clone, Copy, Debug, PartialEq, Eq, Drop)]
+pub struct Walked {
+    /// How many literals and clauses it has visited; 0 where there was no walk.
+    pub visits: u64,
+    /// Whether the best solution is a cheaper one now.
+    pub is_cheaper: bool,
 }
 
 /// Why a search ended without an answer.
@@ -90,6 +100,9 @@ pub trait Desk: Drop {
     /// Whether there is a solution.
     fn has_solution(&self) -> bool;
 
+    /// How many literals the clauses of the instance have.
+    fn size(&self) -> u64;
+
     /// How many clauses were learned or cut.
     fn learned(&self) -> u64;
 
@@ -119,6 +132,12 @@ pub trait Desk: Drop {
 
     /// Searches, led by the guide.
     fn descend<G: Guide>(&mut self, guide: &mut G) -> Result<Descent, DeskFault>
+        ensures follows { (first : Self) → follows first self.old → follows first self.new };
+
+    /// Walks from the best solution for about so many visits: a cheaper one that is met is the best
+    /// one then. There is no walk where there is no solution, nothing is left of the budget, memory
+    /// is refused for its tables, or the visits are too few. It costs nothing but what is met.
+    fn walk(&mut self, kind: WalkKind, visits: u64) -> Result<Walked, DeskFault>
         ensures follows { (first : Self) → follows first self.old → follows first self.new };
 
     /// Decisions try the values of the best solution first.

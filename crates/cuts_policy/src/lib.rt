@@ -1,5 +1,5 @@
 //! What the search by forms and cuts does next: lower bounds by cores, and solutions below the best
-//! one, in turns. Nothing that is promised of the search rests on it.
+//! one, in turns, with walks between them. Nothing that is promised of the search rests on it.
 #![tactic(auto)]
 
 mod bounding;
@@ -11,3 +11,4 @@ mod items;
 pub mod rounds;
 mod shortening;
 mod tables;
+mod walks;

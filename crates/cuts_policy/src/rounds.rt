@@ -1,6 +1,7 @@
-// The rounds of the search: cores, then solutions below the best one, each for a share of conflicts
-// that grows from round to round. Some instances are closed by cores alone, and some only from
-// above (Ansótegui, Bonet and Levy, "SAT-based MaxSAT algorithms", 2013, compare the two).
+// The rounds of the search: cores, then walks from the best solution, then solutions below it, each
+// for a share of conflicts that grows from round to round. Some instances are closed by cores
+// alone, and some only from above (Ansótegui, Bonet and Levy, "SAT-based MaxSAT algorithms", 2013,
+// compare the two).
 //
 // The cores' form is the bound under which solutions are looked for. A solution that is no cheaper
 // shows that the form leaves cost unsaid: then counts grow; and where that takes too much, the cost
@@ -11,6 +12,7 @@ use crate::bounding::BoundGuide;
 use crate::cores::{Cores, Course};
 use crate::desk::{Descent, Desk, DeskFault};
 use crate::tables::set;
+use crate::walks::Walks;
 use adder::relaxations::Relaxation;
 use cdcl::assumptions::Assumptions;
 use cdcl::outcome::{Passed, Share};
@@ -31,13 +33,14 @@ pub fn search<D: Desk>(desk: &mut D, weights: &[Relaxation]) -> Result<(), DeskF
 {
     begin(desk, weights)?;
     let mut cores = Cores::new(desk.allocator(), weights, desk.last())?;
+    let mut walks = Walks::new();
     let mut share = FIRST;
     let mut left = desk.left();
     while left > 0 {
         if desk.is_refuted() {
             return Ok(());
         }
-        round(desk, &mut cores, share)?;
+        round(desk, &mut cores, &mut walks, share)?;
         share = share.saturating_add(share / 2);
         desk.charge(left - 1);
         left = desk.left();
@@ -76,12 +79,20 @@ fn cheap_values(alloc: Global, weights: &[Relaxation], last: u32) -> Result<Vec<
     Ok(values)
 }
 
-/// Cores, and then solutions, for a share of conflicts each.
-fn round<D: Desk>(desk: &mut D, cores: &mut Cores, share: u64) -> Result<(), DeskFault>
+/// Cores, then walks, and then solutions, for a share of conflicts each.
+fn round<D: Desk>(
+    desk: &mut D,
+    cores: &mut Cores,
+    walks: &mut Walks,
+    share: u64,
+) -> Result<(), DeskFault>
     ensures follows { (first : D) → D.follows first desk.old → D.follows first desk.new }
 {
     match cores.turn(desk, share)? {
-        Course::GoesOn | Course::Over => descend(desk, cores, share)?,
+        Course::GoesOn | Course::Over => {
+            walks.turn(desk, share)?;
+            descend(desk, cores, share)?;
+        }
         Course::Ended => {}
     }
     cores.tell_bound(desk)

@@ -181,7 +181,7 @@ pub record TellsAllButLast (tried told : List ℕ) (failed : Option ℕ) : Type 
   pub tried_is : tried ≡ told ++ last ∷ []
 
 -- what was tried was told, but for a last cost where that failed
-abbrev pub TellsOf : Result Found ImproveFault → List ℕ → List ℕ → Option ℕ → Type 0
+abbrev pub TellsOf : {A : Type 0} → Result A ImproveFault → List ℕ → List ℕ → Option ℕ → Type 0
 TellsOf (Ok found) tried told failed = tried ≡ told
 TellsOf (Err Memory) tried told failed = tried ≡ told
 TellsOf (Err Progress) tried told failed = TellsAllButLast tried told failed

@@ -16,24 +16,24 @@ pub(crate) struct Best {
 }
 
 impl Best {
-    /// These bits are the best so far.
-    pub(crate) fn new(alloc: Global, bits: Vec<bool>) -> Result<Self, AllocError> {
-        let flipped = Vec::from_elem(alloc, 0, bits.len())?;
+    /// Room for the bits of so many variables, each of them false.
+    pub(crate) fn new(alloc: Global, variables: usize) -> Result<Self, AllocError> {
         Ok(Best {
-            bits,
-            flipped,
+            bits: Vec::from_elem(alloc, false, variables)?,
+            flipped: Vec::from_elem(alloc, 0, variables)?,
             flips: 0,
         })
+    }
+
+    /// A search begins, of which these bits are the best so far.
+    pub(crate) fn begin(&mut self, bits: &[bool]) {
+        self.copy(bits);
+        self.flips = 0;
     }
 
     /// The best bits so far, one for each variable from 0 on.
     pub(crate) fn bits(&self) -> &[bool] {
         &self.bits
-    }
-
-    /// The best bits, once the search is over.
-    pub(crate) fn into_bits(self) -> Vec<bool> {
-        self.bits
     }
 
     /// The search goes on from the best bits.
@@ -52,9 +52,7 @@ impl Best {
         let flips = self.flips;
         self.flips = 0;
         if flips > self.flipped.len() {
-            for (place, bit) in self.bits.iter_mut().enumerate() {
-                *bit = at(bits, place);
-            }
+            self.copy(bits);
             return self.bits.len() as u64;
         }
         for place in 0..flips {
@@ -63,5 +61,12 @@ impl Best {
             }
         }
         flips as u64
+    }
+
+    // All bits become these.
+    fn copy(&mut self, bits: &[bool]) {
+        for (place, bit) in self.bits.iter_mut().enumerate() {
+            *bit = at(bits, place);
+        }
     }
 }

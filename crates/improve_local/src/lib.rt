@@ -1,4 +1,4 @@
-//! A local search: a solution becomes cheaper before any bound is built.
+//! A local search: a solution becomes cheaper by flips of its bits.
 #![tactic(auto)]
 
 mod best;
@@ -6,6 +6,8 @@ mod checked;
 mod clauses;
 mod draws;
 mod group;
+pub mod kinds;
 pub mod polishing;
 mod scores;
 mod steps;
+pub mod walking;

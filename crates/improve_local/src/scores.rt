@@ -4,9 +4,9 @@
 // All of it is policy: nothing is known of it but that no step of it can fail. A place outside its
 // table has no effect, and sums stop at the ends of their range.
 //
-// Soft clauses weigh what they cost, and hard ones become heavier and lighter. A start of half of
-// the mean weight of a soft clause is as good on small texts. On one with 500,000 variables the
-// search then leaves the solutions, and does not come back before its visits are used up.
+// Soft clauses weigh what they cost at the start, and hard ones what a soft one weighs in the mean.
+// Half of that is as good on small texts. On one with 500,000 variables the priced walk then leaves
+// the solutions, and does not come back before its visits are used up.
 use crate::checked::{at, fill, narrow, set};
 use crate::clauses::{Occurrences, count, lits, price};
 use crate::group::Group;
@@ -20,11 +20,15 @@ const UNITS: u64 = 16;
 /// number.
 const SMALL: u64 = 288_230_376_151_711_744;
 
-/// A hard clause weighs so many units at the start,
-const HARD_START: i64 = 16;
+/// A hard clause weighs so many units at the start, as a soft one does in the mean,
+pub(crate) const HARD_START: i64 = 16;
 
-/// and no less than so many later.
+/// and no less than so many where it becomes lighter.
 const HARD_LEAST: i64 = 3;
+
+/// A soft clause becomes no heavier where it weighs more than so many times what it does at the
+/// start.
+const SOFT_MOST: i64 = 50;
 
 /// The bits, and the tables that go with them. Variables and clauses are numbers from 0.
 #[derive(Drop)]
@@ -55,6 +59,8 @@ pub(crate) struct Scores {
     unit: i64,
     // The hard clause that becomes lighter next.
     next_hard: usize,
+    // Whether the clauses have weights.
+    is_weighed: bool,
     /// How many literals and clauses were visited.
     pub(crate) work: u64,
 }
@@ -81,12 +87,17 @@ impl Scores {
             scale,
             unit: i64::try_from(unit).unwrap_or(i64::MAX).max(1),
             next_hard: 0,
+            is_weighed: false,
             work: 0,
         })
     }
 
-    /// Begins with these bits, and with the weights of the start.
-    pub(crate) fn begin(&mut self, instance: &Instance, bits: &[bool]) {
+    /// Begins with these bits, and with the weights that there are, if they are kept; else with
+    /// those of the start.
+    pub(crate) fn begin(&mut self, instance: &Instance, bits: &[bool], keeps_weights: bool) {
+        if !(keeps_weights && self.is_weighed) {
+            self.weigh_anew(instance);
+        }
         for (place, bit) in self.bits.iter_mut().enumerate() {
             *bit = at(bits, place);
         }
@@ -122,11 +133,44 @@ impl Scores {
         self.change(variable, back);
     }
 
-    /// A hard clause that is false becomes heavier by a unit.
-    pub(crate) fn weigh(&mut self, instance: &Instance, number: u32) {
-        let weight = at(&self.weights, number as usize).saturating_add(self.unit);
+    /// A hard clause that is false becomes heavier by so many units.
+    pub(crate) fn weigh(&mut self, instance: &Instance, number: u32, units: i64) {
+        self.add_weight(instance, number, self.unit.saturating_mul(units));
+    }
+
+    /// A soft clause that is false becomes heavier by what it weighs at the start, unless it is as
+    /// heavy as it gets.
+    pub(crate) fn weigh_soft(&mut self, instance: &Instance, number: u32) {
+        self.work = self.work.saturating_add(1);
+        let first = self.first_weight(instance, number);
+        if at(&self.weights, number as usize) <= first.saturating_mul(SOFT_MOST) {
+            self.add_weight(instance, number, first);
+        }
+    }
+
+    // A clause that is false becomes heavier by so much.
+    fn add_weight(&mut self, instance: &Instance, number: u32, by: i64) {
+        let weight = at(&self.weights, number as usize).saturating_add(by);
         set(&mut self.weights, number as usize, weight);
-        self.change_all(instance, number, self.unit);
+        self.change_all(instance, number, by);
+    }
+
+    // What a clause weighs at the start.
+    fn first_weight(&self, instance: &Instance, number: u32) -> i64 {
+        if (number as usize) < instance.hard().len() {
+            return self.unit.saturating_mul(HARD_START);
+        }
+        let weight = price(instance, number).saturating_mul(self.scale);
+        i64::try_from(weight).unwrap_or(i64::MAX)
+    }
+
+    // The clauses get the weights of the start.
+    fn weigh_anew(&mut self, instance: &Instance) {
+        for place in 0..count(instance) {
+            let weight = self.first_weight(instance, narrow(place));
+            set(&mut self.weights, place, weight);
+        }
+        self.is_weighed = true;
     }
 
     /// So many hard clauses become lighter by a unit, each in its turn. All of them are true.
@@ -156,16 +200,8 @@ impl Scores {
 
     // Begins: what each clause adds to the scores.
     fn add_shares(&mut self, instance: &Instance) {
-        let hard = instance.hard().len();
         for place in 0..count(instance) {
             let number = narrow(place);
-            let weight = if place < hard {
-                self.unit.saturating_mul(HARD_START)
-            } else {
-                let weight = price(instance, number).saturating_mul(self.scale);
-                i64::try_from(weight).unwrap_or(i64::MAX)
-            };
-            set(&mut self.weights, place, weight);
             for lit in lits(instance, number) {
                 let variable = lit.variable() - 1;
                 if is_true(&self.bits, *lit) {

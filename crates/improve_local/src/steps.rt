@@ -1,34 +1,29 @@
 // The steps of the search, and how each chooses the variable to flip.
 //
-// Tried: soft clauses that become heavier too, up to twenty times their price, with hard ones that
-// never become lighter. The search then comes to the right weights once and goes past them, and it
-// found the optimum less often. One round in place of two, with as many visits, is worse only where
-// hard clauses are few. A sample of 20 is no better than one of 10. docs/EXPERIMENTS.md has the
-// numbers.
+// Tried for the priced walk: soft clauses that become heavier too, up to twenty times their price,
+// with hard ones that never become lighter. One walk then comes to the right weights once and goes
+// past them, and it found the optimum less often: the growing walk is one of many, from turn to
+// turn. One round in place of two, with as many visits, is worse only where hard clauses are few. A
+// sample of 20 is no better than one of 10. docs/EXPERIMENTS.md has the numbers.
 use crate::best::Best;
 use crate::checked::{at, set};
 use crate::clauses::{Occurrences, lits};
 use crate::draws::Draws;
-use crate::scores::Scores;
+use crate::kinds::WalkKind;
+use crate::scores::{HARD_START, Scores};
 use cnf::types::Instance;
 use std::alloc::{AllocError, Global};
 
-/// There are so many rounds: each goes on from the best bits with the weights of the start.
-const ROUNDS: u64 = 2;
-
-/// A round takes so many visits for each literal of the instance,
-const VISITS: u64 = 120;
-
-/// and all of them at most so many.
-const MOST_VISITS: u64 = 10_000_000;
-
-/// The best of so many good variables is flipped.
+/// The best of so many good variables is flipped in a priced walk,
 const SAMPLE: usize = 10;
 
-/// A variable that was flipped is not again for so many flips.
+/// and of so many in a growing one.
+const GROWING_SAMPLE: usize = 20;
+
+/// In a priced walk a variable that was flipped is not again for so many flips.
 const TABU: u64 = 2;
 
-/// So many hard clauses that are false become heavier at a time,
+/// In a priced walk so many hard clauses that are false become heavier at a time,
 const HEAVIER: usize = 16;
 
 /// or so many that are true lighter,
@@ -37,14 +32,19 @@ const LIGHTER: usize = 64;
 /// and no more than this part of all hard clauses.
 const LIGHTER_PART: usize = 8;
 
-/// A search that is under way.
+/// In a growing walk so many soft clauses that are false become heavier at a time.
+const HEAVIER_SOFT: usize = 100;
+
+/// A walk, and what it takes along to the next one.
 #[derive(Drop)]
 pub(crate) struct Walk {
+    // How the weights of clauses change.
+    kind: WalkKind,
     // The bits that it is at.
     scores: Scores,
     // By variable, after how many flips it was flipped last; 0 where it was not.
     flipped: Vec<u64>,
-    // How many flips there were, and `TABU` more.
+    // How many flips there were in all walks, and `TABU` more.
     flips: u64,
     // What the best bits cost that met all hard clauses.
     best_cost: u64,
@@ -55,16 +55,18 @@ pub(crate) struct Walk {
 }
 
 impl Walk {
-    /// A search from bits that meet the hard clauses.
+    /// Before the first walk.
     pub(crate) fn new(
         alloc: Global,
         instance: &Instance,
-        bits: Vec<bool>,
+        kind: WalkKind,
     ) -> Result<Self, AllocError> {
-        let flipped = Vec::from_elem(alloc, 0, bits.len())?;
+        let variables = instance.vars() as usize;
+        let flipped = Vec::from_elem(alloc, 0, variables)?;
+        let best = Best::new(alloc, variables)?;
         let scores = Scores::new(alloc, instance)?;
-        let best = Best::new(alloc, bits)?;
         Ok(Walk {
+            kind,
             flipped,
             flips: TABU,
             best_cost: u64::MAX,
@@ -74,21 +76,41 @@ impl Walk {
         })
     }
 
-    /// Goes on until the budget is spent, and answers the best bits.
-    pub(crate) fn finish(mut self, instance: &Instance, places: &Occurrences) -> Vec<bool> {
-        let visits = (places.len() as u64).saturating_mul(VISITS);
-        for round in 0..ROUNDS {
-            let end = visits
-                .saturating_mul(round.saturating_add(1))
-                .min(MOST_VISITS);
-            if self.scores.work < end {
-                self.scores.begin(instance, self.best.bits());
+    /// Walks from bits that meet the hard clauses, in rounds: each begins with the best bits, and
+    /// ends once so many visits were made in all.
+    pub(crate) fn run(
+        &mut self,
+        instance: &Instance,
+        places: &Occurrences,
+        bits: &[bool],
+        ends: &[u64],
+    ) {
+        self.scores.work = 0;
+        self.best.begin(bits);
+        let keeps_weights = self.kind == WalkKind::Growing;
+        for end in ends {
+            if self.scores.work < *end {
+                self.scores.begin(instance, self.best.bits(), keeps_weights);
                 self.best_cost = self.scores.cost;
                 self.best.go_back();
-                self.walk(instance, places, end);
+                self.walk(instance, places, *end);
             }
         }
-        self.best.into_bits()
+    }
+
+    /// How many literals and clauses were visited since it began.
+    pub(crate) fn visits(&self) -> u64 {
+        self.scores.work
+    }
+
+    /// What the best bits cost that it met.
+    pub(crate) fn best_cost(&self) -> u64 {
+        self.best_cost
+    }
+
+    /// Those bits.
+    pub(crate) fn best(&self) -> &[bool] {
+        self.best.bits()
     }
 
     // Flips variables until so many visits were made.
@@ -133,9 +155,13 @@ impl Walk {
     // The best of the good variables, or of some of them where there are many.
     fn choose_good(&mut self) -> Option<u32> {
         let count = self.scores.good.len();
+        let sample = match self.kind {
+            WalkKind::Priced => SAMPLE,
+            WalkKind::Growing => GROWING_SAMPLE,
+        };
         let mut best = None;
-        for try_number in 0..count.min(SAMPLE) {
-            let place = if count <= SAMPLE {
+        for try_number in 0..count.min(sample) {
+            let place = if count <= sample {
                 try_number
             } else {
                 self.draws.below(count)
@@ -172,11 +198,12 @@ impl Walk {
     }
 
     // The better one of these to flip: that with the greater score, then that which was flipped
-    // earlier. One that was flipped just now is none.
+    // earlier. One that was flipped just now is none in a priced walk.
     fn better(&mut self, best: Option<u32>, variable: u32) -> Option<u32> {
         self.scores.work = self.scores.work.saturating_add(1);
         let flipped = at(&self.flipped, variable as usize);
-        if self.flips.saturating_sub(flipped) < TABU {
+        let is_priced = self.kind == WalkKind::Priced;
+        if is_priced && self.flips.saturating_sub(flipped) < TABU {
             return best;
         }
         let Some(other) = best else {
@@ -189,9 +216,16 @@ impl Walk {
         if is_better { Some(variable) } else { best }
     }
 
-    // No flip betters the bits by the weights that clauses have: false hard clauses become heavier,
-    // or hard clauses lighter where none is false.
+    // No flip betters the bits by the weights that clauses have: they change.
     fn reweigh(&mut self, instance: &Instance) {
+        match self.kind {
+            WalkKind::Priced => self.weigh_hard(instance),
+            WalkKind::Growing => self.grow(instance),
+        }
+    }
+
+    // False hard clauses become heavier, or hard clauses lighter where none is false.
+    fn weigh_hard(&mut self, instance: &Instance) {
         let count = self.scores.false_hard.len();
         if count == 0 {
             let part = instance.hard().len().div_ceil(LIGHTER_PART);
@@ -204,7 +238,27 @@ impl Walk {
                 self.draws.below(count)
             };
             let number = self.scores.false_hard.at(place);
-            self.scores.weigh(instance, number);
+            self.scores.weigh(instance, number, 1);
+        }
+    }
+
+    // All false hard clauses become heavier, or some false soft ones where none is.
+    fn grow(&mut self, instance: &Instance) {
+        let hard = self.scores.false_hard.len();
+        for place in 0..hard {
+            let number = self.scores.false_hard.at(place);
+            self.scores.weigh(instance, number, HARD_START);
+        }
+        if hard > 0 {
+            return;
+        }
+        let count = self.scores.false_soft.len();
+        let mut place = self.draws.below(count);
+        for _clause in 0..count.min(HEAVIER_SOFT) {
+            let number = self.scores.false_soft.at(place);
+            self.scores.weigh_soft(instance, number);
+            let next = place.saturating_add(1);
+            place = if next < count { next } else { 0 };
         }
     }
 }

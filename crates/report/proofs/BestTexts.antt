@@ -8,14 +8,13 @@ use Rattle.cnf.specs.Problem.{Problem}
 use Rattle.cnf.specs.Instance.{IsInstance}
 use Rattle.cnf.proofs.Laws.{extends_own}
 use Rattle.text.specs.Writing.{spaced}
-use Rattle.lrat_result.specs.Result.{OptimumFound, Unsatisfiable, Satisfiable, Unknown, FallsTo}
+use Rattle.lrat_result.specs.Result.{Said, OptimumFound, Unsatisfiable, Satisfiable, Unknown}
+use Rattle.lrat_result.specs.Result.{FallsTo}
 use Rattle.lrat_result.specs.Result.{cost_tokens}
-use Rattle.improve.specs.declared.found.Found.{Found}
-use Rattle.improve.specs.declared.found.Found.TheVariants.{Optimum, Unsat, Best, Nothing}
 use Rattle.improve.specs.Improving.{IsSolution}
 use Rattle.improve.proofs.Laws.{cost_small}
 use Rattle.report.specs.Answering.{bits_word, words_text}
-use Rattle.report.specs.Best.{IsFound, IsTrueText, best_text, said_of}
+use Rattle.report.specs.Best.{IsTrueOf, IsTrueText, best_text}
 use Rattle.report.proofs.ResultTexts.{optimum_text, satisfiable_text, text_says}
 
 pub satisfiable_best : (c : ℕ) (bits : List Bool) → spaced (cost_tokens c)
@@ -47,14 +46,10 @@ pub satisfiable_true : (p : Problem) (c : ℕ) (bits : List Bool) → IsInstance
 satisfiable_true p c bits h s =
     (Satisfiable c bits, text_says [] (Satisfiable c bits) (one_falls p c bits h s), s)
 
-pub found_true : (p : Problem) (found : Found) → IsInstance p → IsFound p found
-    → IsTrueText p (best_text (said_of found))
-found_true p (Optimum c bits log clauses cores) h f = let r = f.2 in (
-  OptimumFound c bits.items,
-  text_says [] (OptimumFound c bits.items) (one_falls p c bits.items h r.solution),
-  (r.solution, r.optimal),
-)
-found_true p (Unsat log clauses) h f = let r = f.2 in
-    (Unsatisfiable, text_says [] Unsatisfiable refl, r.inconsistent)
-found_true p (Best c bits work) h f = let r = f.2 in satisfiable_true p c bits.items h r.solution
-found_true p (Nothing work) h f = (Unknown, text_says [] Unknown refl, tt)
+pub said_true : (p : Problem) (said : Said) → IsInstance p → IsTrueOf p said
+    → IsTrueText p (best_text said)
+said_true p (OptimumFound c bits) h t =
+    (OptimumFound c bits, text_says [] (OptimumFound c bits) (one_falls p c bits h t.0), t)
+said_true p Unsatisfiable h t = (Unsatisfiable, text_says [] Unsatisfiable refl, t)
+said_true p (Satisfiable c bits) h t = satisfiable_true p c bits h t
+said_true p Unknown h t = (Unknown, text_says [] Unknown refl, tt)

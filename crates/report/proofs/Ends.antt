@@ -47,7 +47,8 @@ use Rattle.report.specs.Answering.{IsSpelledProof, HasProof, LeavesAnswer, Answe
 use Rattle.report.specs.Running.{result_text, told_in, AreHonest, AreChecked, IsTrueAnswer}
 use Rattle.report.specs.Running.{NeedsProof, EndsAs, LeavesResult, LeavesProof, Leaves, Searches}
 use Rattle.report.specs.Running.{IsTrueLimit}
-use Rattle.report.proofs.ResultTexts.{optimum_text, satisfiable_text, falls_to, text_says}
+use Rattle.report.proofs.ResultTexts.{optimum_text, satisfiable_text, falls_in, text_says}
+use Rattle.report.proofs.ResultTexts.{begun, not_past}
 
 -- the accepted log, spelled with the ids from the formula's number of clauses on
 module _ (cs : List (List Literal)) (n : ℕ) (log : List LogLine) (a : IsAcceptedOver cs log)
@@ -148,7 +149,7 @@ module _ (profile : Profile) (text : Option (List ℕ)) (p : Problem)
   honest_at None costs o h = tt
   honest_at (Some bytes) costs o h = λ q r. subst (λ x. All (IsCostOfSome x) costs) (sym (o q r)) h
 
-  solution_at : (known : Option (List ℕ)) (bits : List Bool) (c : ℕ)
+  pub solution_at : (known : Option (List ℕ)) (bits : List Bool) (c : ℕ)
       → IfSome known (λ bytes. (q : Problem) → Reads bytes q → q ≡ p) → IsSolution p bits c
       → IfSome known (λ bytes. (q : Problem) → Reads bytes q → IsSolution q bits c)
   solution_at None bits c o h = tt
@@ -178,11 +179,6 @@ module _ (profile : Profile) (text : Option (List ℕ)) (p : Problem)
       (p, SaysUnsatisfiable, r, says, over)
 
   module _ (old new : BudgetState) (out out' : Option (List ℕ)) where
-    falls_in : (tried before : List ℕ) (c : ℕ) → tried ≡ before ++ c ∷ [] → AreFalling tried
-        → All (λ d. d < 2 ^ 62) tried → FallsTo before (SaysSatisfiable c [])
-    falls_in tried before c e f s =
-        (falls_to before c (subst AreFalling e f), subst (All (λ d. d < 2 ^ 62)) e s)
-
     spells : (found : Found) (s : Searches profile p (Ok found) out out' old new)
         → Spells profile text p s.tried found old new
     spells (Optimum c bits log clauses cores) s =
@@ -356,16 +352,6 @@ module _ (profile : Profile) (text : Option (List ℕ)) (p : Problem)
       answer_leaves (Read fault) w = absurd w
 
     -- a fault while it searched
-    begun : (lines part : List ℕ) (tail whole : List ℕ) → Begins part lines → whole ≡ lines ++ tail
-        → Begins part whole
-    begun lines part tail whole b e =
-        (b.0 ++ tail, e ∙ ap (λ z. z ++ tail) b.1 ∙ append_assoc part b.0 tail)
-
-    -- a beginning of the lines does not reach past them
-    not_past : (lines part : List ℕ) → Begins part lines → length lines < length part → ⊥
-    not_past lines part b lt =
-        omega (arith, lt, ap length b.1, length-append part b.0)
-
     pub search_leaves : (proof : Option (List ℕ)) (fault : RunFault)
         → Searches profile p (Err fault) out out' old new
         → Leaves profile fault text out out' proof proof new

@@ -7,5 +7,7 @@ pub mod ResultTexts
 pub mod Answered
 pub mod Ends
 pub mod SeenAs
+pub mod SearchedByCuts
+pub mod CutsEnds
 mod BestTexts
 mod LowerTexts

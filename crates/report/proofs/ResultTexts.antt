@@ -1,14 +1,15 @@
 -- The text of a result: its parts, and what it says.
 use Rattle.std.proofs.Common.{◌≡◌, ℕ, ◌<◌, ◌≤◌, ◌^◌, Bool, true, false, not, List, [], ◌∷◌, ◌++◌}
-use Rattle.std.proofs.Common.{map, refl, sym, ◌∙◌, ap, arith, append_assoc, append-nil}
-use Rattle.std.specs.Prelude.{filter}
+use Rattle.std.proofs.Common.{length, map, refl, sym, ◌∙◌, ap, subst, arith, append_assoc}
+use Rattle.std.proofs.Common.{append-nil, length-append}
+use Rattle.std.specs.Prelude.{All, filter}
 use Rattle.std.specs.List.{flat_map, AllByRecursion}
 use Rattle.std.proofs.lemmas.Grind.{flat_map-append}
 use Rattle.std.proofs.lemmas.List.Concat.{flat_map_single}
 use Rattle.std.proofs.lemmas.List.Elements.{recursion_from_All}
 use Rattle.std.proofs.lemmas.List.Folds.{flat_map-map}
 use lib.Chars.{codes}
-use Rattle.text.specs.Writing.{spaced}
+use Rattle.text.specs.Writing.{Begins, spaced}
 use Rattle.lrat_log.proofs.Laws.{IsWord, token_lines-spaced, decimal_word}
 use Rattle.lrat_result.specs.Result.{Said, OptimumFound, Unsatisfiable, Satisfiable, Unknown}
 use Rattle.lrat_result.specs.Result.{FallsTo, Says, fall_to, cost_tokens, digit_of, bits_tokens}
@@ -61,6 +62,20 @@ pub falls_to : (before : List ℕ) (c : ℕ) → AreFalling (before ++ c ∷ [])
 falls_to [] c h = tt
 falls_to (d ∷ []) c h = h.0
 falls_to (d ∷ e ∷ before) c h = (h.0, falls_to (e ∷ before) c h.1)
+
+pub falls_in : (tried before : List ℕ) (c : ℕ) → tried ≡ before ++ c ∷ [] → AreFalling tried
+    → All (λ d. d < 2 ^ 62) tried → FallsTo before (Satisfiable c [])
+falls_in tried before c e f s =
+    (falls_to before c (subst AreFalling e f), subst (All (λ d. d < 2 ^ 62)) e s)
+
+-- a beginning of the lines is one of the whole text, and does not reach past the lines
+pub begun : (lines part : List ℕ) (tail whole : List ℕ) → Begins part lines
+    → whole ≡ lines ++ tail → Begins part whole
+begun lines part tail whole b e =
+    (b.0 ++ tail, e ∙ ap (λ z. z ++ tail) b.1 ∙ append_assoc part b.0 tail)
+
+pub not_past : (lines part : List ℕ) → Begins part lines → length lines < length part → ⊥
+not_past lines part b lt = omega (arith, lt, ap length b.1, length-append part b.0)
 
 -- tokens are words, and no line is ignored
 abbrev IsTold : List (List ℕ) → Type 0

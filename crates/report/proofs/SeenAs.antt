@@ -1,5 +1,5 @@
 -- What was shown is what the result tells and says.
-use Rattle.std.proofs.Common.{◌≡◌, ℕ, List, [], ◌∷◌, ◌++◌, Option, map, refl, sym, ◌∙◌, ap, subst}
+use Rattle.std.proofs.Common.{◌≡◌, ℕ, List, [], ◌∷◌, ◌++◌, Option, map, sym, ◌∙◌, ap, subst}
 use Rattle.std.specs.Prelude.{IfSome}
 use Rattle.std.specs.Io.KnownBytes.{Appends}
 use Rattle.std.proofs.KnownBytes.{Appends-trans}
@@ -16,9 +16,17 @@ use Rattle.report.specs.declared.status.Status.{Status}
 use Rattle.report.specs.Told.{cost_lines}
 use Rattle.report.specs.Answering.{status_of, end_text, Answers}
 use Rattle.report.specs.Running.{result_text, told_in}
-use Rattle.report.specs.Best.{said_of, end_of}
+use Rattle.report.specs.Best.{IsTrueOf, said_of, end_of}
 use Rattle.report.specs.Seen.{IsShownFor, IsSeenAs}
 use Rattle.report.proofs.ResultTexts.{optimum_text, satisfiable_text}
+
+-- what was found is so
+pub found_so : (profile : Profile) (p : Problem) (costs : List ℕ) (found : Found)
+    → IsRightFound profile p costs found → IsTrueOf p (said_of found)
+found_so profile p costs (Optimum c bits log clauses cores) f = (f.solution, f.optimal)
+found_so profile p costs (Unsat log clauses) f = f.inconsistent
+found_so profile p costs (Best c bits work) f = f.solution
+found_so profile p costs (Nothing work) f = tt
 
 -- the result of what was found, where these costs were told
 record IsSpelled (found : Found) (costs : List ℕ) : Type 0 where
@@ -55,7 +63,7 @@ pub seen_as : (profile : Profile) (text : Option (List ℕ)) (p : Problem)
     → IfSome text (λ bytes. Reads bytes p) → (out out' last proof proof' : Option (List ℕ))
     (before mid after : Option (List Sight)) (found : Found)
     → IsShownFor profile p found out out' before mid → Answers found out' last proof proof'
-    → after ≡ with_seen (end_of p found ∷ []) mid → (status : Status) → status ≡ status_of found
+    → after ≡ with_seen (end_of p (said_of found) ∷ []) mid → (status : Status) → status ≡ status_of found
     → IsSeenAs profile text out last status before after
 seen_as profile text p reads out out' last proof proof' before mid after found s w end status is =
     let costs = costs_shown s.solutions in
@@ -69,8 +77,8 @@ seen_as profile text p reads out out' last proof proof' before mid after found s
       found = found;
       right = s.right;
       status_is = is;
-      seen = end ∙ ap (with_seen (end_of p found ∷ [])) s.seen
-          ∙ with_seen_more shown (end_of p found ∷ []) before;
+      seen = end ∙ ap (with_seen (end_of p (said_of found) ∷ [])) s.seen
+          ∙ with_seen_more shown (end_of p (said_of found) ∷ []) before;
       earlier = t.earlier;
       told = t.told;
       out_grows =

@@ -3,12 +3,16 @@ use Rattle.std.specs.Prelude.{ℕ, List, [], ⊤, true, false, Some, None}
 use Rattle.cnf.specs.Literal.{Assignment}
 use Rattle.cnf.specs.Bits.{Extends}
 use Rattle.cnf.specs.Problem.{Problem, IsOptimal, IsInconsistent}
-use Rattle.adder.specs.declared.profiles.Profile.{Profile}
 use Rattle.cdcl_order.specs.Watch.{Sight, End}
 use Rattle.lrat_result.specs.Result.{Said, Says, OptimumFound, Unsatisfiable, Satisfiable, Unknown}
 use Rattle.improve.specs.declared.found.Found.{Found}
 use Rattle.improve.specs.declared.found.Found.TheVariants.{Optimum, Unsat, Best, Nothing}
-use Rattle.improve.specs.Improving.{IsRightFound, IsSolution}
+use Rattle.improve.specs.Improving.{IsSolution}
+use Rattle.report.specs.declared.finding.Finding.{Finding}
+use Rattle.report.specs.declared.finding.Finding.TheVariants.{Optimum as FoundOptimum}
+use Rattle.report.specs.declared.finding.Finding.TheVariants.{Unsat as FoundUnsat}
+use Rattle.report.specs.declared.finding.Finding.TheVariants.{Best as FoundBest}
+use Rattle.report.specs.declared.finding.Finding.TheVariants.{Nothing as FoundNothing}
 use Rattle.report.specs.Running.{result_text}
 
 -- a whole result that tells no cost but its own
@@ -22,16 +26,19 @@ said_of (Unsat log clauses) = Unsatisfiable
 said_of (Best c bits work) = Satisfiable c bits.items
 said_of (Nothing work) = Unknown
 
--- the end of a search that found this, as it is shown
-abbrev pub end_of : Problem → Found → Sight
-end_of p (Optimum c bits log clauses cores) = End p true (Some (c, bits.items))
-end_of p (Unsat log clauses) = End p true None
-end_of p (Best c bits work) = End p false (Some (c, bits.items))
-end_of p (Nothing work) = End p false None
+-- and as those who look on are told it
+abbrev pub said_by : Finding → Said
+said_by (FoundOptimum c bits) = OptimumFound c bits.now
+said_by FoundUnsat = Unsatisfiable
+said_by (FoundBest c bits) = Satisfiable c bits.now
+said_by FoundNothing = Unknown
 
--- a search found this, in some profile, and told some costs
-abbrev pub IsFound : Problem → Found → Type 0
-IsFound p found = (profile : Profile) × (costs : List ℕ) × IsRightFound profile p costs found
+-- the end of a search whose result says this, as it is shown
+abbrev pub end_of : Problem → Said → Sight
+end_of p (OptimumFound c bits) = End p true (Some (c, bits))
+end_of p Unsatisfiable = End p true None
+end_of p (Satisfiable c bits) = End p false (Some (c, bits))
+end_of p Unknown = End p false None
 
 -- what is said is so
 abbrev pub IsTrueOf : Problem → Said → Type 0

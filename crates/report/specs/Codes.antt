@@ -9,6 +9,11 @@ use Rattle.lrat_check.specs.declared.verdicts.Verdict.{Verdict}
 use Rattle.lrat_check.specs.declared.verdicts.Verdict.TheVariants.{Yes, No}
 use Rattle.report.specs.declared.fault.RunFault.{RunFault}
 use Rattle.report.specs.declared.fault.RunFault.TheVariants.{Read, Memory, Output, ProofOutput}
+use Rattle.report.specs.declared.status.CutsStatus.{CutsStatus}
+use Rattle.report.specs.declared.status.CutsStatus.TheVariants.{OptimumFound as EndsOptimum}
+use Rattle.report.specs.declared.status.CutsStatus.TheVariants.{Unsatisfiable as EndsUnsatisfiable}
+use Rattle.report.specs.declared.status.CutsStatus.TheVariants.{Satisfiable as EndsSatisfiable}
+use Rattle.report.specs.declared.status.CutsStatus.TheVariants.{Unknown as EndsUnknown}
 use Rattle.report.specs.declared.status.Status.{Status}
 use Rattle.report.specs.declared.status.Status.TheVariants.{OptimumFound, Unsatisfiable}
 use Rattle.report.specs.declared.status.Status.TheVariants.{Satisfiable, Unknown}
@@ -18,6 +23,12 @@ code_of_status OptimumFound = 30
 code_of_status Unsatisfiable = 20
 code_of_status (Satisfiable work) = 10
 code_of_status (Unknown work) = 0
+
+abbrev pub code_of_cuts : CutsStatus → ℕ
+code_of_cuts EndsOptimum = 30
+code_of_cuts EndsUnsatisfiable = 20
+code_of_cuts EndsSatisfiable = 10
+code_of_cuts EndsUnknown = 0
 
 abbrev pub code_of_verdict : Verdict → ℕ
 code_of_verdict Yes = 0

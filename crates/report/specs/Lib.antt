@@ -8,4 +8,5 @@ pub mod Answering
 pub mod Running
 pub mod Best
 pub mod Seen
+pub mod ByCuts
 pub mod Lower

@@ -37,7 +37,7 @@ pub record IsSeenAs (profile : Profile) (text out out' : Option (List ℕ)) (sta
   pub right : IsRightFound profile problem (costs_shown solutions) found
   pub status_is : status ≡ status_of found
   pub seen : after ≡ with_seen
-      (map (better_of problem) solutions ++ end_of problem found ∷ []) before
+      (map (better_of problem) solutions ++ end_of problem (said_of found) ∷ []) before
   -- what was written is this result
   pub earlier : List ℕ
   pub told : told_in earlier (said_of found) ≡ costs_shown solutions

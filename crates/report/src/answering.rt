@@ -108,7 +108,11 @@ fn deliver_proof<P: Write>(log: &Log, clauses: u64, proof: &mut P) -> Result<(),
 }
 
 /// Writes the words, the digits of the bits and a line feed, and flushes.
-fn deliver_end<O: Write>(words: &[u8], bits: &[bool], out: &mut O) -> Result<(), RunFault>
+pub(crate) fn deliver_end<O: Write>(
+    words: &[u8],
+    bits: &[bool],
+    out: &mut O,
+) -> Result<(), RunFault>
     ensures writes { Writes result (O.contents out.old) (words_text words.now bits.now)
         (O.contents out.new) }
     ensures fault { IfErr result (λ fault. fault ≡ RunFault.Output) }

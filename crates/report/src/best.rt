@@ -5,13 +5,13 @@ ghost use Rattle.cdcl_order.specs.Watch.{with_seen};
 ghost use Rattle.lrat_result.specs.Result.{Satisfiable, Unknown, cost_tokens};
 ghost use Rattle.improve.specs.Improving.{IsSolution};
 ghost use Rattle.report.specs.Answering.{words_text};
-ghost use Rattle.report.specs.Best.{IsFound, IsTrueText, best_text, end_of, said_of};
+ghost use Rattle.report.specs.Best.{IsTrueOf, IsTrueText, best_text, end_of, said_by};
 
 use crate::answering::{spell_optimum, spell_satisfiable, write_end};
+use crate::finding::Finding;
 use crate::told::write_cost;
 use cdcl::watch::Unwatched;
 use cnf::types::Instance;
-use improve::found::Found;
 use improve::watch::Watch;
 use std::io::Write;
 use text::output::WriteFault;
@@ -19,22 +19,22 @@ use text::output::WriteFault;
 /// Looks on while a run goes, and is shown how it ended.
 pub trait RunWatch: Watch {
     /// The search is over with this, and nothing of its end is written yet.
-    fn searched(&mut self, found: &Found)
+    fn searched(&mut self, finding: &Finding<'_>)
         ensures same_seen { Self.seen self.new ≡ Self.seen self.old }
         ensures same_waived { Self.waived self.new ≡ Self.waived self.old };
 
     /// Is shown what was found, once the result and the certificate are written and flushed.
-    fn ended(&mut self, instance: &Instance, found: &Found)
-        requires { IsFound instance.now found.now }
+    fn ended(&mut self, instance: &Instance, finding: &Finding<'_>)
+        requires { IsTrueOf instance.now (said_by finding.now) }
         ensures shown { Self.seen self.new
-            ≡ with_seen (end_of instance.now found.now ∷ []) (Self.seen self.old) }
+            ≡ with_seen (end_of instance.now (said_by finding.now) ∷ []) (Self.seen self.old) }
         ensures same_waived { Self.waived self.new ≡ Self.waived self.old };
 }
 
 impl RunWatch for Unwatched {
-    fn searched(&mut self, _found: &Found) {}
+    fn searched(&mut self, _finding: &Finding<'_>) {}
 
-    fn ended(&mut self, _instance: &Instance, _found: &Found) {}
+    fn ended(&mut self, _instance: &Instance, _finding: &Finding<'_>) {}
 }
 
 /// Writes that nothing is known, and flushes.
@@ -75,24 +75,24 @@ pub fn write_best<W: Write>(
 /// `WriteFault` where the writer failed. It has then a beginning of the text.
 pub fn write_found<W: Write>(
     instance: &Instance,
-    found: &Found,
+    finding: &Finding<'_>,
     writer: &mut W,
 ) -> Result<(), WriteFault>
-    requires { IsFound instance.now found.now }
-    ensures writes { Writes result (W.contents writer.old) (best_text (said_of found.now))
+    requires { IsTrueOf instance.now (said_by finding.now) }
+    ensures writes { Writes result (W.contents writer.old) (best_text (said_by finding.now))
         (W.contents writer.new) }
-    ensures true_text { IsTrueText instance.now (best_text (said_of found.now)) }
+    ensures true_text { IsTrueText instance.now (best_text (said_by finding.now)) }
 {
     instance.limits();
-    match found {
-        Found::Optimum { cost, bits, .. } => {
+    match finding {
+        Finding::Optimum { cost, bits } => {
             write_solution(*cost, spell_optimum(bits), bits, writer)
         }
-        Found::Unsat { .. } => write_words(b"s UNSATISFIABLE", &[], writer),
-        Found::Best { cost, bits, .. } => {
+        Finding::Unsat => write_words(b"s UNSATISFIABLE", &[], writer),
+        Finding::Best { cost, bits } => {
             write_solution(*cost, spell_satisfiable(bits), bits, writer)
         }
-        Found::Nothing { .. } => write_unknown(writer),
+        Finding::Nothing => write_unknown(writer),
     }
 }
 

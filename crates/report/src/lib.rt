@@ -4,7 +4,9 @@
 
 mod answering;
 pub mod best;
+pub mod by_cuts;
 pub mod fault;
+pub mod finding;
 mod heading;
 pub mod lower;
 pub mod options;

@@ -35,12 +35,14 @@ read' is written to standard error.
 --conflicts N limits the effort: each learned clause and each reported solution
 costs one unit. A million units take a minute or more. What is learned stays in
 memory for the certificate, even without --proof: 4 bytes for each literal and
-each hint of a line, which is 0.4 to 2 KB for each conflict. The same N gives
-the same answer on every machine, whatever its speed.
+each hint of a line, which is 0.4 to 2 KB for each conflict. In profile 3 the
+certificate is written at once, and is not in memory. The same N gives the same
+answer on every machine, whatever its speed.
 
 The certificate proves OPTIMUM FOUND or UNSATISFIABLE to anyone who checks it.
 It is written before the 's' line. The other statuses have none. Without
---proof it is dropped.
+--proof it is dropped. In profile 3 it is written during the search: if that
+ends before, the certificate still proves a lower bound (wmax lower).
 
 --profile 5 finds the most optima. check needs the profile that the certificate
 was made in. The environment variable WMAX_PROFILE is the profile of solve,
@@ -223,7 +225,7 @@ How 'cheaper' is encoded. The default is WMAX_PROFILE if set, else 1.
 1: adders add all weights column by column;
 2: as 1, without variables for soft clauses of one literal;
 3: forms and cuts: lower bounds and what follows from them stand in the
-certificate. solve does not write such certificates yet;
+certificate, which is written during the search;
 4: generalized totalizers along a tree that follows the hard clauses;
 5: cores first, by core-guided search, and then as 4. The cores begin
 the certificate. Profile 5 finds the most optima.
@@ -246,8 +248,9 @@ the program and must be above 0. The end may come some seconds later:
 FILE is read and prepared first, and the result is written";
 
 const PROOF_HELP: &str = "\
-Writes the LRAT certificate to PATH at the end of the search. PATH is
-created or emptied before the search. It cannot be FILE or RESULT";
+Writes the LRAT certificate to PATH at the end of the search, or in
+profile 3 during the search. PATH is created or emptied before the
+search. It cannot be FILE or RESULT";
 
 const BEST_HELP: &str = "\
 Keeps the best solution in PATH, as a complete result at every moment.
@@ -263,7 +266,8 @@ Keeps in PATH the best lower bound that cores prove, as a certificate
 for wmax lower that is complete at every moment. PATH is created with
 the first bound. There is no bound if the optimum is 0, or if there is
 no solution. With --lower every profile looks for cores, and looks for
-longer. Only profile 5 ends as soon as a bound meets the cost. If PATH
+longer. Only profile 5 ends as soon as a bound meets the cost. Profile
+3 takes no --lower: wmax lower reads what --proof writes. If PATH
 already has a bound for FILE, only a better one replaces it. An empty
 file is removed. Anything else in PATH is refused, and so is a PATH
 that cannot be written, or that the run uses otherwise. Files are
@@ -292,7 +296,12 @@ as much of it as it has columns";
 const CERTIFICATE_HELP: &str = "\
 With --profile 5: prints the formula that the lines of CERTIFICATE
 after its core lines refute, if they show that nothing costs less than
-COST";
+COST. With --profile 3: prints the formula with all clauses that the
+lines of CERTIFICATE make, where each is right for COST";
+
+const LRAT_HELP: &str = "\
+With --profile 3 and --proof: also writes the additions and deletions
+of CERTIFICATE to OUT, as plain LRAT over the formula that is printed";
 
 const RESULT_HELP: &str = "The result, as a solver printed it: o, s and v lines";
 
@@ -337,6 +346,9 @@ pub const BEST_OPTION: &str = "best";
 
 /// The file that keeps what the cores proved so far.
 pub const LOWER_OPTION: &str = "lower";
+
+/// The file that the plain certificate is written to.
+pub const LRAT_OPTION: &str = "lrat";
 
 /// The result that a search begins with.
 pub const FROM_OPTION: &str = "from";
@@ -539,7 +551,7 @@ const EXPLAIN_PARAMETERS: [Parameter<'static>; 3] = [
 ];
 
 /// What `wmax encode` takes.
-const ENCODE_PARAMETERS: [Parameter<'static>; 4] = [
+const ENCODE_PARAMETERS: [Parameter<'static>; 5] = [
     INSTANCE,
     Parameter {
         id: COST,
@@ -554,6 +566,13 @@ const ENCODE_PARAMETERS: [Parameter<'static>; 4] = [
         values: ValueParser::String,
         default: &[],
         help: CERTIFICATE_HELP,
+    },
+    Parameter {
+        id: LRAT_OPTION,
+        form: ParameterForm::Option("OUT"),
+        values: ValueParser::String,
+        default: &[],
+        help: LRAT_HELP,
     },
     PROFILE,
 ];

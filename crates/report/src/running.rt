@@ -11,6 +11,7 @@ ghost use Rattle.cdcl_order.specs.Budgets.{WaivesAs};
 use crate::answering::write_answer;
 use crate::best::RunWatch;
 use crate::fault::RunFault;
+use crate::finding::Finding;
 use crate::status::Status;
 use crate::told::{Finished, Told};
 use adder::profiles::Profile;
@@ -183,13 +184,13 @@ fn run_on<O: Write, P: Write, K: RunWatch>(
 {
     instance.limits();
     let found = find_best(alloc, instance, start, budget, out, profile, watch)?;
-    watch.searched(&found);
+    watch.searched(&Finding::of(&found));
     if let Err(fault) = write_answer(&found, out, proof) {
         // By a call: that is proved once, and not field by field among all that is borrowed here.
         drop(found);
         return Err(fault);
     }
-    watch.ended(instance, &found);
+    watch.ended(instance, &Finding::of(&found));
     Ok(Status::of(found))
 }
 
@@ -250,7 +251,7 @@ fn search<T: Progress, K: RunWatch>(
 }
 
 /// Whether there is a bit for each variable, and all hard clauses hold.
-fn is_solution(instance: &Instance, bits: &[bool]) -> bool
+pub(crate) fn is_solution(instance: &Instance, bits: &[bool]) -> bool
     ensures { IsTrue result → AreFeasible instance.now bits.now }
 {
     bits.len() == instance.vars() as usize && instance.feasible(bits)

@@ -1,8 +1,11 @@
 //! How a run ends that met no fault.
 ghost use Rattle.std.specs.Prelude.{◌≡◌};
 ghost use Rattle.report.specs.Answering.{status_of};
-ghost use Rattle.report.specs.Codes.{code_of_status};
+ghost use Rattle.report.specs.Best.{said_by};
+ghost use Rattle.report.specs.ByCuts.{status_by};
+ghost use Rattle.report.specs.Codes.{code_of_cuts, code_of_status};
 
+use crate::finding::Finding;
 use improve::found::{Found, Work};
 
 /// What a run found out.
@@ -42,6 +45,46 @@ impl Status {
             Status::Unsatisfiable => 20,
             Status::Satisfiable(_) => 10,
             Status::Unknown(_) => 0,
+        }
+    }
+}
+
+/// What a run by forms and cuts found out.
+#[derive(Clone, Copy, Drop)]
+pub enum CutsStatus {
+    /// The bits that were written are a solution, and none is cheaper.
+    OptimumFound,
+    /// No assignment satisfies the hard clauses.
+    Unsatisfiable,
+    /// The budget is spent. The bits that were written are a solution, and a cheaper one may be
+    /// there.
+    Satisfiable,
+    /// The budget is spent, and no solution was met.
+    Unknown,
+}
+
+impl CutsStatus {
+    /// How a run ends that found this.
+    pub(crate) fn of(finding: &Finding<'_>) -> Self
+        ensures { result ≡ status_by (said_by finding.now) }
+    {
+        match finding {
+            Finding::Optimum { .. } => CutsStatus::OptimumFound,
+            Finding::Unsat => CutsStatus::Unsatisfiable,
+            Finding::Best { .. } => CutsStatus::Satisfiable,
+            Finding::Nothing => CutsStatus::Unknown,
+        }
+    }
+
+    /// The exit status, as `Status::code` has it.
+    pub fn code(&self) -> u8
+        ensures { result ≡ code_of_cuts self.now }
+    {
+        match self {
+            CutsStatus::OptimumFound => 30,
+            CutsStatus::Unsatisfiable => 20,
+            CutsStatus::Satisfiable => 10,
+            CutsStatus::Unknown => 0,
         }
     }
 }

@@ -2,7 +2,7 @@
 use clap::ArgMatches;
 use report::options::{
     BEST_OPTION, CHECK, CONFLICTS_OPTION, COST, ENCODE, EXPLAIN, FILE, FROM_OPTION, LOWER,
-    LOWER_OPTION, PROFILE_OPTION, PROGRESS_OPTION, PROOF, PROOF_OPTION, RESULT, SOLVE,
+    LOWER_OPTION, LRAT_OPTION, PROFILE_OPTION, PROGRESS_OPTION, PROOF, PROOF_OPTION, RESULT, SOLVE,
     TIME_LIMIT_OPTION,
 };
 
@@ -84,8 +84,10 @@ pub struct EncodeRequest<'a> {
     pub text: &'a str,
     /// The bound, below 2^62.
     pub cost: u64,
-    /// The certificate whose core lines are counted.
+    /// The certificate whose core lines are counted, or that is made plain.
     pub proof: Option<&'a str>,
+    /// Where the plain certificate is written.
+    pub lrat: Option<&'a str>,
     /// The name of the profile, where one is named.
     pub profile: Option<&'a str>,
 }
@@ -158,6 +160,7 @@ impl<'a> EncodeRequest<'a> {
             text: matches.get_str(FILE)?,
             cost: matches.get_one::<u64>(COST)?,
             proof: matches.get_str(PROOF_OPTION),
+            lrat: matches.get_str(LRAT_OPTION),
             profile: matches.get_str(PROFILE_OPTION),
         })
     }

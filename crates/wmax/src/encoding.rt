@@ -4,6 +4,7 @@ ghost use Rattle.cnf.specs.declared.limits.TheConstants.{NUMBER_LIMIT};
 
 use crate::arguments::EncodeRequest;
 use crate::faults::{Fault, end_output, open, read_whole, tell_text_fault};
+use crate::plain_encoding::encode_plain;
 use crate::profiles::{Certifying, choose_profile, refuse_profile};
 use adder::profiles::Profile;
 use bound::encoding::{WatchedWriter, write_formula};
@@ -22,11 +23,14 @@ use wmax_onlooker::standard_error::Messages;
 use wmax_onlooker::standard_output::standard_output;
 
 /// What is said of a `--proof` in another profile.
-const NO_CORES: &str = "error: encode takes --proof only with --profile 5";
+const NO_CORES: &str = "error: encode takes --proof only with --profile 3 or 5";
+
+/// What is said of a `--lrat` beside another profile, or no certificate.
+const NO_PLAIN: &str = "error: encode takes --lrat only with --profile 3 and --proof";
 
 /// The formula for 'cost below COST' (in profile 3 that of the relaxed clauses, whatever COST is),
-/// or with `--proof` that of the core lines of the certificate,
-/// which is opened after FILE and before any of it is read.
+/// or with `--proof` that of the core lines of the certificate, or in profile 3 with what its lines
+/// make. It is opened after FILE and before any of it is read.
 pub fn encode<'a, R: Files + AllocGlobal + Print + Env, E: Write>(
     rt: &R,
     messages: &mut Messages<'_, E>,
@@ -38,21 +42,27 @@ pub fn encode<'a, R: Files + AllocGlobal + Print + Env, E: Write>(
     };
     // `clap` lets no greater cost pass; said again, since nothing is known of that here.
     let cost = request.cost.min(MOST_COST);
-    let Some(path) = request.proof else {
-        let mut text = Beginning::new(open(rt, request.text)?);
-        let ended = encode_bound(rt, &mut text, cost, profile);
-        return Ok(tell_ended(messages, ended, request.text, text.first()));
-    };
-    if !matches!(profile, Certifying::Formula(Profile::Five)) {
+    if request.lrat.is_some() && (request.proof.is_none() || !profile.is_cuts()) {
+        let _ = writeln!(messages.below(), "{NO_PLAIN}");
+        return Ok(2);
+    }
+    let is_refuted = matches!(profile, Certifying::Formula(Profile::Five));
+    if request.proof.is_some() && !is_refuted && !profile.is_cuts() {
         let _ = writeln!(messages.below(), "{NO_CORES}");
         return Ok(2);
     }
     let mut text = Beginning::new(open(rt, request.text)?);
-    let proof = Certificate {
-        file: open(rt, path)?,
-        path,
+    let ended = match request.proof {
+        None => encode_bound(rt, &mut text, cost, profile),
+        Some(path) if is_refuted => {
+            let proof = Certificate {
+                file: open(rt, path)?,
+                path,
+            };
+            encode_refuted(rt, messages, &mut text, proof, cost)
+        }
+        Some(path) => encode_plain(rt, messages, request, &mut text, path),
     };
-    let ended = encode_refuted(rt, messages, &mut text, proof, cost);
     Ok(tell_ended(messages, ended, request.text, text.first()))
 }
 

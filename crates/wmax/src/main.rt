@@ -9,6 +9,7 @@ mod explaining;
 mod faults;
 mod inputs;
 mod lower_bounds;
+mod plain_encoding;
 mod profiles;
 mod refusals;
 mod solving;

@@ -24,6 +24,13 @@ pub enum Certifying {
     Cuts,
 }
 
+impl Certifying {
+    /// Whether it is by forms and cuts.
+    pub fn is_cuts(&self) -> bool {
+        matches!(self, Certifying::Cuts)
+    }
+}
+
 /// Why there is no profile.
 #[derive(Clone, Copy, Drop)]
 pub enum NoProfile {

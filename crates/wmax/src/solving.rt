@@ -4,9 +4,9 @@ use crate::faults::{Fault, end_output, open, tell_text_fault};
 use crate::inputs::{Inputs, Source, are_named, prepare};
 use crate::profiles::{Certifying, choose_profile, refuse_profile};
 use crate::refusals::{KeptFileFault, Refused, tell_refused};
-use adder::profiles::Profile;
 use cdcl::budget::Budget;
 use report::best::RunWatch;
+use report::by_cuts::{CutsRun, run_by_cuts};
 use report::fault::RunFault;
 use report::options::MOST_CONFLICTS;
 use report::running::run_from;
@@ -24,8 +24,9 @@ use wmax_onlooker::progress::Meter;
 use wmax_onlooker::standard_error::Messages;
 use wmax_onlooker::standard_output::standard_output;
 
-/// What is said of a profile that no search writes.
-const NO_CUTS: &str = "error: solve does not write certificates of profile 3";
+/// What is said where a lower bound is to be kept beside a certificate that proves it all along.
+const NO_LOWER: &str =
+    "error: --lower is not for profile 3: --proof is enough, and wmax lower reads it";
 
 /// What is said of a time that is none.
 const NO_TIME: &str = "error: --time-limit takes a number of seconds above 0";
@@ -40,20 +41,20 @@ pub fn solve<'a, R: Files + AllocGlobal + Print + Env + Clock, E: Write>(
     messages: &mut Messages<'_, E>,
     request: &SolveRequest<'a>,
 ) -> Result<u8, Fault<'a>> {
-    let profile = match choose_profile(rt, request.profile) {
-        Ok(Certifying::Formula(profile)) => profile,
-        Ok(Certifying::Cuts) => {
-            let _ = writeln!(messages.below(), "{NO_CUTS}");
-            return Ok(2);
-        }
+    let certifying = match choose_profile(rt, request.profile) {
+        Ok(certifying) => certifying,
         Err(why) => return refuse_profile(messages, why),
     };
+    if request.lower.is_some() && certifying.is_cuts() {
+        let _ = writeln!(messages.below(), "{NO_LOWER}");
+        return Ok(2);
+    }
     let Some(limit) = limit_of(request.seconds) else {
         let _ = writeln!(messages.below(), "{NO_TIME}");
         return Ok(2);
     };
     let plan = Plan {
-        profile,
+        certifying,
         deadline: Deadline::start(rt, limit),
     };
     let file = open(rt, request.text)?;
@@ -64,7 +65,7 @@ pub fn solve<'a, R: Files + AllocGlobal + Print + Env + Clock, E: Write>(
 #[derive(Clone, Copy, Drop)]
 struct Plan {
     /// How its certificate shows that nothing is cheaper.
-    profile: Profile,
+    certifying: Certifying,
     /// How long it may take.
     deadline: Deadline,
 }
@@ -114,23 +115,13 @@ fn solve_into<'a, R: Files + AllocGlobal + Print + Clock, E: Write>(
     let Some(path) = request.proof else {
         let [here, _] = read;
         return match start_keepers(rt, request, inputs, [here, here]) {
-            Ok(keepers) => {
-                solve_over(
-                    rt,
-                    messages,
-                    request,
-                    plan,
-                    inputs,
-                    &mut io::sink(),
-                    keepers,
-                )
-            }
+            Ok(keepers) => { solve_over(rt, messages, request, plan, inputs, io::sink(), keepers) }
             Err(refused) => tell_refused(rt, messages, refused),
         };
     };
     match open_outputs(rt, request, path, inputs, read) {
-        Ok(RunOutputs { mut proof, keepers }) => {
-            solve_over(rt, messages, request, plan, inputs, &mut proof, keepers)
+        Ok(RunOutputs { proof, keepers }) => {
+            solve_over(rt, messages, request, plan, inputs, proof, keepers)
         }
         Err(refused) => tell_refused(rt, messages, refused),
     }
@@ -222,31 +213,26 @@ fn start_bounder<'a, R: Files>(
 }
 
 /// Solves, with what is to be written at hand.
-fn solve_over<'a, R: Files + AllocGlobal + Print + Clock, E: Write, P: Write>(
+fn solve_over<'a, R: Files + AllocGlobal + Print + Clock, E: Write, P: Write + Drop>(
     rt: &'a R,
     messages: &mut Messages<'_, E>,
     request: SolveRequest<'_>,
     plan: Plan,
     inputs: &mut Inputs<'_, R::File>,
-    proof: &mut P,
+    proof: P,
     keepers: Keepers<'a, R>,
 ) -> Result<u8, Fault<'a>> {
     // `clap` lets no greater one pass; said again, since nothing is known of that here.
     let mut budget = Budget::new(request.limit.min(MOST_CONFLICTS));
-    let meter = if request.is_told {
-        Meter::start(rt, budget.left(), request.proof.is_some())
-    } else {
-        None
-    };
+    let certifying = plan.certifying;
     let Keepers { keeper, bounder } = keepers;
     let mut onlooker = Onlooker {
         keeper,
         bounder,
-        meter,
+        meter: start_meter(rt, request, certifying, budget.left()),
         alarm: Alarm::new(rt, plan.deadline),
         messages,
     };
-    let profile = plan.profile;
     let bits = inputs.start.take().map(|start| start.bits);
     let Source { file, whole, .. } = &mut inputs.source;
     match whole {
@@ -254,23 +240,46 @@ fn solve_over<'a, R: Files + AllocGlobal + Print + Clock, E: Write, P: Write>(
             rt,
             &mut text.as_slice(),
             bits,
-            profile,
+            certifying,
             &mut budget,
             proof,
             &mut onlooker,
         ),
-        None => search(rt, file, bits, profile, &mut budget, proof, &mut onlooker),
+        None => search(
+            rt,
+            file,
+            bits,
+            certifying,
+            &mut budget,
+            proof,
+            &mut onlooker,
+        ),
     }
 }
 
+/// What tells how far the run is, if it is to be told.
+fn start_meter<'a, R: Clock + Files + AllocGlobal>(
+    rt: &'a R,
+    request: SolveRequest<'_>,
+    certifying: Certifying,
+    limit: u64,
+) -> Option<Meter<'a, R>> {
+    if !request.is_told {
+        return None;
+    }
+    // A certificate of forms and cuts is not written at the end, but all along.
+    let writes_last = request.proof.is_some() && !certifying.is_cuts();
+    Meter::start(rt, limit, writes_last)
+}
+
 /// Solves this text, from these bits if there are any; the exit status.
-fn search<'a, R: AllocGlobal + Print, T: Read, P: Write, K: RunWatch>(
+fn search<'a, R: AllocGlobal + Print, T: Read, P: Write + Drop, K: RunWatch>(
     rt: &R,
     text: &mut T,
     bits: Option<Vec<bool>>,
-    profile: Profile,
+    certifying: Certifying,
     budget: &mut Budget,
-    proof: &mut P,
+    proof: P,
     watch: &mut K,
 ) -> Result<u8, Fault<'a>> {
     let mut out = standard_output(rt);
@@ -281,23 +290,33 @@ fn search<'a, R: AllocGlobal + Print, T: Read, P: Write, K: RunWatch>(
         budget,
         &mut out,
         proof,
-        profile,
+        certifying,
         watch,
     );
     end_output(ended, out.is_closed())
 }
 
 /// Solves this text, with the result on a writer; the exit status.
-fn run<T: Read, O: Write, P: Write, K: RunWatch>(
+fn run<T: Read, O: Write, P: Write + Drop, K: RunWatch>(
     alloc: Global,
     text: &mut T,
     bits: Option<Vec<bool>>,
     budget: &mut Budget,
     out: &mut O,
-    proof: &mut P,
-    profile: Profile,
+    proof: P,
+    certifying: Certifying,
     watch: &mut K,
 ) -> Result<u8, RunFault> {
-    let status = run_from(alloc, text, bits, budget, out, proof, profile, watch)?;
-    Ok(status.code())
+    match certifying {
+        Certifying::Formula(profile) => {
+            let mut proof = proof;
+            let status = run_from(alloc, text, bits, budget, out, &mut proof, profile, watch)?;
+            Ok(status.code())
+        }
+        Certifying::Cuts => {
+            let CutsRun { ended, .. } = run_by_cuts(alloc, text, bits, budget, out, proof, watch);
+            let status = ended?;
+            Ok(status.code())
+        }
+    }
 }

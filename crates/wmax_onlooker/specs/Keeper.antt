@@ -1,7 +1,6 @@
 -- What stands in the file of `--best`, judged by the text of the instance, and what replaces it.
 use Rattle.std.specs.Prelude.{◌≡◌, ℕ, Bool, true, false, List, Option, Some, None, nat_lt, ◌⊎◌}
-use Rattle.improve.specs.declared.found.Found.{Found}
-use Rattle.improve.specs.declared.found.Found.TheVariants.{Optimum, Unsat, Best, Nothing}
+use Rattle.lrat_result.specs.Result.{Said, OptimumFound, Unsatisfiable, Satisfiable, Unknown}
 use Rattle.explain.specs.Judging.{IsReadFault, JudgesTexts}
 use Rattle.explain.specs.declared.explaining.ExplainFault.TheVariants.{Result}
 use Rattle.explain.specs.declared.judging.Judgement.{Judgement}
@@ -26,8 +25,8 @@ abbrev pub IsImproved : Option ℕ → Option ℕ → ℕ → Type 0
 IsImproved old new cost = (new ≡ old) ⊎ ((undercuts cost old ≡ true) × (new ≡ Some cost))
 
 -- whether the end of a search says more than what stands there: a proof, or a cheaper solution
-abbrev pub is_better : Found → Option ℕ → Bool
-is_better (Optimum c bits log clauses cores) least = true
-is_better (Unsat log clauses) least = true
-is_better (Best c bits work) least = undercuts c least
-is_better (Nothing work) least = false
+abbrev pub is_better : Said → Option ℕ → Bool
+is_better (OptimumFound c bits) least = true
+is_better Unsatisfiable least = true
+is_better (Satisfiable c bits) least = undercuts c least
+is_better Unknown least = false

@@ -3,7 +3,7 @@
 //! proved that none is cheaper or that there is none.
 ghost use Rattle.std.specs.Prelude.{◌≡◌, IfOk, IfSome, IsNone, IsSome};
 ghost use Rattle.improve.specs.Improving.{IsSolution};
-ghost use Rattle.report.specs.Best.{IsFound};
+ghost use Rattle.report.specs.Best.{IsTrueOf, said_by};
 ghost use Rattle.wmax_onlooker.specs.Keeper.{IsImproved, IsLeft, is_better, undercuts};
 
 use crate::file_id::FileId;
@@ -12,9 +12,9 @@ use crate::whole_file::{WholeFile, WholePaths};
 use cnf::types::Instance;
 use explain::explaining::ExplainFault;
 use explain::judging::{Judgement, judge};
-use improve::found::Found;
 use report::best::{write_best, write_found, write_unknown};
 use report::fault::RunFault;
+use report::finding::Finding;
 use std::alloc::Global;
 use std::io::Write;
 use std::rt::Files;
@@ -97,13 +97,13 @@ impl<'a, R: Files> Keeper<'a, R> {
     }
 
     /// Whether what was found at the end says more than what stands there.
-    fn is_better(&self, found: &Found) -> bool
-        ensures { result ≡ is_better found.now self.now.cost }
+    fn is_better(&self, finding: &Finding<'_>) -> bool
+        ensures { result ≡ is_better (said_by finding.now) self.now.cost }
     {
-        match found {
-            Found::Optimum { .. } | Found::Unsat { .. } => true,
-            Found::Best { cost, .. } => self.is_cheaper(*cost),
-            Found::Nothing { .. } => false,
+        match finding {
+            Finding::Optimum { .. } | Finding::Unsat => true,
+            Finding::Best { cost, .. } => self.is_cheaper(*cost),
+            Finding::Nothing => false,
         }
     }
 
@@ -137,20 +137,20 @@ impl<'a, R: Files> Keeper<'a, R> {
     pub(crate) fn ended<E: Write>(
         &mut self,
         instance: &Instance,
-        found: &Found,
+        finding: &Finding<'_>,
         messages: &mut Messages<'_, E>,
     )
-        requires { IsFound instance.now found.now }
+        requires { IsTrueOf instance.now (said_by finding.now) }
         ensures cost { self.new.cost ≡ self.old.cost }
     {
-        if !self.is_better(found) {
+        if !self.is_better(finding) {
             return;
         }
         let Some(file) = &mut self.file else {
             return;
         };
         if let Some(mut part) = file.begin(messages) {
-            let written = write_found(instance, found, &mut part);
+            let written = write_found(instance, finding, &mut part);
             file.end(written, messages);
         }
     }

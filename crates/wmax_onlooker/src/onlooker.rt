@@ -8,10 +8,10 @@ use crate::progress::Meter;
 use crate::standard_error::Messages;
 use cdcl::watch::SearchReport;
 use cnf::types::Instance;
-use improve::found::Found;
 use improve::watch::Watch;
 use improve_trials::found::ByCores;
 use report::best::RunWatch;
+use report::finding::Finding;
 use std::io::Write;
 use std::rt::{Clock, Files};
 
@@ -77,17 +77,17 @@ impl<'a, 'm, 'b, R: Files + Clock + AllocGlobal, E: Write> Watch for Onlooker<'a
 }
 
 impl<'a, 'm, 'b, R: Files + Clock + AllocGlobal, E: Write> RunWatch for Onlooker<'a, 'm, 'b, R, E> {
-    fn searched(&mut self, found: &Found) {
+    fn searched(&mut self, finding: &Finding<'_>) {
         if let Some(meter) = &mut self.meter {
-            meter.searched(found, self.messages);
+            meter.searched(finding, self.messages);
         }
         self.messages.give_way();
     }
 
-    fn ended(&mut self, instance: &Instance, found: &Found) {
+    fn ended(&mut self, instance: &Instance, finding: &Finding<'_>) {
         if instance.hard().len() == 0 && instance.soft().is_empty() {
             let _ = writeln!(self.messages.below(), "warning: no clause was read");
         }
-        self.keeper.ended(instance, found, self.messages);
+        self.keeper.ended(instance, finding, self.messages);
     }
 }

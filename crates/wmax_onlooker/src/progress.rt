@@ -2,7 +2,7 @@
 //! end of the search, and that the certificate is being written.
 use crate::standard_error::Messages;
 use cdcl::watch::SearchReport;
-use improve::found::Found;
+use report::finding::Finding;
 use std::alloc::AllocError;
 use std::fs;
 use std::io::Write;
@@ -114,23 +114,27 @@ impl<'a, R: Clock + Files + AllocGlobal> Meter<'a, R> {
 
     /// The search has ended: it tells how far it came, and that the certificate is being written,
     /// if one is.
-    pub(crate) fn searched<E: Write>(&mut self, found: &Found, messages: &mut Messages<'_, E>) {
+    pub(crate) fn searched<E: Write>(
+        &mut self,
+        finding: &Finding<'_>,
+        messages: &mut Messages<'_, E>,
+    ) {
         let Ok(now) = Instant::now(self.rt) else {
             return;
         };
-        self.note_proved(found);
+        self.note_proved(finding);
         self.tell(now, messages);
-        if self.has_proof && matches!(found, Found::Optimum { .. } | Found::Unsat { .. }) {
+        if self.has_proof && matches!(finding, Finding::Optimum { .. } | Finding::Unsat) {
             self.tell_writing(now, messages);
         }
     }
 
     /// Takes note of what the search has proved. A lower bound is told only where there was one
     /// before.
-    fn note_proved(&mut self, found: &Found) {
-        match found {
-            Found::Optimum { cost, .. } if self.lower.is_some() => self.lower = Some(*cost),
-            Found::Unsat { .. } => self.is_refuted = true,
+    fn note_proved(&mut self, finding: &Finding<'_>) {
+        match finding {
+            Finding::Optimum { cost, .. } if self.lower.is_some() => self.lower = Some(*cost),
+            Finding::Unsat => self.is_refuted = true,
             _ => {}
         }
     }

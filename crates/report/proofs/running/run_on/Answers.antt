@@ -1,10 +1,10 @@
 -- The ends of a run, by what was read, searched and written.
-use Rattle.std.proofs.Common.{[], ◌∷◌, ◌∙◌, ap}
+use Rattle.std.proofs.Common.{[], ◌∷◌, ◌∙◌, ap, sym, subst}
 use Rattle.std.proofs.lemmas.Result.{err_from_is_err_and}
 use Rattle.cdcl_order.specs.Watch.{with_seen}
-use Rattle.report.specs.Best.{end_of}
+use Rattle.report.specs.Best.{IsTrueOf, end_of, said_of}
 use Rattle.report.proofs.Ends.{proof_room, ends, answer_leaves, search_leaves}
-use Rattle.report.proofs.SeenAs.{seen_as}
+use Rattle.report.proofs.SeenAs.{seen_as, found_so}
 use Rattle.report.proofs.running.run_on.Goals as goal
 
 pub returns-in_err-found-clause-fault : goal.returns-in_err-found-clause-fault
@@ -46,13 +46,15 @@ returns-clause-ok g c text r =
     ends c.args.profile text c.args.instance.now
     r.0 r.1 c.args.budget.now c.find_best.new.budget
     (held c.args.out.now) (held c.find_best.new.out) (held w.new.out) (certified c.args.proof.now)
-    (certified w.new.proof) f.found f.ensures.searches c.of.result c.of.ensures
+    (certified w.new.proof) f.found f.ensures.searches c.of-3.result c.of-3.ensures
     c.in_default.ensures.ok
 
 pub ended-requires : goal.ended-requires
 ended-requires g c =
     let s = c.in_ok-found.ensures.searches in
-    (c.args.profile, s.tried, s.found)
+    let p = c.args.instance.now in
+    subst (IsTrueOf p) (sym c.of-2.ensures)
+    (found_so c.args.profile p s.tried c.in_ok-found.found s.found)
 
 pub returns-clause-seen : goal.returns-clause-seen
 returns-clause-seen g c text r =
@@ -66,5 +68,7 @@ returns-clause-seen g c text r =
     (certified w.new.proof) (seen c.args.watch.now) (seen c.find_best.new.watch) _ f.found
     f.ensures.shown c.in_default.ensures.ok
     (c.ended.ensures.shown
-    ∙ ap (with_seen (end_of c.args.instance.now f.found ∷ [])) c.searched.ensures.same_seen)
-    c.of.result c.of.ensures
+    ∙ ap (λ z. with_seen (end_of c.args.instance.now z ∷ []) (seen c.searched.new.self))
+    c.of-2.ensures
+    ∙ ap (with_seen (end_of c.args.instance.now (said_of f.found) ∷ [])) c.searched.ensures.same_seen)
+    c.of-3.result c.of-3.ensures

@@ -1,0 +1,136 @@
+// The walks between the turns of the search: from the best solution, one whose soft clauses keep
+// their price, and one whose clauses only become heavier, with weights that last from turn to turn.
+// Each kind finds on some instances what the other does not. It gets a greater part of the turn
+// where it found something, and a smaller one where not.
+//
+// A walk costs no unit of the budget, so all walks together make at most so many visits for each
+// clause that was learned. A visit takes some 13 ns, and the search 20 to 70 microseconds for each
+// clause that it learns on instances of middle size, and up to a millisecond on large ones.
+
+use crate::desk::{Desk, DeskFault};
+use improve_local::kinds::WalkKind;
+
+/// So many visits go with each clause that the other parts of a turn learn,
+const VISITS: u64 = 4000;
+
+/// and one more for so many literals of the instance.
+const LITERALS: u64 = 32;
+
+/// Of these the first priced walk makes so many thousandths,
+const FIRST_PRICED: u64 = 100;
+
+/// and the first growing one so many.
+const FIRST_GROWING: u64 = 200;
+
+/// A part that is doubled stays below this,
+const MOST: u64 = 700;
+
+/// and one that is halved above this.
+const LEAST: u64 = 80;
+
+/// Parts are counted in thousandths.
+const PARTS: u64 = 1000;
+
+/// Up to half of the visits of a turn, a priced walk makes at least so many for each literal of the
+/// instance,
+const LEAST_PRICED: u64 = 40;
+
+/// and a growing one so many.
+const LEAST_GROWING: u64 = 20;
+
+/// A walk makes no more than so many visits for each literal.
+const MOST_EACH: u64 = 1000;
+
+/// All walks may make as many visits as if so many clauses more were learned.
+const BEFORE: u64 = 50;
+
+/// The walks of one kind.
+#[derive(Drop)]
+struct Way {
+    // How they weigh the clauses.
+    kind: WalkKind,
+    // Their part of the visits of a turn, from `LEAST` to `MOST` thousandths.
+    part: u64,
+    // So many visits for each literal of the instance, at least.
+    least: u64,
+}
+
+impl Way {
+    /// How many visits a walk is to make, where the turns learn about so many clauses each.
+    fn visits(&self, size: u64, share: u64) -> u64 {
+        let turn = share.saturating_mul(visits_each(size));
+        let part = (turn / PARTS).saturating_mul(self.part);
+        let least = size.saturating_mul(self.least).min(turn / 2);
+        part.max(least).min(size.saturating_mul(MOST_EACH))
+    }
+
+    /// The part grows where a walk has gained, and shrinks where not.
+    fn judge(&mut self, has_gained: bool) {
+        self.part = if has_gained {
+            self.part.saturating_mul(2).min(MOST)
+        } else {
+            (self.part / 2).max(LEAST)
+        };
+    }
+}
+
+/// The walks so far.
+#[derive(Drop)]
+pub(crate) struct Walks {
+    // Those whose soft clauses keep their price.
+    priced: Way,
+    // Those whose clauses only become heavier.
+    growing: Way,
+    // How many visits all of them made.
+    visits: u64,
+}
+
+impl Walks {
+    /// No walk yet.
+    pub(crate) fn new() -> Self {
+        Walks {
+            priced: Way {
+                kind: WalkKind::Priced,
+                part: FIRST_PRICED,
+                least: LEAST_PRICED,
+            },
+            growing: Way {
+                kind: WalkKind::Growing,
+                part: FIRST_GROWING,
+                least: LEAST_GROWING,
+            },
+            visits: 0,
+        }
+    }
+
+    /// A walk of each kind, as one of the turns that learn about so many clauses each.
+    pub(crate) fn turn<D: Desk>(&mut self, desk: &mut D, share: u64) -> Result<(), DeskFault>
+        ensures follows { (first : D) → D.follows first desk.old → D.follows first desk.new }
+    {
+        walk(desk, &mut self.priced, &mut self.visits, share)?;
+        walk(desk, &mut self.growing, &mut self.visits, share)
+    }
+}
+
+/// How many visits go with a learned clause.
+fn visits_each(size: u64) -> u64 {
+    VISITS.saturating_add(size / LITERALS)
+}
+
+/// A walk of this kind; `made` are the visits of all walks.
+fn walk<D: Desk>(desk: &mut D, way: &mut Way, made: &mut u64, share: u64) -> Result<(), DeskFault>
+    ensures follows { (first : D) → D.follows first desk.old → D.follows first desk.new }
+{
+    let size = desk.size();
+    let clauses = desk.learned().saturating_add(BEFORE);
+    let left = clauses
+        .saturating_mul(visits_each(size))
+        .saturating_sub(*made);
+    let visits = way.visits(size, share).min(left);
+    let walked = desk.walk(way.kind, visits)?;
+    if walked.visits > 0 {
+        *made = made.saturating_add(walked.visits);
+        way.judge(walked.is_cheaper);
+    }
+    Ok(())
+}

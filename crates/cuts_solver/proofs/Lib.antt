@@ -1,0 +1,5 @@
+mod Solutions
+mod Working
+mod Ended
+mod Written
+mod Searching

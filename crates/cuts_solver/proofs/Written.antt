@@ -1,0 +1,124 @@
+-- What a log that works has written.
+use Rattle.std.proofs.Common.{◌≡◌, ℕ, ◌≤◌, Bool, true, false, List, [], ◌++◌, Option, length}
+use Rattle.std.proofs.Common.{refl, sym, ◌∙◌, ap, subst, arith, append-nil}
+use Rattle.std.specs.Io.KnownBytes.{Appends}
+use Rattle.std.proofs.lemmas.List.{take_all}
+use Rattle.std.proofs.lemmas.List.Elements.{All-nil}
+use Rattle.cnf.specs.Clause.{greatest_variable}
+use Rattle.cnf.specs.Instance.{IsInstance}
+use Rattle.cnf.specs.Literal.{Literal}
+use Rattle.text.specs.Writing.{AppendsPart}
+use Rattle.bound.specs.Weighted.{weighted_cnf}
+use Rattle.lrat_log.specs.declared.lines.Name.{Name}
+use Rattle.lrat_log.specs.Log.{Given}
+use Rattle.lrat_log.specs.Steps.{given_of}
+use Rattle.lrat_log.specs.Axioms.{FollowByRup, IsOpenLogOver, StaysOpenLogOver}
+use Rattle.cdcl_search.specs.Running.{is_refuted}
+use Rattle.cuts_log.specs.Books.{IsBook}
+use Rattle.cuts_log.specs.Events.{lines_of, text_of}
+use Rattle.cuts_log.specs.Judging.{LogsEnd, NothingIsCheaper, TextsAreRight}
+use Rattle.cuts_log.specs.Logs.{IsKept, LogState, SameLog, events_of, lines_seen, problem_of}
+use Rattle.cuts_log.specs.Outs.{OutState, Says, fresh}
+use Rattle.cuts_solver.specs.Solving.{IsLeast, IsRightText, IsSolver, SolverState}
+use Rattle.cuts_solver.specs.Solving.{instance_of}
+use Rattle.cuts_solver.proofs.Ended.{still_open}
+
+-- a writer has a beginning of what was put out
+pub begun_part : (origin : Option (List ℕ)) (out : OutState) (text : List ℕ)
+    → Says (fresh origin) text out → AppendsPart origin out.had text
+begun_part origin out text said = by out.failed refl
+  where
+    by : (b : Bool) → out.failed ≡ b → AppendsPart origin out.had text
+    by true e = said.part refl e
+    by false e = let p = (said.whole e).1 in (p.written, (out.held, p.split), p.appended)
+
+-- and all of it, where nothing is held
+pub begun_whole : (origin : Option (List ℕ)) (out : OutState) (text : List ℕ)
+    → Says (fresh origin) text out → out.failed ≡ false → out.held ≡ []
+    → Appends origin out.had text
+begun_whole origin out text said works none =
+    let p = (said.whole works).1 in
+    subst (Appends origin out.had)
+    (sym (p.split ∙ ap (λ z. p.written ++ z) none ∙ append-nil p.written)) p.appended
+
+-- the lines of a log that works are all seen
+all_seen : (l : LogState) → IsBook l.book → (l.book).failed ≡ false
+    → lines_seen l ≡ lines_of (events_of l)
+all_seen l h works =
+    take_all (l.book).lines (lines_of (events_of l)) (omega (arith, h.lines works))
+
+-- what is known of them over the clauses of the formula
+pub record AreProved (l : LogState) : Type 0 where
+  pub open_log : IsOpenLogOver (given_of (weighted_cnf (problem_of l)).clauses)
+      (lines_of (events_of l))
+  pub follows : FollowByRup (given_of (weighted_cnf (problem_of l)).clauses) (l.book).base []
+      (lines_of (events_of l))
+
+pub are_proved : (n : ℕ) (given : Given) (l : LogState) → IsKept l → IsBook l.book
+    → (l.book).failed ≡ false → given ≡ given_of (weighted_cnf (problem_of l)).clauses
+    → StaysOpenLogOver n given (lines_seen l)
+    → FollowByRup given (length (weighted_cnf (problem_of l)).clauses) [] (lines_seen l)
+    → AreProved l
+are_proved n given l kept book works same stays follows =
+    let seen = all_seen l book works in
+    record {
+      open_log =
+          subst (λ g. IsOpenLogOver g (lines_of (events_of l))) same
+          (subst (IsOpenLogOver given) seen
+          (subst (λ g. IsOpenLogOver g (lines_seen l)) (append-nil given)
+          (stays [] (All-nil (λ (g : Name × List Literal). greatest_variable g.1 ≤ n)))));
+      follows =
+          subst (λ g. FollowByRup g (l.book).base [] (lines_of (events_of l))) same
+          (subst (λ b. FollowByRup given b [] (lines_of (events_of l))) (sym kept.base)
+          (subst (FollowByRup given (length (weighted_cnf (problem_of l)).clauses) []) seen
+          follows));
+    }
+
+-- the log has ended just where the empty clause was added
+ended_is : (l : LogState) (refuted : Bool) → IsKept l → IsBook l.book → (l.book).failed ≡ false
+    → AreProved l → is_refuted (lines_seen l) ≡ refuted → LogsEnd → (l.standing).ended ≡ refuted
+ended_is l refuted kept book works proved is ends = by refuted refl
+  where
+    is_in : is_refuted (lines_of (events_of l)) ≡ refuted
+    is_in = sym (ap is_refuted (all_seen l book works)) ∙ is
+
+    by : (b : Bool) → refuted ≡ b → (l.standing).ended ≡ refuted
+    by true e = ends l kept book works (proved.open_log).stops (is_in ∙ e) ∙ sym e
+    by false e = still_open l kept works (is_in ∙ e) ∙ sym e
+
+-- the text of such a log is right
+pub right_text : (s : SolverState) (l : LogState) → IsSolver s → s.failed ≡ false → IsKept l
+    → IsBook l.book → (l.book).failed ≡ false → SameLog s.log l
+    → lines_seen l ≡ lines_seen s.log → LogsEnd → TextsAreRight
+    → IsRightText (instance_of s) (s.log).cost s.refuted (text_of (l.book).base (events_of l))
+right_text s l h on kept book works same lines ends texts =
+    let w = h.working on in
+    let n = length ((s.input).frozen).items in
+    let given = (s.input).given in
+    let proved =
+    are_proved n given l kept book works
+    (h.given ∙ ap (λ q. given_of (weighted_cnf q).clauses) (sym same.problem))
+    (subst (StaysOpenLogOver n given) (sym lines) w.lines)
+    (subst (λ q. FollowByRup given (length (weighted_cnf q).clauses) [] (lines_seen l))
+    (sym same.problem)
+    (subst (FollowByRup given (length (weighted_cnf (instance_of s)).clauses) []) (sym lines)
+    w.follows)) in
+    let t = texts l l.cost kept book works (omega arith) proved.open_log proved.follows in
+    let ended =
+    ended_is l s.refuted kept book works proved (ap is_refuted lines ∙ w.refuted_is) ends in
+    let text = text_of (l.book).base (events_of l) in
+    subst (λ q. IsRightText q (s.log).cost s.refuted text) same.problem
+    (subst (λ k. IsRightText (problem_of l) k s.refuted text) same.cost
+    (t.0, t.1, t.2 ∙ ended))
+
+-- where the log has ended, nothing costs less
+pub nothing_less : (n : ℕ) (given : Given) (l : LogState) → IsKept l → IsBook l.book
+    → (l.book).failed ≡ false → given ≡ given_of (weighted_cnf (problem_of l)).clauses
+    → StaysOpenLogOver n given (lines_seen l)
+    → FollowByRup given (length (weighted_cnf (problem_of l)).clauses) [] (lines_seen l)
+    → is_refuted (lines_seen l) ≡ true → IsInstance (problem_of l) → LogsEnd → NothingIsCheaper
+    → IsLeast l
+nothing_less n given l kept book works same stays follows refuted fine ends cheaper =
+    let proved = are_proved n given l kept book works same stays follows in
+    cheaper l kept book works proved.open_log proved.follows
+    (ended_is l true kept book works proved refuted ends) fine

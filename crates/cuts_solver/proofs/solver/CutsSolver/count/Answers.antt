@@ -1,0 +1,35 @@
+use Rattle.std.proofs.Common.{◌≡◌, false, map, refl, rules, subst}
+use Rattle.lrat_log.specs.Log.{axiom_line}
+use Rattle.cuts_log.specs.Logs.{Brings}
+use Rattle.cuts_solver.specs.Solving.{SolverState}
+use Rattle.cuts_solver.proofs.Working.{brings_solver}
+use Rattle.cuts_solver.proofs.solver.CutsSolver.count.Goals as goal
+
+pub invariant_of-self-2 : goal.invariant_of-self-2
+invariant_of-self-2 g c =
+    let old : SolverState = record {
+      search = c.self.inside.search;
+      input = c.self.inside.input;
+      log = c.self.inside.log;
+      refuted = c.self.inside.refuted;
+      failed = c.self.inside.failed;
+    } in
+    let new : SolverState = record {
+      search = c.give_made.new.search;
+      input = c.self.inside.input;
+      log = c.count.new.self;
+      refuted = c.self.inside.refuted;
+      failed = false;
+    } in
+    let works : c.self.inside.failed ≡ false = search rules in
+    let going : c.self.inside.refuted ≡ false = search rules in
+    let e = c.in_ok-is_taken.ensures in
+    brings_solver old new c.count.new.made c.self.invariant works e.same
+    (e.taken c.if-not-is_taken.false) refl refl going c.in_ok-give_made.ensures
+
+pub returns-clause-taken : goal.returns-clause-taken
+returns-clause-taken g c = λ _. (
+  c.count.new.made,
+  subst (λ s. Brings (map axiom_line c.count.new.made) s.log c.count.new.self) c.self.view_is
+      (c.in_ok-is_taken.ensures.taken c.if-not-is_taken.false),
+)

@@ -1,0 +1,13 @@
+use Rattle.cuts_solver.proofs.Working.{same_log}
+use Rattle.cuts_solver.proofs.solver.find_core_in.Goals as goal
+
+pub returns-in_err-found-clause-same : goal.returns-in_err-found-clause-same
+returns-in_err-found-clause-same g c =
+    c.find_core.ensures.follows c.args.log.now (same_log c.args.log.now)
+
+pub returns-then-has_failed-clause-same : goal.returns-then-has_failed-clause-same
+returns-then-has_failed-clause-same g c =
+    c.find_core.ensures.follows c.args.log.now (same_log c.args.log.now)
+
+pub returns-clause-same : goal.returns-clause-same
+returns-clause-same g c = c.find_core.ensures.follows c.args.log.now (same_log c.args.log.now)

@@ -1,0 +1,128 @@
+-- The state of a solver that works on a log of forms and cuts, and what its calls leave.
+use Rattle.std.specs.Prelude.{◌≡◌, ℕ, ◌<◌, ◌≤◌, Bool, true, false, List, [], length, Option}
+use Rattle.std.specs.Prelude.{Some, Ok}
+use Rattle.cnf.specs.Literal.{Literal, Assignment}
+use Rattle.cnf.specs.Bits.{Extends}
+use Rattle.cnf.specs.Problem.{Problem, IsFeasible, cost_under}
+use Rattle.text.specs.Writing.{AppendsPart}
+use Rattle.std.specs.Io.KnownBytes.{Appends}
+use Rattle.cdcl_order.specs.Budgets.{BudgetState, left_of}
+use Rattle.cdcl_search.specs.declared.input.Input.{Input}
+use Rattle.cdcl_search.specs.declared.search.Search.{Search}
+use Rattle.cdcl_search.specs.Cores.{IsShown}
+use Rattle.cdcl_search.specs.Running.{IsInput, Runs, is_refuted}
+use Rattle.bound.specs.Weighted.{weighted_cnf}
+use Rattle.cnf.specs.Instance.{IsInstance}
+use Rattle.lrat_log.specs.Axioms.{FollowByRup, StaysOpenLogOver}
+use Rattle.lrat_log.specs.Steps.{given_of}
+use Rattle.lrat_cuts.specs.Cuts.{CutsState}
+use Rattle.lrat_cuts.specs.Verdict.{judged_text}
+use Rattle.cuts_log.specs.Logs.{LogState, SameLog, problem_of, lines_seen}
+use Rattle.cdcl.specs.Guiding.{IsStopped, PaysOpen}
+use Rattle.cdcl.specs.Turns.{IsSatisfied}
+use Rattle.cdcl.specs.declared.guided.GuidedEnd.{GuidedEnd}
+use Rattle.cdcl.specs.declared.guided.GuidedEnd.TheVariants.{Satisfied as HasModel}
+use Rattle.cdcl.specs.declared.guided.GuidedEnd.TheVariants.{Refuted as HasNone}
+use Rattle.cdcl.specs.declared.guided.GuidedEnd.TheVariants.{Stopped as HasStopped}
+use Rattle.cdcl.specs.declared.guided.GuidedEnd.TheVariants.{Spent as HasSpent}
+use Rattle.cuts_solver.specs.declared.solver.SolverEnd.{SolverEnd}
+use Rattle.cuts_solver.specs.declared.solver.SolverEnd.TheVariants.{Satisfied, Refuted, Stopped}
+use Rattle.cuts_solver.specs.declared.solver.SolverEnd.TheVariants.{Spent}
+use Rattle.cuts_solver.specs.declared.solver.Assumed.{Assumed}
+use Rattle.cuts_solver.specs.declared.solver.Assumed.TheVariants.{Satisfied as MetSolution}
+use Rattle.cuts_solver.specs.declared.solver.Assumed.TheVariants.{Refuted as WasRefuted}
+use Rattle.cuts_solver.specs.declared.solver.Assumed.TheVariants.{Core, Stopped as WasStopped}
+use Rattle.cuts_solver.specs.declared.solver.Assumed.TheVariants.{Spent as WasSpent}
+
+pub record SolverState : Type 0 where
+  pub search : Search
+  -- the clauses of the formula
+  pub input : Input
+  pub log : LogState
+  -- the empty clause was added
+  pub refuted : Bool
+  -- memory was refused, or a write has failed: no call is answered any more
+  pub failed : Bool
+
+abbrev pub instance_of : SolverState → Problem
+instance_of s = problem_of s.log
+
+-- how many clauses the formula has
+abbrev pub base_of : SolverState → ℕ
+base_of s = length (weighted_cnf (instance_of s)).clauses
+
+-- no solution costs less than that for which cuts hold
+abbrev pub IsLeast : LogState → Type 0
+IsLeast l = (u : Assignment) → IsFeasible (problem_of l) u → l.cost ≤ cost_under (problem_of l) u
+
+-- while it works: the lines so far are those of an open log, whose additions follow by their hints
+-- alone, and the search goes on with them, unless they end in the empty clause
+pub record IsWorking (s : SolverState) : Type 0 where
+  pub works : ((s.log).book).failed ≡ false
+  pub lines : StaysOpenLogOver (length ((s.input).frozen).items) (s.input).given (lines_seen s.log)
+  pub follows : FollowByRup (s.input).given (base_of s) [] (lines_seen s.log)
+  pub refuted_is : is_refuted (lines_seen s.log) ≡ s.refuted
+  pub runs : s.refuted ≡ false → Runs s.search s.input (lines_seen s.log)
+
+-- what holds of each solver
+pub record IsSolver (s : SolverState) : Type 0 where
+  pub instance : IsInstance (instance_of s)
+  pub input : IsInput s.input
+  pub given : (s.input).given ≡ given_of (weighted_cnf (instance_of s)).clauses
+  pub variables : length ((s.input).frozen).items ≡ (weighted_cnf (instance_of s)).variables
+  pub least : s.refuted ≡ true → IsLeast s.log
+  pub working : s.failed ≡ false → IsWorking s
+
+-- the instance is the same, the writer began with the same bytes, and cuts hold for the same cost
+abbrev pub SameSolver : SolverState → SolverState → Type 0
+SameSolver old new = SameLog old.log new.log
+
+-- while it works, a search over its log has ended so
+abbrev pub HasEnded : SolverState → BudgetState → GuidedEnd → Type 0
+HasEnded s b HasModel = (s.refuted ≡ false) × IsSatisfied s.search s.input (lines_seen s.log) b
+HasEnded s b HasNone = s.refuted ≡ true
+HasEnded s b HasStopped = (s.refuted ≡ false) × IsStopped s.search s.input (lines_seen s.log) b
+HasEnded s b HasSpent = left_of b ≡ 0
+
+-- the bits begin with a solution
+abbrev pub IsSolverEnd : SolverState → BudgetState → SolverEnd → Type 0
+IsSolverEnd s b (Satisfied bits) =
+    (((instance_of s).variables ≤ length bits.items)
+    × ((t : Assignment) → Extends bits.items t → IsFeasible (instance_of s) t))
+    × (0 < left_of b)
+IsSolverEnd s b Refuted = s.refuted ≡ true
+IsSolverEnd s b Stopped = Unit {0}
+IsSolverEnd s b Spent = left_of b ≡ 0
+
+-- so does a search under assumptions. Those of a core cannot hold together, as a live clause says
+abbrev pub IsAssumed : SolverState → List Literal → BudgetState → Assumed → Type 0
+IsAssumed s assumptions b (MetSolution bits) =
+    (((instance_of s).variables ≤ length bits.items)
+    × ((t : Assignment) → Extends bits.items t → IsFeasible (instance_of s) t))
+    × (0 < left_of b)
+IsAssumed s assumptions b WasRefuted = s.refuted ≡ true
+IsAssumed s assumptions b (Core core) =
+    IsShown ((s.search).store).slots assumptions core.items
+IsAssumed s assumptions b WasStopped = Unit {0}
+IsAssumed s assumptions b WasSpent = left_of b ≡ 0
+
+-- a unit of the budget was paid for each line that was learned or cut; beside that effort was only
+-- waived
+abbrev pub PaysLines : SolverState → SolverState → BudgetState → BudgetState → Type 0
+PaysLines old new had left =
+    PaysOpen (new.input).given (lines_seen old.log) (lines_seen new.log) had left
+
+-- the lines of a text are right where cuts have to hold for a cost; it ends in the empty clause, or
+-- not
+abbrev pub IsRightText : Problem → ℕ → Bool → List ℕ → Type 0
+IsRightText p cost ended text =
+    (t : CutsState) × (judged_text (Some cost) p text ≡ Ok t) × (t.ended ≡ ended)
+
+-- the writer has all lines, which are right
+abbrev pub HasWritten : SolverState → Option (List ℕ) → Type 0
+HasWritten s now = (text : List ℕ) × Appends (((s.log).book).seen).origin now text
+    × IsRightText (instance_of s) (s.log).cost s.refuted text
+
+-- or a beginning of some text
+abbrev pub HasBegunToWrite : SolverState → Option (List ℕ) → Type 0
+HasBegunToWrite s now = (text : List ℕ) × AppendsPart (((s.log).book).seen).origin now text

@@ -1,0 +1,2 @@
+mod Comes
+mod Ends

@@ -1,0 +1,3 @@
+pub mod ByCuts
+pub mod Sessions
+pub mod Vectors

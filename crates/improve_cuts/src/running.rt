@@ -1,0 +1,124 @@
+// The course of a search: its beginning, its rounds and its end.
+ghost use Rattle.std.specs.Prelude.{◌≡◌, ◌⊎◌, true, false, None, IfOk, IfErr, IfSome, OnOk};
+ghost use Rattle.cdcl_order.specs.Budgets.{WaivesAs, left_of};
+ghost use Rattle.improve.specs.Standing.{AreFeasible};
+ghost use Rattle.improve.specs.Watch.{AreShown};
+ghost use Rattle.improve_cuts.specs.ByCuts.{BeginsOn, SameOrigin, FindsByCuts};
+ghost use Rattle.improve_cuts.specs.Sessions.{EndsWithout, IsFaultOf, found_by};
+
+use crate::session::Session;
+use bound::weighted::weights;
+use cuts_policy::desk::{Desk, DeskFault};
+use cuts_policy::rounds::search;
+use improve::found::ImproveFault;
+use improve::progress::Progress;
+use improve::watch::Watch;
+use std::alloc::AllocError;
+use std::io::Write;
+
+impl<'i, 's, 'b, 'p, 'k, 'm, 'w, W: Write + Drop, T: Progress, K: Watch> Session<
+    'i,
+    's,
+    'b,
+    'p,
+    'k,
+    'm,
+    'w,
+    W,
+    T,
+    K,
+> {
+    /// Runs the search, which begins with the solution that these bits begin with, if there are
+    /// any. Whether it is proved that nothing is cheaper than the best solution; else the budget is
+    /// spent.
+    ///
+    /// # Errors
+    ///
+    /// `Memory` where memory was refused or a write of the log has failed, `Progress` where a cost
+    /// could not be told.
+    pub fn run(&mut self, start: Option<Vec<bool>>) -> Result<bool, ImproveFault>
+        requires works { (self.old.fault ≡ None) × (self.old.best.now ≡ None) }
+        requires begun { BeginsOn self.old.instance.now self.old.solver.now }
+        requires solution { IfSome start (λ bits. AreFeasible self.old.instance.now bits.items) }
+        ensures names { (self.new.solver.ghost_name ≡ self.old.solver.ghost_name)
+            × (self.new.budget.ghost_name ≡ self.old.budget.ghost_name)
+            × (self.new.progress.ghost_name ≡ self.old.progress.ghost_name)
+            × (self.new.watch.ghost_name ≡ self.old.watch.ghost_name)
+            × (self.new.best.ghost_name ≡ self.old.best.ghost_name) }
+        ensures follows { (first : T) → T.follows first self.old.progress.now
+            → T.follows first self.new.progress.now }
+        ensures shown { AreShown self.old.instance.now
+            (T.state self.old.progress.now) (T.state self.new.progress.now)
+            (K.seen self.old.watch.now) (K.seen self.new.watch.now) }
+        ensures waives { WaivesAs self.old.budget.now self.new.budget.now
+            (K.waived self.old.watch.now) (K.waived self.new.watch.now) }
+        ensures origin { SameOrigin self.old.solver.now self.new.solver.now }
+        ensures finds { FindsByCuts self.old.instance.now (found_by result self.new.best.now)
+            self.new.solver.now (T.state self.old.progress.now) (T.state self.new.progress.now)
+            self.old.budget.now self.new.budget.now }
+    {
+        self.begin(start);
+        let ended = self.search_rounds();
+        self.end(ended)
+    }
+
+    /// Takes the solution that the search begins with, where something is left of the budget.
+    fn begin(&mut self, start: Option<Vec<bool>>)
+        requires works { self.old.fault ≡ None }
+        requires solution { IfSome start (λ bits. AreFeasible self.old.instance.now bits.items) }
+        ensures follows { (first : _)
+            → ⟦<Session<'i, 's, 'b, 'p, 'k, 'm, 'w, W, T, K> as Desk>⟧.follows first self.old
+            → ⟦<Session<'i, 's, 'b, 'p, 'k, 'm, 'w, W, T, K> as Desk>⟧.follows first self.new }
+    {
+        if self.budget.left() == 0 {
+            return;
+        }
+        if let Some(bits) = start {
+            // A fault of it stands in the session.
+            let _ = self.meet(bits);
+        }
+    }
+
+    /// Searches until nothing is cheaper, or the budget is spent.
+    fn search_rounds(&mut self) -> Result<(), DeskFault>
+        ensures ended { OnOk result ((self.new.solver.now.refuted ≡ true)
+            ⊎ (left_of self.new.budget.now ≡ 0)) }
+        ensures follows { (first : _)
+            → ⟦<Session<'i, 's, 'b, 'p, 'k, 'm, 'w, W, T, K> as Desk>⟧.follows first self.old
+            → ⟦<Session<'i, 's, 'b, 'p, 'k, 'm, 'w, W, T, K> as Desk>⟧.follows first self.new }
+    {
+        match weights(self.instance) {
+            Ok(weights) => search(self, &weights),
+            Err(AllocError) => Err(DeskFault::Memory),
+        }
+    }
+
+    /// How the search ends, by what its rounds have answered.
+    fn end(&self, ended: Result<(), DeskFault>) -> Result<bool, ImproveFault>
+        requires { OnOk ended ((self.now.solver.now.refuted ≡ true)
+            ⊎ (left_of self.now.budget.now ≡ 0)) }
+        ensures ok { IfOk result (λ is_proved. EndsWithout self.now.instance.now is_proved
+            (record {
+              solver = self.now.solver.now;
+              budget = self.now.budget.now;
+              telling = T.state self.now.progress.now;
+              seen = K.seen self.now.watch.now;
+              waived = K.waived self.now.watch.now;
+              best = self.now.best.now;
+              fault = self.now.fault;
+            })) }
+        ensures err { IfErr result (λ e. IsFaultOf e self.now.fault) }
+    {
+        match self.fault {
+            Some(DeskFault::Progress) => Err(ImproveFault::Progress),
+            Some(DeskFault::Memory) => Err(ImproveFault::Memory),
+            None => {
+                if ended.is_err() {
+                    return Err(ImproveFault::Memory);
+                }
+                self.solver.limits();
+                Ok(self.solver.is_refuted())
+            }
+        }
+    }
+}

@@ -1,0 +1,7 @@
+mod Naming
+mod Texts
+mod Stepping
+mod Cases
+mod Taking
+mod Running
+mod Wholes

@@ -1,0 +1,5 @@
+pub mod Faults
+pub mod Names
+pub mod Plain
+pub mod Steps
+pub mod Runs

@@ -1,0 +1,256 @@
+-- What a run by forms and cuts writes and leaves. Its certificate is written while it searches.
+use Rattle.std.specs.Prelude.{◌≡◌, ◌+◌, ◌<◌, ◌++◌, map}
+use Rattle.std.specs.Prelude.{ℕ, Bool, true, false, List, [], ◌∷◌, length, All}
+use Rattle.std.specs.Prelude.{Option, Some, None, IfSome, Result, Ok, Err, IfOk, OnOk}
+use Rattle.std.specs.Prelude.{if◌then◌else◌}
+use Rattle.std.specs.Io.KnownBytes.{Keeps, Appends}
+use lib.Chars.{codes}
+use Rattle.cnf.specs.Problem.{Problem}
+use Rattle.cnf.specs.declared.limits.TheConstants.{NUMBER_LIMIT}
+use Rattle.text.specs.Writing.{Begins, AppendsPart}
+use Rattle.wcnf.specs.Wcnf.{Reads}
+use Rattle.cdcl_order.specs.Budgets.{BudgetState, left_of}
+use Rattle.cdcl_order.specs.Watch.{Sight, with_seen}
+use Rattle.lrat_machine.specs.declared.verdicts.Verdict.TheVariants.{Yes}
+use Rattle.lrat_cuts.specs.Cuts.{CutsState}
+use Rattle.lrat_cuts.specs.Verdict.{judged_text}
+use Rattle.lrat_result.specs.Result.{Said, FallsTo, Says, OptimumFound, Unsatisfiable}
+use Rattle.lrat_result.specs.Result.{Satisfiable, Unknown}
+use Rattle.lrat_check.specs.Cuts.{verdict_by_cuts}
+use Rattle.cuts_solver.specs.Solving.{SolverState, HasWritten, HasBegunToWrite}
+use Rattle.improve.specs.Improving.{AreFalling, EndsWith, IsCostOfSome, IsSolution}
+use Rattle.improve.specs.Watch.{better_of, costs_shown}
+use Rattle.improve.specs.declared.solutions.Solution.{Solution}
+use Rattle.improve.specs.declared.found.ImproveFault.{ImproveFault}
+use Rattle.improve.specs.declared.found.ImproveFault.TheVariants.{Memory as SearchMemory, Progress}
+use Rattle.improve_cuts.specs.ByCuts.{IsCutsFound}
+use Rattle.improve_cuts.specs.declared.found.CutsFound.{CutsFound}
+use Rattle.report.specs.Told.{cost_lines}
+use Rattle.report.specs.Answering.{bits_word, words_text}
+use Rattle.report.specs.Best.{IsTrueOf, end_of}
+use Rattle.report.specs.Running.{result_text, told_in, AreHonest, NeedsProof, IsTrueLimit}
+use Rattle.report.specs.Running.{LeavesNothing}
+use Rattle.report.specs.declared.status.CutsStatus.{CutsStatus}
+use Rattle.report.specs.declared.status.CutsStatus.TheVariants.{OptimumFound as EndsOptimum}
+use Rattle.report.specs.declared.status.CutsStatus.TheVariants.{Unsatisfiable as EndsUnsatisfiable}
+use Rattle.report.specs.declared.status.CutsStatus.TheVariants.{Satisfiable as EndsSatisfiable}
+use Rattle.report.specs.declared.status.CutsStatus.TheVariants.{Unknown as EndsUnknown}
+use Rattle.report.specs.declared.fault.RunFault.{RunFault}
+use Rattle.report.specs.declared.fault.RunFault.TheVariants.{Read, Memory, Output, ProofOutput}
+
+-- how a run ends whose result says this
+abbrev pub status_by : Said → CutsStatus
+status_by (OptimumFound c bits) = EndsOptimum
+status_by Unsatisfiable = EndsUnsatisfiable
+status_by (Satisfiable c bits) = EndsSatisfiable
+status_by Unknown = EndsUnknown
+
+-- the best solution, and whether nothing is cheaper
+abbrev pub said_with : Option Solution → Bool → Said
+said_with (Some b) true = OptimumFound b.cost b.bits.items
+said_with (Some b) false = Satisfiable b.cost b.bits.items
+said_with None true = Unsatisfiable
+said_with None false = Unknown
+
+abbrev pub said_of_cuts : CutsFound → Said
+said_of_cuts found = said_with found.best found.is_proved
+
+-- the line of the status, and that of the bits
+abbrev pub said_text : Said → List ℕ
+said_text (OptimumFound c bits) = words_text (codes "s OPTIMUM FOUND\n" ++ bits_word bits) bits
+said_text Unsatisfiable = words_text (codes "s UNSATISFIABLE") []
+said_text (Satisfiable c bits) = words_text (codes "s SATISFIABLE\n" ++ bits_word bits) bits
+said_text Unknown = words_text (codes "s UNKNOWN") []
+
+-- the cost for which cuts have to hold, where the result says this
+abbrev pub cost_held : Said → ℕ
+cost_held (OptimumFound c bits) = c
+cost_held Unsatisfiable = NUMBER_LIMIT
+cost_held (Satisfiable c bits) = c
+cost_held Unknown = NUMBER_LIMIT
+
+-- all lines of the certificate are right, and where it is needed the last one adds the empty clause
+pub record IsRightFor (p : Problem) (said : Said) (proved : List ℕ) : Type 0 where
+  pub left : CutsState
+  pub judged : judged_text (Some (cost_held said)) p proved ≡ Ok left
+  pub ended : NeedsProof said → left.ended ≡ true
+
+-- a checker says yes to text, result and certificate
+abbrev pub ChecksByCuts : Option (List ℕ) → List ℕ → List ℕ → Type 0
+ChecksByCuts text written proved =
+    IfSome text (λ bytes. verdict_by_cuts bytes written proved ≡ Yes)
+
+-- a run that ended with a status, and the bytes that it wrote
+pub record IsRunByCuts (text : Option (List ℕ)) (status : CutsStatus) (written proved : List ℕ)
+    (old new : BudgetState) : Type 0 where
+  -- the text reads as this instance
+  pub problem : Problem
+  pub reads : IfSome text (λ bytes. Reads bytes problem)
+  -- what was written is this result, and says this
+  pub before : List ℕ
+  pub said : Said
+  pub spelled : written ≡ result_text before said
+  pub says : Says written said
+  pub status_is : status ≡ status_by said
+  -- it is so, of the costs told too
+  pub honest : AreHonest text (told_in before said)
+  pub true_answer : IsTrueOf problem said
+  -- the certificate is right, and where the result needs it a checker finds it so
+  pub right : IsRightFor problem said proved
+  pub checked : NeedsProof said → ChecksByCuts text written proved
+  -- the effort: where no certificate is needed, it is spent
+  pub spent : (NeedsProof said → ⊥) → left_of new ≡ 0
+  pub answers : new.answers ≡ old.answers + length (told_in before said)
+
+-- what stands after a run that ended so
+pub record EndsByCuts (text out out' proof proof' : Option (List ℕ)) (status : CutsStatus)
+    (old new : BudgetState) : Type 0 where
+  pub written : List ℕ
+  pub proved : List ℕ
+  pub out_grows : Appends out out' written
+  pub proof_grows : Appends proof proof' proved
+  pub run : IsRunByCuts text status written proved old new
+
+-- a beginning of some text
+abbrev pub GrowsByPart : Option (List ℕ) → Option (List ℕ) → Type 0
+GrowsByPart old new = (text : List ℕ) × AppendsPart old new text
+
+-- whole o lines
+pub record LeavesCosts (text out out' : Option (List ℕ)) : Type 0 where
+  pub costs : List ℕ
+  pub out_grows : Appends out out' (cost_lines costs)
+  pub honest : AreHonest text costs
+
+-- the certificate is right for the result, and a checker says yes where that needs it
+pub record IsWholeFor (text : Option (List ℕ)) (said : Said) (written : List ℕ)
+    (proof proof' : Option (List ℕ)) : Type 0 where
+  pub proved : List ℕ
+  pub proof_grows : Appends proof proof' proved
+  pub checked : NeedsProof said → ChecksByCuts text written proved
+
+-- A beginning of a result; past the o lines, the certificate that it needs is whole, or it is true
+-- without one. Its last cost may be one whose line was begun.
+pub record LeavesResultByCuts (text out out' proof proof' : Option (List ℕ))
+    (budget : BudgetState) : Type 0 where
+  pub written : List ℕ
+  pub out_grows : Appends out out' written
+  pub proof_part : GrowsByPart proof proof'
+  pub before : List ℕ
+  pub said : Said
+  pub falls : FallsTo before said
+  pub honest : AreHonest text (told_in before said)
+  pub begins : Begins written (result_text before said)
+  pub proof_is_whole : length (cost_lines (told_in before said)) < length written
+      → IsWholeFor text said (result_text before said) proof proof'
+  pub limit : length (cost_lines (told_in before said)) < length written
+      → IsTrueLimit text said budget
+
+-- what stands after a fault, where the certificate's writer is still at hand
+abbrev pub LeavesByCuts : RunFault → Option (List ℕ) → Option (List ℕ) → Option (List ℕ)
+    → Option (List ℕ) → Option (List ℕ) → BudgetState → Type 0
+LeavesByCuts (Read fault) text out out' proof proof' budget =
+    LeavesNothing text out out' proof proof' fault
+LeavesByCuts Memory text out out' proof proof' budget =
+    LeavesCosts text out out' × GrowsByPart proof proof'
+LeavesByCuts Output text out out' proof proof' budget =
+    LeavesResultByCuts text out out' proof proof' budget
+LeavesByCuts ProofOutput text out out' proof proof' budget =
+    LeavesCosts text out out' × GrowsByPart proof proof'
+
+-- just the solutions were shown whose costs the result tells, each once, in their order, and then
+-- the end once, as the result says it
+pub record IsSeenByCuts (text out out' : Option (List ℕ)) (status : CutsStatus)
+    (before after : Option (List Sight)) : Type 0 where
+  -- the text reads as this instance
+  pub problem : Problem
+  pub reads : IfSome text (λ bytes. Reads bytes problem)
+  pub solutions : List (ℕ × List Bool)
+  pub each : All (λ s. IsSolution problem s.1 s.0) solutions
+  pub said : Said
+  pub status_is : status ≡ status_by said
+  pub true_answer : IsTrueOf problem said
+  pub seen : after ≡ with_seen
+      (map (better_of problem) solutions ++ end_of problem said ∷ []) before
+  -- what was written is this result
+  pub earlier : List ℕ
+  pub told : told_in earlier said ≡ costs_shown solutions
+  pub out_grows : Appends out out' (result_text earlier said)
+
+-- a search that could not tell a cost met this fault; it wants memory, or a write of its
+-- certificate has failed
+abbrev pub memory_fault : Bool → RunFault
+memory_fault has_write_failed = if has_write_failed then ProofOutput else Memory
+
+abbrev pub cuts_outcome : Result CutsFound ImproveFault → RunFault → Bool
+    → Result CutsFound RunFault
+cuts_outcome (Ok found) fault has_write_failed = Ok found
+cuts_outcome (Err SearchMemory) fault has_write_failed = Err (memory_fault has_write_failed)
+cuts_outcome (Err Progress) fault has_write_failed = Err fault
+
+-- what the writer has of a search that ended so, where these costs were tried
+abbrev pub HasTriedLines : Result CutsFound RunFault → List ℕ → Option (List ℕ) → Option (List ℕ)
+    → Type 0
+HasTriedLines (Ok found) tried out out' = Appends out out' (cost_lines tried)
+HasTriedLines (Err Memory) tried out out' = Appends out out' (cost_lines tried)
+HasTriedLines (Err ProofOutput) tried out out' = Appends out out' (cost_lines tried)
+HasTriedLines (Err Output) tried out out' =
+    AppendsPart out out' (cost_lines tried) × ((c : ℕ) × EndsWith tried c)
+HasTriedLines (Err (Read fault)) tried out out' = ⊥
+
+-- what a search found, wrote and spent
+pub record SearchesByCuts (p : Problem) (result : Result CutsFound RunFault) (s : SolverState)
+    (out out' : Option (List ℕ)) (old new : BudgetState) : Type 0 where
+  pub tried : List ℕ
+  pub falling : AreFalling tried
+  pub honest : All (IsCostOfSome p) tried
+  pub small : All (λ c. c < NUMBER_LIMIT) tried
+  pub lines : HasTriedLines result tried out out'
+  pub found : IfOk result (λ found. IsCutsFound p tried found s new)
+  -- the effort
+  pub same_limit : new.limit ≡ old.limit
+  pub answers : OnOk result (new.answers ≡ old.answers + length tried)
+
+-- Before this was found just these solutions were shown, each once, in their order. The writer has
+-- their costs.
+pub record IsShownByCuts (p : Problem) (found : CutsFound) (s : SolverState)
+    (out out' : Option (List ℕ)) (budget : BudgetState) (before after : Option (List Sight))
+    : Type 0 where
+  pub solutions : List (ℕ × List Bool)
+  pub each : All (λ s. IsSolution p s.1 s.0) solutions
+  pub seen : after ≡ with_seen (map (better_of p) solutions) before
+  pub falling : AreFalling (costs_shown solutions)
+  pub small : All (λ c. c < NUMBER_LIMIT) (costs_shown solutions)
+  pub lines : Appends out out' (cost_lines (costs_shown solutions))
+  pub right : IsCutsFound p (costs_shown solutions) found s budget
+
+-- what stands after the end, where the certificate has all its lines or not: it is flushed whole
+-- before the first byte of the end
+abbrev pub LeavesAnswerByCuts : RunFault → Bool → Said → Option (List ℕ) → Option (List ℕ)
+    → Option (List ℕ) → Option (List ℕ) → Type 0
+LeavesAnswerByCuts Output whole said out out' proof proof' =
+    (whole ≡ true) × AppendsPart out out' (said_text said) × Keeps proof proof'
+LeavesAnswerByCuts ProofOutput whole said out out' proof proof' =
+    Keeps out out' × Keeps proof proof'
+LeavesAnswerByCuts Memory whole said out out' proof proof' = ⊥
+LeavesAnswerByCuts (Read fault) whole said out out' proof proof' = ⊥
+
+pub record AnswersByCuts (whole : Bool) (said : Said) (out out' proof proof' : Option (List ℕ))
+    : Type 0 where
+  pub is_whole : whole ≡ true
+  pub out_grows : Appends out out' (said_text said)
+  pub proof_kept : Keeps proof proof'
+
+-- the end was written, after all lines of the solver
+pub record EndsSearch (s : SolverState) (said : Said) (out out' proof' : Option (List ℕ))
+    : Type 0 where
+  pub out_grows : Appends out out' (said_text said)
+  pub certificate : HasWritten s proof'
+
+-- a beginning of the end, after all lines of the solver; or nothing of it
+abbrev pub LeavesSearch : RunFault → SolverState → Said → Option (List ℕ) → Option (List ℕ)
+    → Option (List ℕ) → Type 0
+LeavesSearch Output s said out out' proof' =
+    AppendsPart out out' (said_text said) × HasWritten s proof'
+LeavesSearch ProofOutput s said out out' proof' = Keeps out out' × HasBegunToWrite s proof'
+LeavesSearch Memory s said out out' proof' = ⊥
+LeavesSearch (Read fault) s said out out' proof' = ⊥

@@ -1,0 +1,145 @@
+#!/usr/bin/env bash
+# `wmax solve --profile 3`: the optimum of profile 1, with a certificate of forms and cuts, which is written while it searches.
+source "$(dirname "$0")/../lib"
+
+# lower: the lower bound that the certificate proves by itself
+lower() {
+    call lower text proof
+    sed -n 's/^at least //p' <<< "$out"
+}
+
+# solved NAME STATUS RESULT WORD..: what solving the text prints, of the `o` lines the last one; the certificate checks
+solved() {
+    local name=$1 wanted=$2 result=$3
+    shift 3
+    rm -f "$work/proof"
+    call solve --profile 3 --proof proof "$@" text
+    printf '%s\n' "$out" > "$work/result"
+    out=$(grep '^o ' <<< "$out" | tail -n 1; grep -v '^o ' <<< "$out")
+    expect "$name" "$wanted" "$result" "$told"
+    case $wanted in
+        20 | 30)
+            call check --profile 3 text result proof
+            expect "$name: certificate" 0 YES ''
+            call check --profile any text result proof
+            expect "$name: certificate in any profile" 0 YES ''
+            ;;
+        *)
+            call lower text proof
+            ok "$name: a beginning of a certificate: $out $err" [ "$status" = 0 -a "${out% *}" = 'at least' ]
+            ;;
+    esac
+}
+
+told='warning: no clause was read'
+: > "$work/text"
+solved 'an empty text' 30 $'o 0\ns OPTIMUM FOUND\nv'
+printf 'c h 1 0\n\n' > "$work/text"
+solved 'comments alone' 30 $'o 0\ns OPTIMUM FOUND\nv'
+told=
+lines text 'h 0'
+solved 'an empty hard clause, without effort' 20 's UNSATISFIABLE' --conflicts 0
+lines text '5 0'
+solved 'an empty soft clause' 30 $'o 5\ns OPTIMUM FOUND\nv'
+lines text 'h 1 2 0' '3 -1 0' '4 -2 0'
+solved 'one of two' 30 $'o 3\ns OPTIMUM FOUND\nv 10'
+lines text '4611686018427387903 1 0'
+solved 'the greatest weight' 30 $'o 0\ns OPTIMUM FOUND\nv 1'
+lines text 'h 1 -1 0' '2 1 1 0' '3 -1 0'
+solved 'a clause with complementary literals, and a repeat' 30 $'o 2\ns OPTIMUM FOUND\nv 0'
+printf 'c x\r\n\r\nh -1 0\r\n7 1 0' > "$work/text"
+solved 'CR LF, and a last line without LF' 30 $'o 7\ns OPTIMUM FOUND\nv 0'
+lines text 'p wcnf 2 3 10' '10 1 2 0' '3 -1 0' '4 -2 0'
+solved 'the older form' 30 $'o 3\ns OPTIMUM FOUND\nv 10'
+lines text 'h 1 2 0' 'h -1 2 0' 'h 1 -2 0' 'h -1 -2 0'
+solved 'four clauses that no assignment satisfies' 20 's UNSATISFIABLE'
+lines text 'h 1 2 0'
+solved 'no effort' 0 's UNKNOWN' --conflicts 0
+lines text 'h 1 0'
+solved 'one solution' 30 $'o 0\ns OPTIMUM FOUND\nv 1'
+
+# From a solution, which stands in the first `o` line if the search finds none around it.
+lines text 'h 1 2 0' '3 -1 0' '4 -2 0'
+lines from 'o 3' 's SATISFIABLE' 'v 10'
+solved 'from an optimum' 30 $'o 3\ns OPTIMUM FOUND\nv 10' --from from
+lines from 'o 2' 's SATISFIABLE' 'v 10'
+call solve --profile 3 --from from text
+expect 'from a wrong result' 1 'NO CostWrong 1' ''
+
+# The optimum of profile 1, with less effort a solution and a lower bound, and what is kept.
+for path in examples/{roster,bothsigns,packages,timetable,vcover}.wcnf tests/program/cores/package_choice_60_1.wcnf; do
+    name=$(basename "$path" .wcnf)
+    cp "$path" "$work/text"
+    optimum=$(sed -n 's/^o //p' "${path%.wcnf}.result" | tail -n 1)
+    call solve --profile 3 --conflicts 200000 --proof proof --best best text
+    printf '%s\n' "$out" > "$work/result"
+    ok "$name: $status $err" [ "$status" = 30 -a -z "$err" ]
+    ok "$name: the optimum $optimum" [ "$(grep '^o ' "$work/result" | tail -n 1)" = "o $optimum" ]
+    call check --profile 3 text result proof
+    expect "$name: certificate" 0 YES ''
+    ok "$name: the lower bound" [ "$(lower)" = "$optimum" ]
+    ok "$name: what is kept" [ "$(grep -v '^o ' "$work/best")" = "$(grep -v '^o ' "$work/result")" ]
+    rm "$work/best"
+    call solve --profile 3 --conflicts 3 --proof proof text
+    ok "$name, little effort: $status $err" [ "$status" = 10 -o "$status" = 30 ]
+    bound=$(lower)
+    ok "$name, little effort: the lower bound $bound" [ -n "$bound" -a "${bound:-0}" -le "$optimum" ]
+done
+
+# A search that does not end: what is found is right, and so is each beginning of its certificate.
+awk -v family=set_cover -v size=120 -v seed=1 -f bench/maxsat.awk > "$work/text"
+call solve --profile 3 --time-limit 1 --proof proof --best best text
+printf '%s\n' "$out" > "$work/result"
+ok 'the time runs out' [ "$status$err" = 10 ]
+call explain text result
+ok 'the time runs out: v is right' [ "$status" = 0 ]
+bound=$(lower)
+ok 'the time runs out: a lower bound' [ -n "$bound" ]
+call explain text result proof
+ok 'the time runs out: why' [ "$status" = 0 ]
+head -c $(($(wc -c < "$work/proof") / 2)) "$work/proof" > "$work/half"
+call lower text half
+ok "half of the certificate: $out" [ "$status" = 0 -a "${out#at least }" -le "$bound" ]
+call solve --profile 3 --time-limit 1 --proof proof --best best --progress text
+ok 'it goes on' [ "$status" = 10 -a "$(grep '^o ' <<< "$out" | head -n 1 | cut -c 3-)" -le "$(sed -n 's/^o //p' "$work/result" | tail -n 1)" ]
+ok 'it tells how far it is' grep -q ' s, cost ' "$work/.err"
+ok 'it does not write the certificate last' [ "$(grep -c 'writing the certificate' "$work/.err")" = 0 ]
+
+# Where the certificate cannot be written there is no `s` line.
+lines text 'h 1 2 0' '3 -1 0' '4 -2 0'
+mkdir "$work/folder"
+for path in folder folder/none/proof text; do
+    call solve --profile 3 --proof $path text
+    expect "a certificate that cannot be written, $path" 3 '' 'error: ProofOutput'
+done
+if [ -c /dev/full ]; then
+    call solve --profile 3 --proof /dev/full text
+    ok "a full certificate: $status $err" [ "$status $err" = '3 error: ProofOutput' -a -z "$(grep -v '^o ' <<< "$out")" ]
+    err=$(cd "$work" && "$wmax" solve --profile 3 --proof proof text 2>&1 > /dev/full)
+    ok "a full output: $err" [ "$err" = 'error: Output' ]
+fi
+
+# No file is kept for a lower bound.
+lines proof before
+call solve --profile 3 --proof proof --best other --lower bound text
+expect 'a lower bound' 2 '' 'error: --lower is not for profile 3: --proof is enough, and wmax lower reads it'
+ok 'a lower bound: nothing was written' [ "$(cat "$work/proof")" = before -a ! -e "$work/other" -a ! -e "$work/bound" ]
+
+# Random instances, against all assignments.
+awk -v dir="$work" -v count=100 -f tests/program/random.awk > "$work/wanted"
+wrong=0
+while read -r number cost; do
+    call solve --profile 3 --proof proof "$number.wcnf"
+    printf '%s\n' "$out" > "$work/result"
+    case $cost in
+        none) got=$([ "$status $out" = '20 s UNSATISFIABLE' ] && echo none) ;;
+        *) got=$([ "$status" = 30 ] && sed -n 's/^o //p' "$work/result" | tail -n 1) ;;
+    esac
+    call check --profile 3 "$number.wcnf" result proof
+    [ "$got $out$err" = "$cost YES" ] && continue
+    wrong=$((wrong + 1))
+    echo "$number.wcnf: wanted $cost, got $got, $out $err"
+done < "$work/wanted"
+ok 'random instances' [ $wrong = 0 ]
+
+totals
