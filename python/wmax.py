@@ -542,7 +542,8 @@ class Instance:
                     are removed, also where an exception ends this, or, in the main thread, SIGTERM.
         resume      whether to go on from the solution and the lower bound that an earlier call left in
                     the folder, as far as they fit this instance; else the solution is moved to
-                    instance.best.earlier at the start, and the bound is removed
+                    instance.best.earlier at the start, and the bound is removed. In profile 3 the
+                    bound begins anew: it is that of the certificate
         warm        whether to begin with the last solution of this instance, if the hard clauses that
                     came since hold in it
         progress    a function that is called with a `Step` at each change and twice a second, or True:
@@ -1235,6 +1236,8 @@ class _Run:
         last = named and int(named[1])  # each later one solves more
         profile = last if profile is None else profile
         self._profile = [] if profile is None else ["--profile", str(profile)]
+        if profile == 3:  # its certificate proves a lower bound at each moment
+            self.bound_proof = self.proof
 
     def clear(self, resume: bool) -> None:
         """Removes what earlier runs have left, but for their best solution."""
@@ -1294,7 +1297,8 @@ class _Run:
         words += [] if ask.conflicts is None else ["--conflicts", str(ask.conflicts)]
         ends_itself = ask.time_limit is not None and ask.time_limit >= 0.001 and "--time-limit" in self._help
         words += ["--time-limit", f"{ask.time_limit:.3f}"] if ends_itself else []
-        words += ["--lower", str(self.bound_proof)] if ask.lower and "--lower" in self._help else []
+        keeps_bound = self.bound_proof != self.proof and "--lower" in self._help
+        words += ["--lower", str(self.bound_proof)] if ask.lower and keeps_bound else []
         words += ["--progress"] if "--progress" in self._help else []
         self._start = time.monotonic()
         self.status, self.stopped, self.is_checked = None, None, False

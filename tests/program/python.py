@@ -684,6 +684,10 @@ def again(program):
         for given in ({"warm": False}, {}):
             found = holes.solve(program=program, conflicts=0, folder=folder / "holes", resume=True, **given)
             expect("no effort, but a kept solution and a kept bound", (found.cost, found.lower, found.is_optimum, found.status), (1, 1, True, 0))
+    found = holes.solve(program=program, lower=True, profile=3, folder=folder / "cuts")
+    expect("an optimum by forms and cuts", (found.cost, found.lower, found.is_optimum), (1, 1, True))
+    found = holes.solve(program=program, lower=True, profile=3, conflicts=1, folder=folder / "cuts")
+    expect("little effort by forms and cuts", (found.cost, found.lower), (1, 0))
     found = holes.solve(program=program, conflicts=0, folder=folder / "holes")
     expect("no bound without going on", (found.cost, found.lower, found.is_optimum), (1, None, False))
 
