@@ -310,7 +310,8 @@ impl Engine {
     }
 
     /// The clause watches two of its literals that are not false, or is to be looked at where there
-    /// are none. A refused growth changes nothing.
+    /// are none. It needs neither where it is true for good, as the units that a search notes are.
+    /// A refused growth changes nothing.
     fn take_in(&mut self, store: &Store, reference: CRef) -> Result<(), AllocError>
         requires fits { Fits self.old store.now.slots }
         requires live { IsLive store.now.slots reference }
@@ -331,6 +332,7 @@ impl Engine {
             }
         }
         self.enlist(reference)?;
+        self.drop_satisfied(store, reference);
         Ok(())
     }
 

@@ -163,6 +163,26 @@ impl Engine {
         Ok(())
     }
 
+    /// A clause that waits needs no watches where it is true at level 0, and that is the current
+    /// level: as the units that a search notes are.
+    pub(super) fn drop_satisfied(&mut self, store: &Store, reference: CRef)
+        requires fits { Fits self.old store.now.slots }
+        requires waits { attachment_in self.old.watches.table reference ≡ Attachment.Waiting }
+        ensures goes_on { GoesOn store.now.slots self.old self.new }
+        ensures trail { self.new.trail ≡ self.old.trail }
+    {
+        if self.trail.depth() > 0 {
+            return;
+        }
+        let lits = store.lits(reference);
+        let Some(one) = find_not_false(&self.trail, lits) else {
+            return;
+        };
+        if self.trail.is_true(one) {
+            self.set_satisfied(reference);
+        }
+    }
+
     /// The clause needs no watches from now on.
     fn set_satisfied(&mut self, reference: CRef)
         requires { is_attached self.old reference ≡ true }

@@ -1,10 +1,10 @@
 -- A clause finds its watches at once, or waits.
-use Rattle.std.proofs.Common.{◌≡◌, ◌≢◌, true, false, List, Some, refl, sym, ap, subst}
+use Rattle.std.proofs.Common.{◌≡◌, ◌≢◌, true, false, List, [], ◌∷◌, ◌++◌, Some, refl, sym, ap, subst, ◌∙◌}
 use Rattle.std.specs.Prelude.{IfSome}
 use Rattle.cnf.specs.Clause.{contains_literal}
 use Rattle.cnf.specs.Literal.{Literal, negation}
 use Rattle.clauses.specs.Slots.{clause_at}
-use Rattle.propagate_watches.specs.declared.table.Attachment.TheVariants.{Watching}
+use Rattle.propagate_watches.specs.declared.table.Attachment.TheVariants.{Waiting, Watching}
 use Rattle.propagate_trail.specs.Trail.{Assigned, literals_of, value_in}
 use Rattle.propagate.specs.Watches.{EngineState, IsEngine, SetsAttached}
 use Rattle.propagate.specs.Fits.{Fits, IsWithin}
@@ -88,8 +88,8 @@ returns-in-Some-find_other_not_false-clause-fits c =
     (not_negated read _ same other c.in-Some-find_other_not_false.ensures.2))
     ok.1)
 
-pub returns-clause-fits : goal.returns-clause-fits
-returns-clause-fits c =
+pub drop_satisfied-requires-clause-fits : goal.drop_satisfied-requires-clause-fits
+drop_satisfied-requires-clause-fits c =
     let e = c.args.self.now in
     let slots = c.args.store.now.slots in
     let within = subst (λ o. IfSome o (IsWithin e.variables)) c.lits-lits.ensures
@@ -97,3 +97,13 @@ returns-clause-fits c =
     subst (λ x. Fits x slots) (sym c.in_ok-enlist.ensures.ok)
     (fits_attach e slots c.args.reference c.lits-lits.result.now c.requires.once
     c.lits-lits.ensures within c.requires.fits)
+
+pub returns-clause-attached : goal.returns-clause-attached
+returns-clause-attached c =
+    let e = c.args.self.now in
+    let r = c.args.reference in
+    let enlisted : SetsAttached e c.enlist.new.self r true =
+    subst (λ x. SetsAttached e x r true) (sym c.in_ok-enlist.ensures.ok)
+    (sets_kept e r Waiting e.watches.rows (e.watches.waiting ++ r ∷ []) refl) in
+    let same = c.drop_satisfied.ensures.goes_on.continues.attached in
+    (same r ∙ enlisted.0, λ q ne. same q ∙ enlisted.1 q ne)
