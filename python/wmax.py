@@ -521,29 +521,27 @@ class Instance:
 
     # Solving
 
-    def solve(self, *, time_limit: Optional[float] = None, conflicts: Optional[int] = None, lower: bool = False,
-              profile: Optional[int] = None, program: Union[str, "os.PathLike[str]", None] = None,
-              folder: Union[str, "os.PathLike[str]", None] = None, resume: bool = False, warm: bool = True,
+    def solve(self, *, time_limit: Optional[float] = None, conflicts: Optional[int] = None, profile: Optional[int] = None,
+              program: Union[str, "os.PathLike[str]", None] = None, folder: Union[str, "os.PathLike[str]", None] = None,
+              resume: bool = False, warm: bool = True,
               progress: Union[bool, Callable[[Step], Any], None] = None) -> Solution:
         """A solution of least cost, whose certificate `wmax check` has said YES to.
 
         time_limit  seconds, after which `wmax solve` ends. What it has found by then is given,
-                    with `is_optimum` False. The check of an optimum comes on top. Ctrl-C does the same.
+                    with `is_optimum` False. The check of what is proved comes on top. Ctrl-C does the
+                    same.
         conflicts   the effort of `wmax solve --conflicts`: the same number, the same answer, if the run
                     begins with the same solution
-        lower       whether to prove also how little a solution can cost, which takes longer where the
-                    search does not end; then it may be known how far the solution is from an optimum
-        profile     how 'cheaper' is said; else the last one that the program's help names
+        profile     how 'cheaper' is said; else the last one that the program's help names. In profile 3
+                    a search that ends before an optimum has proved a lower bound, which is checked
         program     the path of `wmax`; else WMAX in the environment, ../wmax as seen from this
                     file, or `wmax` on PATH
         folder      where the files stay: instance.wcnf, instance.result, instance.lrat,
-                    instance.best (the last result that was kept meanwhile), instance.bound (the
-                    certificate of a lower bound) and instance.lock; it is made if need be. Else they
-                    are removed, also where an exception ends this, or, in the main thread, SIGTERM.
-        resume      whether to go on from the solution and the lower bound that an earlier call left in
-                    the folder, as far as they fit this instance; else the solution is moved to
-                    instance.best.earlier at the start, and the bound is removed. In profile 3 the
-                    bound begins anew: it is that of the certificate
+                    instance.best (the last result that was kept meanwhile) and instance.lock; it is
+                    made if need be. Else they are removed, also where an exception ends this, or, in
+                    the main thread, SIGTERM.
+        resume      whether to go on from the solution that an earlier call left in the folder, if it
+                    fits this instance; else it is moved to instance.best.earlier at the start
         warm        whether to begin with the last solution of this instance, if the hard clauses that
                     came since hold in it
         progress    a function that is called with a `Step` at each change and twice a second, or True:
@@ -557,7 +555,7 @@ class Instance:
         WrongType, WrongValue: an argument is not what it should be.
         """
         ask = _Request(None if time_limit is None else _seconds("time_limit", time_limit),
-                       None if conflicts is None else _whole("conflicts", conflicts, 0), bool(lower), _follower(progress))
+                       None if conflicts is None else _whole("conflicts", conflicts, 0), _follower(progress))
         profile = None if profile is None else _whole("profile", profile, 1)
         program = find_program() if program is None else _program(program)
         if resume and folder is None:
@@ -565,11 +563,11 @@ class Instance:
         try:
             with _files_fail(), _ended_by_signals(), _folder(folder) as (home, lock):
                 run = _Run(program, home, profile, lock)
-                run.clear(resume)
+                run.clear()
                 run.instance.write_text(self.text(), encoding="utf-8")
                 self._begin(run, resume, warm)
                 run.solve(ask)
-                run.conclude(lower or resume)
+                run.conclude()
         except KeyboardInterrupt:
             raise NoSolutionFound("no solution was met before the interrupt") from None
         if run.said.status == "UNSATISFIABLE":
@@ -639,8 +637,6 @@ class Instance:
         fitting = [bits for bits in map(self._continued, starts) if bits is not None]
         if kept and not (resume and self._continued(_bits(kept))):
             run.set_aside()
-        if resume:
-            run.drop_wrong_bound()
         if not fitting:
             run.best.unlink(missing_ok=True)
             return
@@ -1194,7 +1190,6 @@ class _Request(NamedTuple):
 
     time_limit: Optional[float]
     conflicts: Optional[int]
-    lower: bool = False
     follow: Optional[Callable[[Step], Any]] = None
 
 
@@ -1217,8 +1212,8 @@ class _Run:
     PROGRESS = re.compile(r"^[0-9]+\.[0-9] s, .*$", re.MULTILINE)
 
     def __init__(self, program: str, folder: pathlib.Path, profile: Optional[int], lock: Sequence[int]) -> None:
-        self.instance, self.result, self.best, self.proof, self.bound_proof = (
-            folder / f"instance.{end}" for end in ("wcnf", "result", "best", "lrat", "bound"))
+        self.instance, self.result, self.best, self.proof = (
+            folder / f"instance.{end}" for end in ("wcnf", "result", "best", "lrat"))
         self.status: Optional[int] = None
         self.said = _Said("UNKNOWN")
         self.stopped: Optional[str] = None  # what stopped the program: time or interrupt
@@ -1236,12 +1231,11 @@ class _Run:
         last = named and int(named[1])  # each later one solves more
         profile = last if profile is None else profile
         self._profile = [] if profile is None else ["--profile", str(profile)]
-        if profile == 3:  # its certificate proves a lower bound at each moment
-            self.bound_proof = self.proof
+        self._proves_bounds = profile == 3  # each beginning of its certificate proves one
 
-    def clear(self, resume: bool) -> None:
+    def clear(self) -> None:
         """Removes what earlier runs have left, but for their best solution."""
-        for old in (self.result, self.proof, *([] if resume else [self.bound_proof])):
+        for old in (self.result, self.proof):
             old.unlink(missing_ok=True)
 
     def kept(self) -> _Said:
@@ -1297,8 +1291,6 @@ class _Run:
         words += [] if ask.conflicts is None else ["--conflicts", str(ask.conflicts)]
         ends_itself = ask.time_limit is not None and ask.time_limit >= 0.001 and "--time-limit" in self._help
         words += ["--time-limit", f"{ask.time_limit:.3f}"] if ends_itself else []
-        keeps_bound = self.bound_proof != self.proof and "--lower" in self._help
-        words += ["--lower", str(self.bound_proof)] if ask.lower and keeps_bound else []
         words += ["--progress"] if "--progress" in self._help else []
         self._start = time.monotonic()
         self.status, self.stopped, self.is_checked = None, None, False
@@ -1358,12 +1350,12 @@ class _Run:
                 self.stopped = "time"
                 return
 
-    def conclude(self, has_bound: bool) -> None:
+    def conclude(self) -> None:
         """Checks what was shown. CheckFailed: the program does not confirm it."""
         try:
             if self.said.status in ("OPTIMUM FOUND", "UNSATISFIABLE") and self.status in (20, 30):
                 self.check()
-            if has_bound:
+            elif self._proves_bounds and self.said.status in ("OPTIMUM FOUND", "SATISFIABLE"):
                 self.bound = self.lower()
         except KeyboardInterrupt:
             self.stopped = "interrupt"
@@ -1371,24 +1363,17 @@ class _Run:
                 self.said = _Said("UNKNOWN")
 
     def lower(self) -> Optional[int]:
-        """The lower bound that was proved, if one was.
+        """The lower bound that the certificate proves, if there is one.
 
         CheckFailed: `wmax lower` does not say of the certificate what it shows.
         """
-        if not self.bound_proof.exists():
+        if not self.proof.exists():
             return None
-        status, said, message = self._call("lower", str(self.instance), str(self.bound_proof))
+        status, said, message = self._call("lower", str(self.instance), str(self.proof))
         bound = re.fullmatch(r"at least ([0-9]{1,19})\n", said)
         if status != 0 or bound is None:
             raise CheckFailed(f"the lower bound does not check: {said.strip() or message or 'no verdict'}")
         return int(bound[1])
-
-    def drop_wrong_bound(self) -> None:
-        """A bound of another instance goes."""
-        try:
-            self.lower()
-        except CheckFailed:
-            self.bound_proof.unlink()
 
     def check(self) -> None:
         """CheckFailed: `wmax check` does not say YES to instance, result and certificate."""
@@ -1489,7 +1474,7 @@ class _Contradiction:
     def _try(self, run: "_Run", groups: List[int], ask: _Request) -> List[int]:
         """Runs over the clauses of these groups. Those that the certificate uses, if they contradict each other."""
         owners = [group for group in groups for _ in self._groups[group]]
-        run.clear(resume=False)
+        run.clear()
         run.best.unlink(missing_ok=True)
         with open(run.instance, "w", encoding="ascii") as text:
             text.writelines(f"{_clause_line(None, numbers)}\n" for group in groups for numbers in self._groups[group])
@@ -1610,13 +1595,12 @@ def main(words: Optional[Sequence[str]] = None) -> int:
     parser.add_argument("--time-limit", type=float, metavar="SECONDS", help="then the best solution so far is given")
     parser.add_argument("--conflicts", type=int, metavar="N", help="the effort, the same on each machine")
     parser.add_argument("--profile", type=int, metavar="N", help="how 'cheaper' is said")
-    parser.add_argument("--lower", action="store_true", help="also proves how little a solution can cost")
     parser.add_argument("--folder", metavar="PATH", help="where the files stay")
     parser.add_argument("--resume", action="store_true", help="goes on from what is in the folder")
     parser.add_argument("--optima", type=int, metavar="N", help="so many solutions of least cost, if there are as many")
     parser.add_argument("--plot", metavar="PATH", help="a picture (SVG) of cost and bound over time")
     given = parser.parse_args(words)
-    how = {name: getattr(given, name) for name in ("time_limit", "conflicts", "profile", "lower", "folder", "resume")}
+    how = {name: getattr(given, name) for name in ("time_limit", "conflicts", "profile", "folder", "resume")}
     try:
         instance = Instance.read(given.file)
         optima = instance.optima(given.optima, **how) if given.optima is not None else None

@@ -177,8 +177,6 @@ call check --profile 1 text result proof
 expect 'a certificate of profile 2 in profile 1' 1 'NO IdOrder 1' ''
 call check --profile 3 text result proof
 expect 'a certificate of profile 2 in profile 3' 1 'NO DeadId 1' ''
-call check --profile 4 text result proof
-expect 'a certificate of profile 2 in profile 4' 1 'NO IdOrder 1' ''
 
 # The clause of a greater bound follows from that of a smaller one, and is no unit.
 lines text '1 1 0' '1 2 0' '1 3 0'
@@ -226,7 +224,7 @@ call check text result /dev/null
 expect 'a file of xz' 1 'NO Text 1' "FILE is compressed: give it as '<(xzcat FILE)'."
 call encode text 3
 expect 'a file of xz, encode' 2 '' $'error: line 1: FirstToken\nFILE is compressed: give it as \'<(xzcat FILE)\'.'
-call encode --profile 5 --proof result text 3
+call encode --profile 3 --proof result text 3
 expect 'a file of xz, encode --proof' 2 '' $'error: line 1: FirstToken\nFILE is compressed: give it as \'<(xzcat FILE)\'.'
 call solve --best best text
 expect 'a file of xz, solve --best' 2 '' $'error: line 1: FirstToken\nFILE is compressed: give it as \'<(xzcat FILE)\'.'

@@ -21,7 +21,7 @@ trickle() {
 }
 
 # Certificates of a search, with counts that grow and forms in turn, and small ones.
-cp tests/program/cuts/* tests/program/cores/{package_choice_60_1,diagnosis_100_1}.{wcnf,result} "$work"
+cp tests/program/cuts/* "$work"
 # tea or coffee: tea is kept
 lines tea.wcnf 'h 1 2 0' '3 -1 0' '4 -2 0'
 lines tea.result 'o 3' 's OPTIMUM FOUND' 'v 10'
@@ -338,16 +338,13 @@ noted() { # NAME STATUS STDOUT STDERR WORD..: of tea and proof, by these words
 for line in 'form 1 3 1 0' 'count 1 1 2 0' 'more 1 0' 'group -1 -2 0 1 0' 'cut 0' 'bound 1 0' 'form x'; do
     lines proof "$line"
     noted "$line, without a profile" 1 'NO LineForm 1' "$note"
-    for profile in 1 2 4 5; do noted "$line, profile $profile" 1 'NO LineForm 1' "$note" --profile $profile; done
+    for profile in 1 2; do noted "$line, profile $profile" 1 'NO LineForm 1' "$note" --profile $profile; done
     call check --profile 3 tea.wcnf tea.result proof
     ok "$line, profile 3: $out $err" [ "$status$err" = 1 -a "${out%% *}" = NO ]
     call check --profile any tea.wcnf tea.result proof
     ok "$line, any profile: $out $err" [ "$status$err" = 1 -a "${out%% *}" = NO ]
 done
-lines proof 'core 3 1 3 4 0' '7 0 6 4 5 2 3 1 0'
-noted 'a core, profile 3' 1 'NO LineForm 1' 'PROOF begins like a certificate of profile 5: try --profile 5' --profile 3
-noted 'a core, profile 5' 0 YES '' --profile 5
-for line in '2 1 0 1 0' 'formula 1 0' 'cuts 0' 'x'; do
+for line in '2 1 0 1 0' 'formula 1 0' 'cuts 0' 'core 3 1 3 4 0' 'x'; do
     lines proof "$line"
     call check tea.wcnf tea.result proof
     ok "$line: no profile is named" [ "$status$err" = 1 -a "${out%% *}" = NO ]

@@ -58,95 +58,28 @@ formula_as 3 'an empty hard clause' 0 'p cnf 0 1' '0'
 lines text 'p wcnf 3 2 10' '10 1 2 0' '3 -1 2 0'
 formula_as 3 'the older form' 1 'p cnf 4 2' '1 2 0' '-1 2 4 0'
 
-# Profile 4: sums of weights, by whose variables 'at least so much' is said
-: > "$work/text"
-formula_as 4 'an empty text' 0 'p cnf 0 1' '0'
-lines text '5 0'
-formula_as 4 'an empty soft clause' 5 'p cnf 1 2' '1 0' '-1 0'
+# With --proof, in profile 3 alone: `plain` has what it prints.
 lines text 'h 1 2 0' '3 -1 0' '4 -2 0'
-formula_as 4 'sums of two' 3 'p cnf 7 11' '1 2 0' '-1 3 0' '-2 4 0' '-3 5 0' '-4 6 0' '-3 -4 7 0' '-6 5 0' '-7 6 0' '-5 0' '-6 0' '-7 0'
-lines text '3 1 0' '1 1 0'
-formula_as 4 'two weights of one literal' 1 'p cnf 6 10' '1 2 0' '1 3 0' '-2 5 0' '-3 4 0' '-2 -3 6 0' '-5 4 0' '-6 5 0' '-4 0' \
-    '-5 0' '-6 0'
-lines text '1 1 0' '1 2 0' '1 3 0'
-formula_as 4 'three of one weight' 2 'p cnf 11 16' '1 4 0' '2 5 0' '3 6 0' '-4 7 0' '-5 7 0' '-4 -5 8 0' '-8 7 0' '-7 9 0' '-8 10 0' \
-    '-6 9 0' '-7 -6 10 0' '-8 -6 11 0' '-10 9 0' '-11 10 0' '-10 0' '-11 0'
-lines text 'h -1 -2 0' 'h -1 -3 0' 'h -2 -3 0' '2 -1 0' '3 -2 0' '5 -3 0'
-formula_as 4 'at most one of three is given up' 2 'p cnf 9 14' '-1 -2 0' '-1 -3 0' '-2 -3 0' '-1 4 0' '-2 5 0' '-3 6 0' '-4 7 0' \
-    '-5 8 0' '-6 9 0' '-8 7 0' '-9 8 0' '-7 0' '-8 0' '-9 0'
-
-# With --proof: the formula of the core lines of a certificate, which its other lines refute.
-data=$PWD/tests/program/cores
-refuted() { # NAME STATUS STDOUT STDERR COST: of text and proof, in profile 5
-    call encode --profile 5 --proof proof text "$5"
-    expect "$1" "$2" "$3" "$4"
-}
-plain() { # NAME COST: the certificate is of no other formula than that without --proof
-    call encode --profile 5 text "$2"
-    refuted "$1" 0 "$out" '' "$2"
-}
-lines text 'h 1 2 0' '3 -1 0' '4 -2 0'
-tea=$(printf '%s\n' 'p cnf 5 6' '1 2 0' '-1 3 0' '-2 4 0' '-3 5 0' '-4 5 0' '-5 0')
-lines proof 'core 3 1 3 4 0' '7 0 6 4 5 2 3 1 0'
-refuted 'a core' 0 "$tea" '' 3
-refuted 'cores worth more than the cost' 0 "$tea" '' 2
-lines proof '' ' core 2 1 3 4 0' 'core 1 1 3 0' 'no line of a certificate' 'core'
-refuted 'two cores, and a line that nothing reads' 0 \
-    "$(printf '%s\n' 'p cnf 6 7' '1 2 0' '-1 3 0' '-2 4 0' '-3 5 0' '-4 5 0' '-3 6 0' '-5 -6 0')" '' 3
-printf 'core 3 1 3 4 0' > "$work/proof"
-refuted 'a core without a line feed' 0 "$tea" '' 3
-lines proof '7 0 6 4 5 2 3 1 0'
-plain 'no core lines' 3
-lines proof 'core 3 1 3 4 0'
-plain 'cost 0' 0
-: > "$work/proof"
-plain 'an empty certificate' 3
-while IFS='|' read -r proof wanted; do
-    printf '%b\n' "$proof" > "$work/proof"
-    refuted "$proof" 2 '' "error: line $wanted" 3
-    printf '%b' "$proof" > "$work/proof"
-    refuted "$proof, without a last line feed" 2 '' "error: line $wanted" 3
-done <<'ROWS'
-core 2 1 3 4 0\n7 0 6 4 5 2 3 1 0|2: CoreSum
-core 2 1 3 4 0\n\n \n7 0 6 4 5 2 3 1 0|4: CoreSum
-core 2 1 3 4 0\n\n |0: CoreSum
-core 2 1 3 4 0|0: CoreSum
-core 4 1 3 4 0\n7 0 6 4 5 2 3 1 0|1: CoreWeight
-\ncore 0 1 3 4 0|2: CoreWeight
-core 3 1 3 4 0\ncore 1 1 5 0|2: CoreWeight
-core 3 1 3 4|1: CoreForm
-core 2 1 3 4 0\ncore 1 x 3 0|2: CoreForm
-ROWS
-for name in tea package_choice_60_1 diagnosis_100_1 random_30_1; do
-    cost=$(sed -nE 's/^o ([0-9]+)$/\1/p' "$data/$name.result" | tail -n 1)
-    call encode --profile 5 --proof "$data/$name.lrat" "$data/$name.wcnf" "$cost"
-    printf '%s\n' "$out" > "$work/formula"
-    ok "$name: as many clauses as its header says" \
-        test "$status" = 0 -a "$(head -n 1 "$work/formula" | cut -d ' ' -f 4)" = "$(grep -vc ^p "$work/formula")"
-    # over which the other lines are a certificate: the clauses as hard ones, without a soft clause
-    sed '1d; s/^/h /' "$work/formula" > "$work/hard"
-    grep -v '^core' "$data/$name.lrat" > "$work/proof"
-    lines result 's UNSATISFIABLE'
-    call check hard result proof
-    expect "$name: the other lines refute the formula" 0 YES ''
-done
-lines text 'h 1 2 0' '3 -1 0' '4 -2 0'
-lines proof 'core 3 1 3 4 0'
-for profile in 1 2 4; do
+lines proof 'form 1 3 1 0' 'cut 0'
+for profile in 1 2; do
     call encode --profile $profile --proof proof text 3
-    expect "a certificate in profile $profile" 2 '' 'error: encode takes --proof only with --profile 3 or 5'
+    expect "a certificate in profile $profile" 2 '' 'error: encode takes --proof only with --profile 3'
 done
 call encode --proof proof text 3
-expect 'a certificate in the profile that is meant without a word' 2 '' 'error: encode takes --proof only with --profile 3 or 5'
-call encode --profile 5 --proof missing text 3
+expect 'a certificate in the profile that is meant without a word' 2 '' 'error: encode takes --proof only with --profile 3'
+call encode --profile 3 --proof proof text 3
+expect 'a certificate in profile 3' 0 "$(printf '%s\n' 'p cnf 2 2' '1 2 0' '0')" ''
+call encode --profile 3 --proof missing text 3
 expect 'a missing certificate' 3 '' 'error: Read missing'
-call encode --profile 5 --proof . text 3
-expect 'a certificate that cannot be read' 3 '' 'error: Read .'
+call encode --profile 3 --proof . text 3
+expect 'a certificate that is a folder' 2 '' 'error: encode --profile 3 needs a regular file as CERTIFICATE'
 lines faulty '0 1 0'
-call encode --profile 5 --proof missing faulty 3
+call encode --profile 3 --proof missing faulty 3
 expect 'a missing certificate of a faulty instance' 3 '' 'error: Read missing'
-lines proof 'core'
-call encode --profile 5 --proof proof faulty 3
+lines proof 'form'
+call encode --profile 3 --proof proof text 3
+expect 'a faulty certificate' 2 '' 'error: line 1: LineForm'
+call encode --profile 3 --proof proof faulty 3
 expect 'faults of both' 2 '' 'error: line 1: Weight'
 
 fault() { # NAME TEXT MESSAGE

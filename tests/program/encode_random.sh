@@ -1,5 +1,5 @@
 #!/usr/bin/env bash
-# `wmax encode` on random instances in profiles 1, 2 and 4, against the least cost that a search over all assignments finds: the
+# `wmax encode` on random instances in profiles 1 and 2, against the least cost that a search over all assignments finds: the
 # formula is unsatisfiable at that cost and satisfiable above it. `wmax solve` says so, of its clauses as hard ones.
 source "$(dirname "$0")/../lib"
 
@@ -10,7 +10,7 @@ answer() { # COST: the status line of solving the formula
 
 awk -v dir="$work" -v count=100 -f tests/program/random.awk > "$work/wanted"
 while read -r number wanted; do
-    for profile in 1 2 4; do
+    for profile in 1 2; do
         if [ "$wanted" = none ]; then
             ok "instance $number, profile $profile: no solution" [ "$(answer 4611686018427387903)" = 's UNSATISFIABLE' ]
         else
@@ -18,7 +18,5 @@ while read -r number wanted; do
             ok "instance $number, profile $profile: the optimum" [ "$(answer $((wanted + 1)))" = 's OPTIMUM FOUND' ]
         fi
     done
-    ok "instance $number, profile 5: without cores it is the formula of profile 4" cmp -s \
-        <("$wmax" encode --profile 4 "$work/$number.wcnf" 9) <("$wmax" encode --profile 5 "$work/$number.wcnf" 9)
 done < "$work/wanted"
 totals

@@ -107,7 +107,7 @@ explained 'there is a solution of no clause' 1 "$said" 'that is wrong: the hard 
 lines proof '5 2 0 1 2 0' '6 0 5 3 4 0'
 lines text 'h 1 2 0' 'h -1 2 0' 'h 1 -2 0' 'h -1 -2 0'
 call explain text result proof
-expect 'no solution, and its certificate' 0 "$said"$'\n4 of 4 hard clauses contradict each other:\nline 1: h 1 2 0\nline 2: h -1 2 0\nline 3: h 1 -2 0\nline 4: h -1 -2 0\nno solution' ''
+expect 'no solution, and its certificate' 0 "$said"$'\n4 of 4 hard clauses contradict each other:\nline 1: h 1 2 0\nline 2: h -1 2 0\nline 3: h 1 -2 0\nline 4: h -1 -2 0\nno solution\nwhy: there is no form' ''
 # each NAME: the clauses that are listed of text contradict each other over all assignments, and not without one of them
 each_needed() {
     call explain text result
@@ -323,11 +323,23 @@ lines proof 'form 1 3 1 0' 'cut 0'
 mkfifo "$work/fifo"
 cat "$work/proof" > "$work/fifo" &
 call explain text result fifo
-expect 'a pipe' 1 "$paid"$'\nNO LineForm 1' ''
+expect 'a pipe' 0 "$paid"$'\nat least 3\ngap 0' ''
 wait
+lines worse 'o 4' 's SATISFIABLE' 'v 01'
+call explain text worse proof
+expect 'a gap' 0 "$(printf '%s\n' 'cost 4' 'given up: 1 of 2 soft clauses' '+ 4 = 4, line 5: 4 -2 0' 'at least 3' 'gap 1' \
+    'why: the last form shows at least 3' '1 times the cost' "less 3 times clause 1${clause[0]}" "${clause[1]}")" ''
+lines wrong 'o 3' 's SATISFIABLE' 'v 01'
+call explain text wrong proof
+ok 'a wrong result has no gap' [ "$status" = 1 -a -z "$(grep -E 'at least|gap|why' <<< "$out")" ]
 lines proof 'form 1 3 1 0' 'bound 4 0'
 call explain text result proof
 expect 'a faulty line' 1 "$paid"$'\nNO CutWorth 2' ''
+lines proof 'core 3 1 3 4 0' '7 0 6 4 5 2 3 1 0'
+call explain text result proof
+expect 'no line of forms and cuts' 1 "$paid"$'\nNO LineForm 1' ''
+call explain text result missing
+expect 'a missing certificate' 3 '' 'error: Read missing'
 # soft clauses that are no units, tautologies, two with one literal
 lines text 'h 1 2 0' 'h 3 -3 0' 'h 3 0' '2 1 -1 0' '3 -1 0' '2 -2 1 -2 0' '4 -1 0'
 lines result 'o 2' 's OPTIMUM FOUND' 'v 011'

@@ -9,9 +9,10 @@ fails() { # NAME FAULT: what was run ended with this fault
 lines text 'h 1 2 0' '3 -1 0' '4 -2 0'
 lines result 'o 3' 's OPTIMUM FOUND' 'v 10'
 lines proof '6 0 5 4 2 3 1 0'
-lines cores 'core 3 1 3 4 0' '7 0 6 4 5 2 3 1 0'
-for words in 'solve text' 'check text result proof' 'lower text cores' 'encode text 3' 'encode --profile 5 --proof cores text 3' \
-    'explain text' 'explain text result' 'explain text result cores' '--help' 'solve --help' '--version'; do
+lines cuts 'form 1 3 1 0' 'cut 0'
+for words in 'solve text' 'solve --profile 3 text' 'check text result proof' 'check --profile 3 text result cuts' 'lower text cuts' \
+    'encode text 3' 'encode --profile 3 --proof cuts text 3' 'explain text' 'explain text result' 'explain text result cuts' \
+    '--help' 'solve --help' '--version'; do
     # shellcheck disable=SC2086
     if [ -c /dev/full ]; then
         err=$(cd "$work" && timeout 60 "$wmax" $words 2>&1 > /dev/full)
@@ -66,7 +67,7 @@ left_well() { # DEVICE AT COMMAND: what stands after the failure, of which there
             [ "$err" = 'error: Output' ] && begins "$2" .out &&
                 { [ "$3" != solve ] || [ "$2" -le "$lines_end" ] || cmp -s "$work/proof" "$work/plain/proof"; } ;;
         proof) [ "$err" = 'error: ProofOutput' ] && begins "$2" proof && begins "$lines_end" .out ;;
-        text) [[ $err =~ ^error:\ Read\ (text|result|given|cores)$ ]] && begins 0 .out && begins 0 proof ;;
+        text) [[ $err =~ ^error:\ Read\ (text|result|given|cuts)$ ]] && begins 0 .out && begins 0 proof ;;
     esac && [ "$status" = 3 ] && [ "$(stat -c %s "$work/mark")" = 1 ]
 }
 
@@ -96,16 +97,19 @@ compiles -O1 -shared -fPIC -o "$work/device.so" tests/program/device.c
 if [ -e "$work/device.so" ]; then
     for text in 'h 1 2 0\n3 -1 0\n4 -2 0\n' 'h 1 -1 0\n2 1 1 0\n3 -1 0\n'; do
         printf "$text" > "$work/text"
-        for device in out proof text; do each $device solve --proof proof text; done
+        for device in out proof text; do
+            each $device solve --proof proof text
+            each $device solve --profile 3 --proof proof text
+        done
     done
     lines text 'h 1 2 0' '3 -1 0' '4 -2 0'
     lines given '6 0 5 4 2 3 1 0'
     each text check text result given
     each out encode text 3
     each text encode text 3
-    lines cores 'core 3 1 3 4 0' '7 0 6 4 5 2 3 1 0'
-    for device in out text; do each $device encode --profile 5 --proof cores text 3; done
-    for device in out text; do each $device lower text cores; done
+    each out encode --profile 3 --proof cuts text 3
+    each text check --profile 3 text result cuts
+    for device in out text; do each $device lower text cuts; done
     lines given '6 0 1 0'
     each out check text result given
 fi

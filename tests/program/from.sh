@@ -8,7 +8,7 @@ lines text 'h 1 2 0' '3 -1 0' '4 -2 0'
 began() {
     local name=$1 wanted=$2 profile
     shift 2
-    for profile in 1 2 4 5; do
+    for profile in 1 2 3; do
         rm -f "$work/proof"
         call solve --profile $profile --from from --proof proof text
         expect "$name, profile $profile" "$wanted" "$(printf '%s\n' "$@")" ''
@@ -31,7 +31,7 @@ lines from 'o 0' 's SATISFIABLE' 'v 11'
 began 'no cost' 30 'o 0' 's OPTIMUM FOUND' 'v 11'
 lines text 'p wcnf 3 3 10' '10 1 2 0' '3 -1 0' '4 -2 0'
 lines from 'o 3' 's SATISFIABLE' 'v 101'
-for profile in 1 5; do
+for profile in 1 3; do
     call solve --profile $profile --from from text
     ok "the older form, profile $profile" [ "$status $(head -n 2 <<< "$out" | paste -sd ' ')" = '30 o 3 s OPTIMUM FOUND' ]
 done
@@ -145,11 +145,11 @@ ok 'values to begin with: each are tried first' [ "$(cmp -s "$work/proof0" "$wor
 # Random instances, from a first solution: the cost of a plain run, and the certificate checks.
 awk -v dir="$work" -v count=60 -f tests/program/random.awk > "$work/wanted"
 wrong=0
-profiles=(1 2 4 5)
+profiles=(1 2 3)
 while read -r number wanted; do
     [ "$wanted" = none ] && continue
     cp "$work/$number.wcnf" "$work/text"
-    profile=${profiles[number % 4]}
+    profile=${profiles[number % 3]}
     call solve --profile $profile --conflicts 1 text
     [ "$status" = 10 ] || call solve --profile $profile text
     printf '%s\n' "$out" > "$work/from"

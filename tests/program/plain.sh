@@ -91,7 +91,7 @@ for other in tea.wcnf tea.lrat; do
 done
 call encode --profile 3 tea.wcnf 3 --proof tea.lrat --lrat missing/plain
 expect '--lrat in a folder that is not there' 3 '' 'error: ProofOutput'
-for words in '--profile 3' '--profile 5 --proof tea.lrat' '--profile 4'; do
+for words in '--profile 3' '--profile 2 --proof tea.lrat' '--profile 1'; do
     call encode $words tea.wcnf 3 --lrat plain
     expect "--lrat with $words" 2 '' 'error: encode takes --lrat only with --profile 3 and --proof'
 done

@@ -1,5 +1,5 @@
 #!/usr/bin/env bash
-# WMAX_PROFILE, which each command takes where no `--profile` is given, and `check --profile any`.
+# WMAX_PROFILE, which each command takes where no `--profile` is given; `check --profile any`; what is no profile, option or line.
 source "$(dirname "$0")/../lib"
 
 lines text 'h 1 2 0' '3 -1 0' '4 -2 0'
@@ -16,7 +16,7 @@ with() {
     err=$(cat "$work/.err")
 }
 
-for profile in 1 2 4 5; do
+for profile in 1 2 3; do
     call solve --profile $profile --proof proof text
     solved=$out
     cp "$work/proof" "$work/wanted"
@@ -35,19 +35,21 @@ for profile in 1 2 4 5; do
     with $profile explain text result
     ok "explain, $profile" [ "$status $err" = '0 ' ]
 done
-call solve --profile 5 --proof proof text
+call solve --profile 3 --proof proof text
 printf '%s\n' "$out" > "$work/result"
-grep -q '^core' "$work/proof"
-ok 'a certificate with a core line' [ $? = 0 ]
-with 5 encode --proof proof text 3
-ok 'encode --proof, 5' [ "$status $err" = '0 ' ]
+with 3 encode --proof proof text 3
+ok 'encode --proof, 3' [ "$status $err" = '0 ' ]
+for profile in 1 2; do
+    with $profile encode --proof proof text 3
+    expect "encode --proof, $profile" 2 '' 'error: encode takes --proof only with --profile 3'
+done
 with '' encode text 3
 expect 'empty, as without it' 0 "$first" ''
 
 # What is no profile, and what is not looked at.
 cp "$work/proof" "$work/before"
-for value in 0 6 05 ' 5' 5x any five $'\377'; do
-    fault='error: WMAX_PROFILE is not a profile from 1 to 5'
+for value in 0 4 5 6 03 ' 3' 3x any three $'\377'; do
+    fault='error: WMAX_PROFILE is not a profile from 1 to 3'
     with "$value" solve --proof proof --best best text
     expect "solve, $value" 2 '' "$fault"
     ok "solve, $value: nothing was written" cmp -s "$work/proof" "$work/before"
@@ -56,22 +58,44 @@ for value in 0 6 05 ' 5' 5x any five $'\377'; do
     expect "check, $value" 2 '' "$fault"
     with "$value" encode text 3
     expect "encode, $value" 2 '' "$fault"
-    with "$value" check --profile 5 text result proof
-    expect "check --profile 5, $value" 0 YES ''
+    with "$value" check --profile 3 text result proof
+    expect "check --profile 3, $value" 0 YES ''
     with "$value" check --profile any text result proof
     expect "check --profile any, $value" 0 YES ''
     with "$value" explain text
     ok "explain, $value" [ "$status $err" = '0 ' ]
 done
-for profile in 0 6 05 any ''; do
-    call solve --profile "$profile" text
+for profile in 0 4 5 6 03 any ''; do
+    call solve --profile "$profile" --proof proof --best best text
     ok "solve --profile $profile" [ "$status" = 2 -a -z "$out" -a -n "$err" ]
+    ok "solve --profile $profile: nothing was written" cmp -s "$work/proof" "$work/before"
+    ok "solve --profile $profile: nothing is kept" [ ! -e "$work/best" ]
     call encode --profile "$profile" text 3
     ok "encode --profile $profile" [ "$status" = 2 -a -z "$out" -a -n "$err" ]
+    [ "$profile" != any ] || continue
+    call check --profile "$profile" text result proof
+    ok "check --profile $profile" [ "$status" = 2 -a -z "$out" -a -n "$err" ]
 done
 
+# A file for lower bounds is no option: a certificate of profile 3 proves them. Nor are core lines lines of a certificate.
+for profile in 1 2 3; do
+    call solve --profile $profile --lower bound --proof proof --best best text
+    ok "--lower, profile $profile" [ "$status" = 2 -a -z "$out" -a -n "$(grep -e --lower <<< "$err")" ]
+    ok "--lower, profile $profile: nothing was written" cmp -s "$work/proof" "$work/before"
+    ok "--lower, profile $profile: nothing is kept" [ ! -e "$work/best" -a ! -e "$work/bound" ]
+done
+lines core 'core 3 1 3 4 0' '7 0 6 4 5 2 3 1 0'
+for profile in 1 2 3 any; do
+    call check --profile $profile text result core
+    expect "a core line, check --profile $profile" 1 'NO LineForm 1' ''
+done
+call lower text core
+expect 'a core line, lower' 1 'NO LineForm 1' ''
+call encode --profile 3 --proof core text 3
+expect 'a core line, encode' 2 '' 'error: line 1: LineForm'
+
 # any: the certificates of each profile, of small instances and of the examples.
-for profile in 1 2 4 5; do
+for profile in 1 2 3; do
     for name in text plain; do
         call solve --profile $profile --proof proof $name
         printf '%s\n' "$out" > "$work/result"
@@ -93,7 +117,7 @@ every() { # NAME VERDICT: of text, result and proof
     local far=0 line of
     call check --profile any text result proof
     expect "$1" 1 "$2" ''
-    for of in 5 4 3 2 1; do
+    for of in 3 2 1; do
         call check --profile $of text result proof
         line=${out##* }
         [ "$line" = 0 ] && line=1000000
@@ -111,8 +135,10 @@ every 'a line behind the end' 'NO TrailingLine 2'
 every 'nothing' 'NO NoEmptyClause 0'
 lines proof 'x'
 every 'no line' 'NO LineForm 1'
-lines proof 'core 3 1 3 4 0' 'core 1 1 3 4 0'
-every 'core lines' 'NO CoreWeight 2'
+lines proof 'form 1 3 1 0' 'cut 0' 'x'
+every 'a line behind the end of forms and cuts' 'NO TrailingLine 3'
+lines proof 'core 3 1 3 4 0'
+every 'a core line' 'NO LineForm 1'
 lines result 'o 4' 's OPTIMUM FOUND' 'v 10'
 every 'another cost' 'NO CostWrong 1'
 lines result 'o 3' 's SATISFIABLE' 'v 10'

@@ -24,10 +24,10 @@ numbers() {
 }
 
 # A run of a second or two, into a file.
-awk -v family=random -v size=40 -v seed=1 -f bench/maxsat.awk > "$work/text"
-plain --profile 4
+awk -v family=random -v size=30 -v seed=1 -f bench/maxsat.awk > "$work/text"
+plain --profile 1
 ok 'without it nothing is told' [ -z "$err" ]
-call solve --profile 4 --proof proof --progress text
+call solve --profile 1 --proof proof --progress text
 same 'a file'
 ok 'a file: each line has the form' [ -z "$(grep -vxE "$form" <<< "$err")" ]
 ok 'a file: nothing but whole lines' [ "$(tr -cd '\r\033' < "$work/.err" | wc -c)" = 0 -a -z "$(tail -c 1 "$work/.err")" ]
@@ -39,9 +39,10 @@ numbers 'the conflicts' '.*, ([0-9]+) conflicts.*'
 numbers 'the propagations' '.*, ([0-9]+) propagations.*'
 numbers 'the restarts' '.*, ([0-9]+) restarts$'
 numbers 'the shares of the effort' '.*, ([0-9.]+) % of the effort spent.*'
+ok 'the certificate is told of once, at the end' [ "$(grep -c 'writing the certificate' <<< "$err") $(tail -n 1 <<< "$err" | cut -d ' ' -f 3-)" = '1 writing the certificate' ]
 
 # The share of the effort: each conflict and each solution is a unit.
-call solve --profile 4 --conflicts 100 --progress text
+call solve --profile 1 --conflicts 100 --progress text
 ok 'the share of the effort' awk '
     $2 != cost { cost = $2; solutions++ }
     { share = $4 + $3 - $5; if ($3 != solutions || share < -0.01 || share > 0.01) wrong = 1 }
@@ -49,14 +50,21 @@ ok 'the share of the effort' awk '
 
 ok 'the last line is of the end' grep -q ', 100.00 % of the effort spent, ' <<< "$(sed -n '$p' <<< "$err")"
 
-# What is needed at least: by cores, in profile 5 alone.
-ok 'profile 4 tells nothing of it' [ -z "$(grep 'at least' <<< "$err")" ]
-awk -v family=set_cover -v size=40 -v seed=1 -f bench/maxsat.awk > "$work/text"
-plain --profile 5
-call solve --profile 5 --proof proof --progress text
-same 'profile 5'
-ok 'profile 5: each line has the form' [ -z "$(grep -vxE "$form" <<< "$err")" ]
-ok 'profile 5: at least, never more than the optimum, and the gap' awk -F '[ ,]+' -v best="$(grep '^o' <<< "$out" | tail -n 1 | cut -c 3-)" '
+# Without a file there is no certificate to be written, and in profile 3 it is written while the search goes on.
+call solve --profile 1 --progress text
+ok 'no file, no word of it' [ -z "$(grep certificate <<< "$err")" ]
+ok 'profile 1 tells nothing of what is needed at least' [ -z "$(grep 'at least' <<< "$err")" ]
+awk -v family=set_cover -v size=120 -v seed=1 -f bench/maxsat.awk > "$work/text"
+plain --profile 3 --conflicts 3000
+call solve --profile 3 --conflicts 3000 --proof proof --progress text
+same 'profile 3'
+ok 'profile 3: each line has the form' [ -z "$(grep -vxE "$form" <<< "$err")" ]
+ok 'profile 3: no word of the certificate' [ -z "$(grep certificate <<< "$err")" ]
+numbers 'the conflicts of profile 3' '.*, ([0-9]+) conflicts.*'
+numbers 'the propagations of profile 3' '.*, ([0-9]+) propagations.*'
+
+# What is needed at least, as the certificate proves, and the gap.
+ok 'profile 3: at least, never more than the cost, and the gap' awk -F '[ ,]+' -v best="$(grep '^o' <<< "$out" | tail -n 1 | cut -c 3-)" '
     { for (i = 3; i <= NF; i++) { if ($i == "least") low = $(i + 1); if ($i == "cost") cost = $(i + 1); if ($i == "gap") gap = $(i + 1) } }
     / at least / {
         if (low < last || low > best) wrong = 1
@@ -66,14 +74,14 @@ ok 'profile 5: at least, never more than the optimum, and the gap' awk -F '[ ,]+
         if (/gap/ && (off < -0.0001 || off > 0.0101 || (gap == 0) != (low == cost))) wrong = 1
     }
     END { exit wrong || !lines }' <<< "$(grep cost <<< "$err")"
-ok 'the certificate is told of once, at the end' [ "$(grep -c 'writing the certificate' <<< "$err") $(tail -n 1 <<< "$err" | cut -d ' ' -f 3-)" = '1 writing the certificate' ]
-call solve --profile 5 --progress text
-ok 'no file, no word of it' [ -z "$(grep certificate <<< "$err")" ]
+said=$(sed -nE 's/.*, (at least [0-9]+), .*/\1/p' <<< "$err" | tail -n 1)
+call lower text proof
+expect 'profile 3: the last one is what the certificate proves' 0 "$said" ''
 
 # Each solution is shown, also the later ones.
 awk -v family=network -v size=40 -v seed=1 -f bench/maxsat.awk > "$work/text"
 several=0
-for profile in 1 2 4 5; do
+for profile in 1 2 3; do
     call solve --profile $profile --conflicts 3000 --progress text
     told=$(grep '^o' <<< "$out")
     ok "profile $profile: a line at each solution" [ "$(sed -nE 's/.*, cost ([0-9]+) .*/o \1/p' <<< "$err" | uniq)" = "$told" ]
@@ -100,7 +108,7 @@ ok 'no effort: all of it is spent' grep -qE ' s, no solution yet, 0 conflicts .*
 if [ -r /proc/self/status ]; then ok 'the memory' grep -qE ', [1-9][0-9]* MB of memory, ' <<< "$err"; fi
 # A gap that is small, and none: of 2^40 all but one by a core of two soft clauses.
 lines text 'h -1 -2 0' '1099511627776 1 0' '1099511627776 2 0' '1 3 0' '1 -3 4 0' '1 -4 0'
-call solve --profile 5 --progress text
+call solve --profile 3 --progress text
 ok 'no gap is told of costs that differ' awk -F '[ ,]+' '
     { for (i = 3; i <= NF; i++) { if ($i == "least") low = $(i + 1); if ($i == "cost") cost = $(i + 1); if ($i == "gap" && ($(i + 1) == 0) != (low == cost)) wrong = 1 } }
     END { exit wrong }' <<< "$err"

@@ -218,7 +218,7 @@ def optima(program, count):
     for seed in range(count):
         instance, chosen, rules, prices = random_instance(seed)
         wanted = least(chosen, rules, prices)
-        profile = (None, 1, 2, 4, 5)[seed % 5]
+        profile = (None, 1, 2, 3)[seed % 4]
         try:
             found = instance.solve(program=program, profile=profile)
         except wmax.Unsatisfiable:
@@ -392,13 +392,17 @@ def texts(program):
     expect("a header without T", read(b"p wcnf 1 1\n10 1 0\n").text(), "c variable 1\n10 1 0\n")
 
 
-# What stands for the program: what it does as `solve`, where $best is the PATH of --best, and as `check`.
+# What stands for the program: what it does as `solve`, where $best is the PATH of --best and $proof that of --proof, as `check`
+# and as `lower`.
 PRETENDER = """#!/bin/sh
 command=$1
 case " $* " in *' --help '*) echo '{help}'; exit 0 ;; esac
-best=
-for word; do [ "$last" = --best ] && best=$word; last=$word; done
-case $command in solve) {solve} ;; check) {check} ;; esac
+best= proof=
+for word; do
+    case $last in --best) best=$word ;; --proof) proof=$word ;; esac
+    last=$word
+done
+case $command in solve) {solve} ;; check) {check} ;; lower) {lower} ;; esac
 """
 
 
@@ -412,9 +416,9 @@ def lies(program):
     none = wmax.Instance()
     none.hard()
 
-    def told(solve, check=f'exec "{program}" "$@"', instance=shop, help="", **given):
+    def told(solve, check=f'exec "{program}" "$@"', instance=shop, help="", lower="exit 3", **given):
         path = folder / "pretender"
-        path.write_text(PRETENDER.format(solve=solve, check=check, help=help))
+        path.write_text(PRETENDER.format(solve=solve, check=check, lower=lower, help=help))
         path.chmod(0o755)
         found = raised(lambda: instance.solve(program=str(path), **{"warm": False, **given}))
         if isinstance(found, wmax.Solution):
@@ -427,6 +431,11 @@ def lies(program):
 
     plain, right = f'exec "{program}" "$@"', printing(30, "o 3", "s OPTIMUM FOUND", "v 10")
     says_yes, kept = "echo YES", "printf 'o 3\\ns SATISFIABLE\\nv 10\\n' > \"$best\"; exec sleep 60"
+    some = ': > "$proof"; ' + printing(10, "o 3", "s SATISFIABLE", "v 10")
+
+    def bounded(lower, solve=some, **given):
+        return told(solve, lower=lower, help="--profile <1|2|3>", **given)
+
     rows = [
         ("the program itself", told(plain), (3, True, 30, ["tea"])),
         ("NO", told(plain, printing(1, "NO HintNotUnit 3")), ("CheckFailed", "the certificate does not check: NO HintNotUnit 3")),
@@ -460,6 +469,16 @@ def lies(program):
         ("in time, a lie", told(kept.replace("o 3", "o 2"), time_limit=1), ("CheckFailed", "the bits cost 3, and not 2")),
         ("in time, no solution", told(kept.replace("SATISFIABLE", "UNSATISFIABLE"), time_limit=1), ("NoSolutionFound", "no solution was met in this time")),
         ("in time, nothing", told("exec sleep 60", time_limit=1), ("NoSolutionFound", "no solution was met in this time")),
+        ("a lower bound", bounded(printing(0, "at least 2")), (3, False, 10, ["tea"])),
+        ("a lower bound that meets the cost", bounded(printing(0, "at least 3")), (3, True, 10, ["tea"])),
+        ("a lower bound above the cost", bounded(printing(0, "at least 4")), ("CheckFailed", "the bits cost 3, and at least 4 is said to be needed")),
+        ("a lower bound, NO", bounded(printing(1, "NO CutWorth 2")), ("CheckFailed", "the lower bound does not check: NO CutWorth 2")),
+        ("a lower bound and another status", bounded(printing(1, "at least 2")), ("CheckFailed", "the lower bound does not check: at least 2")),
+        ("a lower bound, no verdict", bounded("exit 3"), ("CheckFailed", "the lower bound does not check: no verdict")),
+        ("a lower bound where there is no solution", bounded(printing(0, "no solution")), ("CheckFailed", "the lower bound does not check: no solution")),
+        ("a lower bound, no certificate", bounded("exit 3", printing(10, "o 3", "s SATISFIABLE", "v 10")), (3, False, 10, ["tea"])),
+        ("a lower bound in another profile", bounded("exit 3", profile=2), (3, False, 10, ["tea"])),
+        ("a lower bound in time", bounded(printing(0, "at least 3"), ': > "$proof"; ' + kept, time_limit=1), (3, True, None, ["tea"])),
         ("the last profile of the help", told(printing(3) + '; ', help="--profile <1|2|3|4|17>")[0], "ProgramFailed"),
     ]
     for name, found, wanted in rows:
@@ -485,9 +504,9 @@ def lies(program):
             break
     # On a busy machine it may be stopped before it ends itself.
     expect("a time limit that is met", isinstance(found, wmax.Solution) and not found.is_optimum and found.status in (10, None), True)
-    shop.solve(program=program, profile=4, folder=folder / "new" / "files")
+    shop.solve(program=program, profile=2, folder=folder / "new" / "files")
     files = [str(folder / "new" / "files" / f"instance.{end}") for end in ("wcnf", "result", "lrat")]
-    ran = subprocess.run([program, "check", "--profile", "4", *files], stdout=subprocess.PIPE, text=True)
+    ran = subprocess.run([program, "check", "--profile", "2", *files], stdout=subprocess.PIPE, text=True)
     expect("the files stay", ran.stdout, "YES\n")
     expect("the best solution stays", (folder / "new" / "files" / "instance.best").read_text(), "o 3\ns OPTIMUM FOUND\nv 10\n")
     going = folder / "going"
@@ -532,7 +551,7 @@ def stops(program):
 
     def pretender(solve, check="exit 1"):
         path = folder / "pretender"
-        path.write_text(PRETENDER.format(solve=f'echo $$ > "{folder}/child"; {solve}', check=check, help=""))
+        path.write_text(PRETENDER.format(solve=f'echo $$ > "{folder}/child"; {solve}', check=check, lower="exit 1", help=""))
         path.chmod(0o755)
         return str(path)
 
@@ -618,8 +637,7 @@ def stops(program):
     expect("a folder that begins with -", shop.solve(program=program, folder="-here").is_optimum, True)
     for name, left in (("binary", b"\x00\xff\xfeo 3\n"), ("broken", b"o 3\ns SATISFIABLE\n"), ("empty", b""), ("another", b"o 9\ns SATISFIABLE\nv 1111\n"),
                        ("a wrong cost", b"o 1\ns SATISFIABLE\nv 11\n"), ("a great number", b"o " + b"9" * 5000 + b"\ns SATISFIABLE\nv 11\n")):
-        for end in ("best", "bound"):
-            (here / f"instance.{end}").write_bytes(left)
+        (here / "instance.best").write_bytes(left)
         found = shop.solve(program=program, folder=here, resume=True, warm=False)
         expect(f"a kept result that is {name}", (found.cost, found.is_optimum), (3, True))
     (folder / "file").write_text("")
@@ -676,20 +694,16 @@ def again(program):
         found = raised(lambda: instance.solve(program=program))
         expect(f"instance {seed} with a constraint more", found.cost if isinstance(found, wmax.Solution) else None, least(chosen, rules, prices))
 
-    # The cost and a bound that was proved meet, whatever the status is.
+    # What is proved of the cost.
     holes = pigeons(4)
-    found = holes.solve(program=program, lower=True, folder=folder / "holes")
+    found = holes.solve(program=program, folder=folder / "holes")
     expect("an optimum", (found.cost, found.lower, found.is_optimum), (1, 1, True))
-    if "--lower" in subprocess.run([program, "solve", "--help"], stdout=subprocess.PIPE, text=True).stdout:
-        for given in ({"warm": False}, {}):
-            found = holes.solve(program=program, conflicts=0, folder=folder / "holes", resume=True, **given)
-            expect("no effort, but a kept solution and a kept bound", (found.cost, found.lower, found.is_optimum, found.status), (1, 1, True, 0))
-    found = holes.solve(program=program, lower=True, profile=3, folder=folder / "cuts")
-    expect("an optimum by forms and cuts", (found.cost, found.lower, found.is_optimum), (1, 1, True))
-    found = holes.solve(program=program, lower=True, profile=3, conflicts=1, folder=folder / "cuts")
-    expect("little effort by forms and cuts", (found.cost, found.lower), (1, 0))
-    found = holes.solve(program=program, conflicts=0, folder=folder / "holes")
-    expect("no bound without going on", (found.cost, found.lower, found.is_optimum), (1, None, False))
+    found = holes.solve(program=program, profile=3, conflicts=1, folder=folder / "holes")
+    expect("little effort by forms and cuts", (found.cost, found.lower, found.is_optimum), (1, 0, False))
+    found = holes.solve(program=program, profile=3, conflicts=0, folder=folder / "holes")
+    expect("no effort by forms and cuts", (found.cost, found.lower, found.is_optimum, found.status), (1, 0, False, 0))
+    found = holes.solve(program=program, profile=1, conflicts=0, folder=folder / "holes")
+    expect("no bound in another profile", (found.cost, found.lower, found.is_optimum), (1, None, False))
 
     # Further optima.
     for seed in range(60):

@@ -25,4 +25,5 @@ lies 'other bits' solve '/^v/y/01/10/'
 lies 'all certificates are right' check 's/^NO.*/YES/'
 lies 'no certificate is right' check 's/^YES/NO NoEmptyClause 0/'
 lies 'a clause is left out' explain '/^+/d'
+lies 'a higher lower bound' lower 's/^at least \\(.*\\)/at least 1\\1/'
 totals

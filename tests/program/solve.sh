@@ -1,14 +1,14 @@
 #!/usr/bin/env bash
-# `wmax solve` from the files to the printed result, and each certificate through `wmax check`.
+# `wmax solve` from the files to the printed result, and each certificate through `wmax check`; of profile 3 see `solve_cuts`.
 source "$(dirname "$0")/../lib"
 
-# solved NAME STATUS WORD..: what solving the text prints, in each profile, and whether the certificate checks.
+# solved NAME STATUS WORD..: what solving the text prints, in profiles 1 and 2, and whether the certificate checks.
 # Of the `o` lines only the last is fixed. `told` is what stands on standard error.
 told=
 solved() {
     local name=$1 wanted=$2 profile
     shift 2
-    for profile in 1 2 4 5; do
+    for profile in 1 2; do
         rm -f "$work/proof"
         call solve --profile $profile --proof proof "$@" text
         printf '%s\n' "$out" > "$work/result"
@@ -141,7 +141,7 @@ if [ -c /dev/full ]; then
 fi
 
 # The command line.
-for words in '--conflicts 4611686018427387905' '--conflicts x' '--profile 0' '--profile 6' '--profile x' '--proof'; do
+for words in '--conflicts 4611686018427387905' '--conflicts x' '--profile 0' '--profile 4' '--profile x' '--proof'; do
     call solve $words text
     ok "refused: $words" [ "$status" = 2 ]
 done

@@ -1,11 +1,17 @@
 #!/usr/bin/env bash
-# `wmax solve --profile 3`: the optimum of profile 1, with a certificate of forms and cuts, which is written while it searches.
+# `wmax solve --profile 3`: the optimum, with a certificate of forms and cuts, which is written while it searches, and each beginning
+# of which proves a lower bound.
 source "$(dirname "$0")/../lib"
 
 # lower: the lower bound that the certificate proves by itself
 lower() {
     call lower text proof
     sed -n 's/^at least //p' <<< "$out"
+}
+
+# cost: of the last `o` line of the result
+cost() {
+    sed -n 's/^o //p' "$work/result" | tail -n 1
 }
 
 # solved NAME STATUS RESULT WORD..: what solving the text prints, of the `o` lines the last one; the certificate checks
@@ -66,8 +72,8 @@ lines from 'o 2' 's SATISFIABLE' 'v 10'
 call solve --profile 3 --from from text
 expect 'from a wrong result' 1 'NO CostWrong 1' ''
 
-# The optimum of profile 1, with less effort a solution and a lower bound, and what is kept.
-for path in examples/{roster,bothsigns,packages,timetable,vcover}.wcnf tests/program/cores/package_choice_60_1.wcnf; do
+# The optimum of the examples, with less effort a solution and a lower bound, and what is kept.
+for path in examples/{roster,bothsigns,packages,timetable,vcover}.wcnf tests/program/cuts/package_choice_60_1.wcnf; do
     name=$(basename "$path" .wcnf)
     cp "$path" "$work/text"
     optimum=$(sed -n 's/^o //p' "${path%.wcnf}.result" | tail -n 1)
@@ -119,27 +125,104 @@ if [ -c /dev/full ]; then
     ok "a full output: $err" [ "$err" = 'error: Output' ]
 fi
 
-# No file is kept for a lower bound.
-lines proof before
-call solve --profile 3 --proof proof --best other --lower bound text
-expect 'a lower bound' 2 '' 'error: --lower is not for profile 3: --proof is enough, and wmax lower reads it'
-ok 'a lower bound: nothing was written' [ "$(cat "$work/proof")" = before -a ! -e "$work/other" -a ! -e "$work/bound" ]
+# Instances of several kinds: the certificate gives the optimum as a lower bound, and a second run writes the same one.
+for family in package_choice:40 diagnosis:60 set_cover:20 vertex_cover:20 upgrade:60 test_selection:60 broken_gates:60; do
+    name=${family%:*}
+    awk -v family="$name" -v size="${family#*:}" -v seed=1 -f bench/maxsat.awk > "$work/text"
+    call solve --profile 3 --proof proof text
+    printf '%s\n' "$out" > "$work/result"
+    ok "$name: an optimum: $status $err" [ "$status$err" = 30 ]
+    call check --profile 3 text result proof
+    expect "$name: it checks" 0 YES ''
+    ok "$name: the lower bound" [ "$(lower)" = "$(cost)" ]
+    mv "$work/proof" "$work/first"
+    call solve --profile 3 --proof proof text
+    ok "$name: a second run is the same" cmp -s "$work/proof" "$work/first"
+done
 
-# Random instances, against all assignments.
-awk -v dir="$work" -v count=100 -f tests/program/random.awk > "$work/wanted"
+# Little effort: each unit more makes the solution no dearer, and what is proved is right.
+awk -v family=package_choice -v size=40 -v seed=1 -f bench/maxsat.awk > "$work/text"
+call solve --profile 3 text
+optimum=$(grep '^o ' <<< "$out" | tail -n 1 | cut -c 3-)
+ok 'all of the effort: an optimum' [ "$status" = 30 ]
+before=4611686018427387904
+rm -f "$work/best"
+for conflicts in 0 1 2 3 5 8 13 21 34 55 89 144 1000; do
+    call solve --profile 3 --conflicts "$conflicts" --proof proof --best best text
+    printf '%s\n' "$out" > "$work/result"
+    bound=$(lower)
+    ok "$conflicts units: a lower bound, $bound" [ -n "$bound" -a "${bound:-0}" -le "$optimum" ]
+    if [ "$status" = 0 ]; then
+        ok "$conflicts units: nothing" [ "$out" = 's UNKNOWN' -a "$before" = 4611686018427387904 ]
+    else
+        ok "$conflicts units: a solution, no dearer than with fewer" [ "$(cost)" -le "$before" -a "$(cost)" -ge "$optimum" ]
+        ok "$conflicts units: it is kept" [ "$(tail -n 1 "$work/best")" = "$(tail -n 1 "$work/result")" ]
+        before=$(cost)
+        [ "$status" = 10 ] || ok "$conflicts units: the optimum" [ "$status $before" = "30 $optimum" ]
+        call explain text result
+        ok "$conflicts units: it costs that" [ "$status" = 0 ]
+    fi
+    rm -f "$work/best"
+done
+
+# Killed at forty moments: the certificate is the beginning of one, which proves a lower bound.
+awk -v family=package_choice -v size=120 -v seed=1 -f bench/maxsat.awk > "$work/text"
+right=0
+for moment in $(seq 1 40); do
+    rm -f "$work/proof"
+    (cd "$work" && exec "$wmax" solve --profile 3 --proof proof text > /dev/null 2>&1) &
+    sleep "0.0$((moment / 10))$((moment % 10))"
+    kill -KILL $! 2> /dev/null
+    wait $! 2> /dev/null
+    if [ ! -e "$work/proof" ] || [ -n "$(lower)" ]; then right=$((right + 1)); fi
+done
+ok 'killed at forty moments' [ $right = 40 ]
+
+# Each lower bound that a search tells is proved by what stands up to it in the certificate.
+awk -v family=set_cover -v size=120 -v seed=1 -f bench/maxsat.awk > "$work/text"
+call solve --profile 3 --conflicts 3000 --proof proof text
+ok 'a search that does not end' [ "$status" = 10 ]
+count=0
+before=0
+while read -r line bound; do
+    head -n "$line" "$work/proof" > "$work/beginning"
+    call lower text beginning
+    expect "up to line $line" 0 "at least $bound" ''
+    ok "line $line: more than before" [ "$bound" -gt "$before" ]
+    before=$bound
+    count=$((count + 1))
+done < <(grep -n '^bound ' "$work/proof" | tr ':' ' ' | cut -d ' ' -f 1,3 | head -n 20)
+ok "it tells lower bounds: $count" [ $count -gt 0 ]
+
+# Random instances, against all assignments: the optimum, and what the certificate proves by itself, also after little effort.
+awk -v dir="$work" -v count=100 -f tests/program/random.awk > "$work/optima"
 wrong=0
-while read -r number cost; do
+reached=0
+while read -r number wanted; do
     call solve --profile 3 --proof proof "$number.wcnf"
     printf '%s\n' "$out" > "$work/result"
-    case $cost in
-        none) got=$([ "$status $out" = '20 s UNSATISFIABLE' ] && echo none) ;;
-        *) got=$([ "$status" = 30 ] && sed -n 's/^o //p' "$work/result" | tail -n 1) ;;
+    case $wanted in
+        none) got=$([ "$status $out" = '20 s UNSATISFIABLE' ] && echo none) proved='no solution' ;;
+        *) got=$([ "$status" = 30 ] && cost) proved="at least $wanted" ;;
     esac
     call check --profile 3 "$number.wcnf" result proof
-    [ "$got $out$err" = "$cost YES" ] && continue
+    said=$out$err
+    call lower "$number.wcnf" proof
+    if [ "$got, $said, $out$err" != "$wanted, YES, $proved" ]; then
+        wrong=$((wrong + 1))
+        echo "$number.wcnf: wanted $wanted, got $got, $said, $out $err"
+    fi
+    call solve --profile 3 --conflicts $((number % 9)) --proof proof "$number.wcnf"
+    call lower "$number.wcnf" proof
+    [ "$out" != "$proved" ] || reached=$((reached + 1))
+    case "$wanted $out" in
+        'none no solution' | 'none at least '*) continue ;;
+        *' at least '*) [ "${out#at least }" -gt "$wanted" ] || continue ;;
+    esac
     wrong=$((wrong + 1))
-    echo "$number.wcnf: wanted $cost, got $got, $out $err"
-done < "$work/wanted"
+    echo "$number.wcnf, little effort: $out $err of $wanted"
+done < "$work/optima"
 ok 'random instances' [ $wrong = 0 ]
+ok "little effort proves the optimum of some: $reached" [ $reached -gt 20 ]
 
 totals

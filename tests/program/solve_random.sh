@@ -40,7 +40,7 @@ answers() { # WANTED WORD..: solves with these words, and looks at what is answe
 awk -v dir="$work" -v count=400 -f tests/program/random.awk > "$work/wanted"
 while read -r number wanted; do
     text=$work/$number.wcnf
-    for profile in '--profile 1' '--profile 2' '--profile 4' '--profile 5'; do
+    for profile in '--profile 1' '--profile 2' '--profile 3'; do
         bounded=no
         ok "instance $number, $profile" answers "$wanted" $profile
         bounded=yes

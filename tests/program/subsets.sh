@@ -6,7 +6,7 @@ source "$(dirname "$0")/../lib"
 awk -v dir="$work" -v count=150 -f tests/program/random.awk > "$work/wanted"
 while read -r number wanted; do
     text=$work/$number.wcnf
-    for profile in 1 2 4; do
+    for profile in 1 2; do
         # No cost reaches the greatest bound, so that its comparator is empty: what stands before a comparator.
         "$wmax" encode --profile $profile "$text" 4611686018427387903 > "$work/fixed"
         for bound in 1 2 3 5 8 13 21 34 100 1000 100000; do

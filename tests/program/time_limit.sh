@@ -6,7 +6,7 @@ source "$(dirname "$0")/../lib"
 # The end comes after the answer: the same bytes.
 lines text 'h 1 2 0' '3 -1 0' '4 -2 0' '2 1 3 0' '5 -3 0'
 lines none 'h 1 0' 'h -1 0'
-for profile in 1 2 4 5; do
+for profile in 1 2 3; do
     for name in text none; do
         call solve --profile $profile --proof plain $name
         wanted=("$status" "$out" "$err")
@@ -28,19 +28,24 @@ for (one, other), hole in itertools.product(itertools.combinations(range(13), 2)
     print("h", -(12 * one + hole + 1), -(12 * other + hole + 1), 0)
 PY
 
-ends() { # NAME WORD..: the search ends with a solution, and no certificate
+ends() { # NAME WORD..: the search ends with a solution, and no certificate, or in profile 3 the beginning of one
     local name=$1
     shift
     echo earlier > "$work/proof"
     call solve "$@" --proof proof hard
     ok "$name: status" [ "$status" = 10 -a -z "$err" ]
     ok "$name: s" [ "$(grep -c '^s ' <<< "$out") $(tail -n 2 <<< "$out" | head -n 1)" = '1 s SATISFIABLE' ]
-    ok "$name: no certificate" [ ! -s "$work/proof" ]
     printf '%s\n' "$out" > "$work/result"
     call explain hard result
     ok "$name: v is right" [ "$status" = 0 ]
+    if [[ $* = *'--profile 3'* ]]; then
+        call lower hard proof
+        ok "$name: a lower bound: $out" [ "$status ${out% *}" = '0 at least' ]
+    else
+        ok "$name: no certificate" [ ! -s "$work/proof" ]
+    fi
 }
-for profile in 1 2 4 5; do
+for profile in 1 2 3; do
     ends "profile $profile" --profile $profile --time-limit 0.7
 done
 ends 'with less effort than time' --time-limit 1000 --conflicts 50
@@ -50,17 +55,15 @@ call solve --time-limit 1e-9 --proof proof pigeons
 expect 'at the first look' 0 's UNKNOWN' ''
 call solve --time-limit 0.5 pigeons
 expect 'no solution in time' 0 's UNKNOWN' ''
-call solve --time-limit 0.5 --profile 5 --progress pigeons
+call solve --time-limit 0.5 --profile 3 --progress pigeons
 ok 'with progress' [ "$status $out $(grep -vc ' s, no solution yet, ' <<< "$err")" = '0 s UNKNOWN 0' ]
 
 # What is kept is kept.
-rm -f "$work/best" "$work/bound"
-for profile in 1 5; do
-    ends "kept, profile $profile" --profile $profile --time-limit 1.2 --best best --lower bound
+rm -f "$work/best"
+for profile in 1 3; do
+    ends "kept, profile $profile" --profile $profile --time-limit 1.2 --best best
     ok "kept, profile $profile: the best solution" [ "$(tail -n 2 "$work/best")" = "$(tail -n 2 "$work/result")" ]
-    ok "kept, profile $profile: nothing beside" [ ! -e "$work/best.part" -a ! -e "$work/bound.part" ]
-    [ ! -e "$work/bound" ] || call lower hard bound
-    ok "kept, profile $profile: the bound" [ "$status" = 0 ]
+    ok "kept, profile $profile: nothing beside" [ ! -e "$work/best.part" ]
 done
 
 # What is no time.

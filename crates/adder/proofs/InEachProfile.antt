@@ -1,6 +1,6 @@
 -- The laws of the network in each profile.
 use Rattle.std.proofs.Common.{◌≡◌, ℕ, ◌+◌, ◌*◌, ◌^◌, ◌<◌, ◌≤◌, List, [], length}
-use Rattle.std.proofs.Common.{filter, sum_by, All, refl, sym, ◌∙◌, ap, subst, arith}
+use Rattle.std.proofs.Common.{filter, sum_by, All, sym, subst, arith}
 use Rattle.std.proofs.Common.{mul-le-mul_right}
 use Rattle.std.specs.List.{AllByRecursion}
 use Rattle.std.proofs.lemmas.List.Elements.{recursion_from_All, All-weaker}
@@ -10,56 +10,15 @@ use Rattle.cnf.specs.Problem.{Problem, SoftClause, AreWithin}
 use Rattle.cnf.specs.Instance.{IsInstance, IsClauseWithin}
 use Rattle.adder.specs.declared.networks.TheConstants.{CELL_LIMIT}
 use Rattle.adder.specs.declared.profiles.Profile.{Profile}
-use Rattle.adder.specs.declared.profiles.Profile.TheVariants.{One, Two, Four, Five}
-use Rattle.adder.specs.declared.profiles.Adding.{Adding}
-use Rattle.adder.specs.declared.profiles.Adding.TheVariants.{Columns, Sums}
-use Rattle.adder.specs.Network.{relaxing_of, adding_of}
-use Rattle.adder.specs.Network.{Adders, Relaxed, binary_length, total_weight, relaxed_as}
-use Rattle.adder.specs.Network.{relaxed_variables, column_of, along_columns, along_tree, adders_as}
+use Rattle.adder.specs.Network.{relaxing_of, Relaxed, binary_length, total_weight, relaxed_as}
+use Rattle.adder.specs.Network.{relaxed_variables, column_of, adders_as}
 use Rattle.adder.specs.Network.{value_of, relaxed_weight, IsCellOf, SameUpTo, AddsUp}
 use Rattle.adder.proofs.Sums.{binary_length_le, relaxed_weights, along_columns_sum}
-use Rattle.adder.proofs.Choice.{AreRelaxedBelow, IsChain, column_below, columns_chain}
+use Rattle.adder.proofs.Choice.{AreRelaxedBelow, column_below, columns_chain}
 use Rattle.adder.proofs.Choice.{chain_extends, relaxed_below}
 use Rattle.adder.proofs.Small.{column_le, columns_cells, columns_outputs, binary_length_few}
 use Rattle.adder.proofs.Small.{relaxed_length, fresh_few}
 use Rattle.adder.proofs.Variables.{IsOutputOf, IsCellWith, columns_with, column_of_with}
-use Rattle.adder.proofs.Numbers.{along_tree_sum, along_tree_cells, along_tree_outputs}
-use Rattle.adder.proofs.Numbers.{along_tree_with, along_tree_chain}
-
--- which of its two forms the network has
-abbrev adders_by : Profile → Problem → Adding → Adders
-adders_by profile p Columns =
-    along_columns (relaxed_as profile p) (total_weight p) (relaxed_variables profile p + 1)
-adders_by profile p Sums = along_tree (relaxed_as profile p) (relaxed_variables profile p + 1)
-
-adders_are : (profile : Profile) (p : Problem)
-    → adders_by profile p (adding_of profile) ≡ adders_as profile p
-adders_are One p = refl
-adders_are Two p = refl
-adders_are Four p = refl
-adders_are Five p = refl
-
-pub is_columns : (profile : Profile) (p : Problem) (a : Adding) → a ≡ adding_of profile
-    → a ≡ Columns
-    → along_columns (relaxed_as profile p) (total_weight p) (relaxed_variables profile p + 1)
-    ≡ adders_as profile p
-is_columns profile p a same e = ap (adders_by profile p) (sym e ∙ same) ∙ adders_are profile p
-
-pub is_tree : (profile : Profile) (p : Problem) (a : Adding) → a ≡ adding_of profile
-    → a ≡ Sums
-    → along_tree (relaxed_as profile p) (relaxed_variables profile p + 1) ≡ adders_as profile p
-is_tree profile p a same e = ap (adders_by profile p) (sym e ∙ same) ∙ adders_are profile p
-
--- what holds of both forms
-pub adders_cases : (profile : Profile) (p : Problem) (P : Adders → Type 0)
-    → P (along_columns (relaxed_as profile p) (total_weight p) (relaxed_variables profile p + 1))
-    → P (along_tree (relaxed_as profile p) (relaxed_variables profile p + 1))
-    → P (adders_as profile p)
-adders_cases profile p P columns tree = by (adding_of profile) refl
-  where
-    by : (a : Adding) → adding_of profile ≡ a → P (adders_as profile p)
-    by Columns e = subst P (is_columns profile p Columns (sym e) refl) columns
-    by Sums e = subst P (is_tree profile p Sums (sym e) refl) tree
 
 module _ (profile : Profile) (p : Problem) where
   abbrev es : List Relaxed
@@ -76,10 +35,7 @@ module _ (profile : Profile) (p : Problem) where
       → All (IsCellOf t) (adders_as profile p).cells → value_of t (adders_as profile p).outputs
       ≡ relaxed_weight profile p t
   outputs_sum t small all =
-      adders_cases profile p (λ a. AllByRecursion (IsCellOf t) a.cells
-      → value_of t a.outputs ≡ relaxed_weight profile p t)
-      (along_columns_sum t es (total_weight p) n weights small)
-      (along_tree_sum t es n (omega (arith, weights)))
+      along_columns_sum t es (total_weight p) n weights small
       (recursion_from_All (IsCellOf t) (adders_as profile p).cells all)
 
   -- the field `choice` of `AddsUp`
@@ -91,27 +47,22 @@ module _ (profile : Profile) (p : Problem) where
       relaxed_below p.variables (relaxing_of profile) (p.variables + 1) p.soft n h (omega arith)
       (omega arith) in
       chain_extends (relaxed_variables profile p) (adders_as profile p).cells t
-      (adders_cases profile p (λ a. IsChain n a.cells)
       (columns_chain (column_of es) (binary_length (total_weight p)) 0 n []
-      (λ j. column_below n es j below) tt) (along_tree_chain es n below))
+      (λ j. column_below n es j below) tt)
 
   pub outputs_few : total_weight p < 2 ^ 62 → length (adders_as profile p).outputs ≤ 62
   outputs_few h =
-      adders_cases profile p (λ a. length a.outputs ≤ 62)
-      (subst (λ k. k ≤ 62)
+      subst (λ k. k ≤ 62)
       (sym (columns_outputs (column_of es) (binary_length (total_weight p)) 0 n []))
-      (binary_length_few (total_weight p) h))
-      (along_tree_outputs es n (omega (arith, weights)))
+      (binary_length_few (total_weight p) h)
 
   pub cells_few : length (adders_as profile p).cells ≤ 63 * length p.soft
   cells_few =
-      let many = relaxed_length (relaxing_of profile) (p.variables + 1) p.soft in
-      adders_cases profile p (λ a. length a.cells ≤ 63 * length p.soft)
-      (of (binary_length (total_weight p)) (length (along_columns es (total_weight p) n).cells)
-      (length es) (binary_length_le (total_weight p))
+      of (binary_length (total_weight p)) (length (adders_as profile p).cells) (length es)
+      (binary_length_le (total_weight p))
       (columns_cells (column_of es) (length es) (length es) (column_le es) (omega arith)
-      (binary_length (total_weight p)) 0 n [] (omega arith)) many)
-      (omega (arith, along_tree_cells es n, many))
+      (binary_length (total_weight p)) 0 n [] (omega arith))
+      (relaxed_length (relaxing_of profile) (p.variables + 1) p.soft)
     where
       of : (b c k : ℕ) → b ≤ 63 → c ≤ b * k → k ≡ length p.soft → c ≤ 63 * length p.soft
       of b c k h l e = omega (arith, mul-le-mul_right k h)
@@ -122,10 +73,8 @@ module _ (profile : Profile) (p : Problem) where
       → AllByRecursion (IsCellWith Q) (adders_as profile p).cells
       × AllByRecursion (IsOutputOf Q) (adders_as profile p).outputs
   adders_with Q h =
-      adders_cases profile p (λ a. ((v : ℕ) → n ≤ v → v < n + 2 * length a.cells → Q v)
-      → AllByRecursion (IsCellWith Q) a.cells × AllByRecursion (IsOutputOf Q) a.outputs)
-      (columns_with Q (column_of es) (binary_length (total_weight p)) 0 n []
-      (λ j. column_of_with Q es j h) tt) (along_tree_with Q es n h)
+      columns_with Q (column_of es) (binary_length (total_weight p)) 0 n []
+      (λ j. column_of_with Q es j h) tt
 
 -- the law of `network_as`
 pub adds_up : (profile : Profile) (p : Problem) → IsInstance p

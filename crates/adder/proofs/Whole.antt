@@ -1,20 +1,16 @@
 -- The columns one by one.
 use Rattle.std.proofs.Common.{◌≡◌, ℕ, suc, ◌+◌, ◌*◌, ◌≤◌, ◌^◌, true, false, List, [], ◌∷◌}
 use Rattle.std.proofs.Common.{◌++◌, length, map, filter, Option, Result, Ok, Err, if◌then◌else◌}
-use Rattle.std.proofs.Common.{refl, sym, ◌∙◌, ap, subst, arith, append_assoc, append-nil}
+use Rattle.std.proofs.Common.{refl, sym, ◌∙◌, ap, subst, arith, append_assoc}
 use Rattle.std.proofs.lemmas.List.{length-append}
 use Rattle.cnf.specs.Literal.{Literal}
 use Rattle.adder.specs.declared.cells.Cell.{Cell}
 use Rattle.adder.specs.declared.relaxations.Relaxation.{Relaxation}
 use Rattle.std.specs.Result.{IfOk}
-use Rattle.adder.specs.Network.{Adders, Relaxed, BinaryNumber, bit, binary_length, column_of}
-use Rattle.adder.specs.Network.{columns_from, along_columns, number_of, rounds, lightest_first}
-use Rattle.adder.specs.Network.{numbers_of, along_tree}
-use Rattle.adder.specs.Parts.{relaxation_of, literals_with, column_from, lightest_numbers}
-use Rattle.adder.specs.Parts.{tree_from}
+use Rattle.adder.specs.Network.{Adders, Relaxed, bit, binary_length, column_of, columns_from}
+use Rattle.adder.specs.Network.{along_columns}
+use Rattle.adder.specs.Parts.{relaxation_of, literals_with, column_from}
 use Rattle.adder.proofs.Variables.{column_fresh}
-use Rattle.adder.proofs.Sorting.{sorted-map}
-use Rattle.adder.proofs.Numbers.{numbers_length}
 
 -- the relaxations make the columns of the soft clauses
 column_kept : (es : List Relaxed) (j : ℕ) → literals_with j (map relaxation_of es) ≡ column_of es j
@@ -48,26 +44,6 @@ pub filled_is : (rs : List Relaxation) (j : ℕ) {rs_read : List Relaxation}
     → filled ≡ emptied ++ literals_with j rs_read → filled ≡ literals_with j rs
 filled_is rs j none read filled = filled ∙ rw (none, read) refl
 
--- and its numbers
-number_map : (es : List Relaxed)
-    → map (λ r. number_of r.lit r.weight) (map relaxation_of es)
-    ≡ map (λ e. number_of e.literal (e.soft).weight) es
-number_map [] = refl
-number_map (e ∷ es) =
-    ap (λ (xs : List BinaryNumber). number_of e.literal (e.soft).weight ∷ xs) (number_map es)
-
-pub numbers_are : (es : List Relaxed) {rs : List Relaxation} → rs ≡ map relaxation_of es
-    → lightest_numbers rs ≡ numbers_of es
-numbers_are es e =
-    ap lightest_numbers e ∙ ap (map (λ (r : Relaxation). number_of r.lit r.weight))
-    (sym (sorted-map relaxation_of (λ r. r.weight) es))
-    ∙ number_map (lightest_first (λ e. (e.soft).weight) es)
-
-pub tree_is : (es : List Relaxed) {rs : List Relaxation} {fresh n : ℕ} → rs ≡ map relaxation_of es
-    → fresh ≡ n → tree_from fresh (lightest_numbers rs) ≡ along_tree es n
-tree_is es {n = n} e f =
-    rw (f, numbers_are es e) (ap (λ k. rounds k n (numbers_of es)) (numbers_length es))
-
 -- what was built, with what the columns that are left give, is the whole, and the variables before
 -- end are enough
 pub record IsBuilding (whole : Adders) (end : ℕ) (column : ℕ → List Literal) (cells : List Cell)
@@ -75,22 +51,6 @@ pub record IsBuilding (whole : Adders) (end : ℕ) (column : ℕ → List Litera
   pub cells_are : cells ++ (columns_from column more j n carries).cells ≡ whole.cells
   pub outputs_are : outputs ++ (columns_from column more j n carries).outputs ≡ whole.outputs
   pub end_is : n + 2 * length (columns_from column more j n carries).cells ≡ end
-
-pub building_starts : (column : ℕ → List Literal) (digits : ℕ) {cells : List Cell}
-    {outputs : List (Option Literal)} {more n : ℕ} {carries : List Literal} → more ≡ digits
-    → outputs ≡ [] → carries ≡ []
-    → IsBuilding (record {
-      cells = cells ++ (columns_from column digits 0 n []).cells;
-      outputs = (columns_from column digits 0 n []).outputs;
-    })
-    (n + 2 * length (columns_from column digits 0 n []).cells) column cells outputs more
-    0 n carries
-building_starts column digits more_is outputs_are carries_are =
-    rw (more_is, outputs_are, carries_are) (record {
-      cells_are = refl;
-      outputs_are = refl;
-      end_is = refl;
-    })
 
 -- the next column
 module _ {whole : Adders} {end : ℕ} {column : ℕ → List Literal} {cells : List Cell}
@@ -127,15 +87,6 @@ module _ {whole : Adders} {end : ℕ} {column : ℕ → List Literal} {cells : L
         outputs_are = append_assoc outputs (sum.output ∷ []) rest.outputs ∙ rw e at h.outputs_are;
         end_is = next_end k e h;
       })
-
-  -- after the last one
-  pub builds_end : more ≡ 0 → IsBuilding whole end column cells outputs more j n carries
-      → (cells ≡ whole.cells) × (outputs ≡ whole.outputs) × (n ≡ end)
-  builds_end e h = (
-    sym (append-nil cells) ∙ rw e at h.cells_are,
-    sym (append-nil outputs) ∙ rw e at h.outputs_are,
-    omega (arith, rw e at h.end_is),
-  )
 
 -- what holds of the one answer that is Ok
 pub if_ok_from : {X E : Type 0} (P : X → Type 0) {x : X} (r : Result X E) → IfOk r (λ y. y ≡ x)

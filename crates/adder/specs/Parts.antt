@@ -1,13 +1,12 @@
 -- What the parts of the building compute.
-use Rattle.std.specs.Prelude.{◌≡◌, ℕ, ◌+◌, List, [], ◌∷◌, ◌++◌, length, map, filter, Option, Some}
+use Rattle.std.specs.Prelude.{◌≡◌, ℕ, List, [], ◌∷◌, ◌++◌, length, map, filter, Option, Some}
 use Rattle.std.specs.Prelude.{None}
 use Rattle.cnf.specs.Literal.{Literal, negation}
 use Rattle.adder.specs.declared.columns.Adder.{Adder}
 use Rattle.adder.specs.declared.profiles.Relaxing.{Relaxing}
 use Rattle.adder.specs.declared.profiles.Relaxing.TheVariants.{EachByVariable, UnitsByNegation}
 use Rattle.adder.specs.declared.relaxations.Relaxation.{Relaxation}
-use Rattle.adder.specs.Network.{Adders, Relaxed, Column, BinaryNumber, bit, added_up, number_of}
-use Rattle.adder.specs.Network.{lightest_first, rounds}
+use Rattle.adder.specs.Network.{Relaxed, Column, bit, added_up}
 
 -- the relaxation literal of a clause that takes no fresh variable
 abbrev pub own_relaxation : Relaxing → List Literal → Option Literal
@@ -40,19 +39,3 @@ pub record AddsColumn (old new : Adder) (carried column : List Literal) (answer 
   pub cells : new.cells.items ≡ old.cells.items ++ (column_from old.fresh column).cells
   pub carries : new.carries.items ≡ carried ++ (column_from old.fresh column).carries
   pub fresh : new.fresh ≡ (column_from old.fresh column).fresh
-
--- the weights as numbers, and light ones first
-abbrev pub numbers_with : List Relaxation → List BinaryNumber
-numbers_with rs = map (λ r. number_of r.lit r.weight) rs
-
-abbrev pub lightest_numbers : List Relaxation → List BinaryNumber
-lightest_numbers rs = numbers_with (lightest_first (λ r. r.weight) rs)
-
--- the most that numbers can be together
-abbrev pub most_of : List BinaryNumber → ℕ
-most_of [] = 0
-most_of (x ∷ xs) = x.most + most_of xs
-
--- the numbers added up to their end, with the variables from n on
-abbrev pub tree_from : ℕ → List BinaryNumber → Adders
-tree_from n xs = rounds (length xs) n xs

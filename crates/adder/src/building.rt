@@ -1,4 +1,4 @@
-// Building the network of an instance, column by column or along a tree.
+// Building the network of an instance, column by column.
 ghost use Rattle.std.specs.Prelude.{◌≡◌, ◌+◌, ◌*◌, ◌≤◌, [], length, IfOk};
 ghost use Rattle.cnf.specs.declared.limits.TheConstants.{FORMULA_VARIABLE_LIMIT};
 ghost use Rattle.adder.specs.Network.{columns_from, adders_as, AddsUp};
@@ -6,9 +6,8 @@ ghost use Rattle.adder.specs.Parts.{literals_with};
 
 use crate::columns::{Adder, push_bit};
 use crate::networks::Network;
-use crate::profiles::{Adding, Profile};
+use crate::profiles::Profile;
 use crate::relaxations::Relaxations;
-use crate::trees::add_tree;
 use cnf::types::Instance;
 use std::alloc::{AllocError, Global};
 
@@ -31,13 +30,8 @@ pub fn network(instance: &Instance) -> Result<Network, AllocError>
 /// more, the first three go into a full adder, and of two both go into a half adder; the sum goes
 /// to the back of the column and the carry to the back of the next one.
 ///
-/// In `Profile::One` and `Profile::Two` the column of 2^j holds at first, in the order of the soft
-/// clauses, the relaxation literals of the weights with the binary digit j, and the columns are
-/// added up from the lowest on. In `Profile::Four` and `Profile::Five`, where the network stands in
-/// for sums that take too many clauses, each weight is a number of its own. By rising weight, and in
-/// the order of the soft clauses where weights are equal, these are added in pairs, an odd one is
-/// left for the next round, and rounds follow until one number is left: a column has the bits of
-/// two numbers.
+/// The column of 2^j holds at first, in the order of the soft clauses, the relaxation literals of
+/// the weights with the binary digit j, and the columns are added up from the lowest on.
 ///
 /// # Errors
 ///
@@ -48,10 +42,7 @@ pub fn network_as(instance: &Instance, profile: Profile) -> Result<Network, Allo
 {
     let alloc = instance.allocator();
     let relaxations = Relaxations::of(instance, profile)?;
-    match profile.adding() {
-        Adding::Columns => add_columns(alloc, &relaxations),
-        Adding::Sums => add_tree(alloc, relaxations),
-    }
+    add_columns(alloc, &relaxations)
 }
 
 fn add_columns(alloc: Global, relaxations: &Relaxations) -> Result<Network, AllocError>

@@ -7,4 +7,3 @@ mod columns;
 pub mod networks;
 pub mod profiles;
 pub mod relaxations;
-mod trees;

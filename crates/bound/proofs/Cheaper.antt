@@ -1,10 +1,10 @@
 -- The formula says that there is a cheaper solution.
 use Rattle.std.proofs.Common.{◌≡◌, ℕ, ◌+◌, ◌^◌, ◌<◌, ◌≤◌, Bool, true, false, not, ◌&&◌, ◌||◌, List}
-use Rattle.std.proofs.Common.{[], ◌∷◌, ◌++◌, map, filter, sum_by, nat_le, nat_lt, if◌then◌else◌}
+use Rattle.std.proofs.Common.{[], ◌∷◌, ◌++◌, map, filter, sum_by, nat_lt, if◌then◌else◌}
 use Rattle.std.proofs.Common.{All, refl}
 use Rattle.std.proofs.Common.{sym, ◌∙◌, ap, subst, arith}
 use Rattle.std.specs.List.{AllByRecursion, flat_map}
-use Rattle.std.proofs.lemmas.Bool.{false≢true, and_parts, and_from, lt-ltb, ltb-true, leb-true}
+use Rattle.std.proofs.lemmas.Bool.{false≢true, and_parts, and_from, lt-ltb, ltb-true}
 use Rattle.std.proofs.lemmas.List.Folds.{list_all-append, list_any-append}
 use Rattle.std.proofs.lemmas.List.Sums.{sum_by-cons, sum_by-le-sum_by}
 use Rattle.std.proofs.lemmas.List.Elements.{recursion_from_All, All-from_recursion, All-weaker}
@@ -21,13 +21,8 @@ use Rattle.adder.specs.Network.{adders_as, total_weight, value_of, IsCellOf, Sam
 use Rattle.adder.proofs.Laws.{relaxed_cases, relaxed_soft}
 use Rattle.adder.proofs.Laws.{AreRelaxedBelow, IsRelaxedTightly, relaxed_below}
 use Rattle.adder.proofs.Laws.{relaxed_choice, clause_same, literal_same, outputs_sum, cells_extend}
-use Rattle.sums.specs.Sums.{Node, SumsSayCheaper, cheaper_clauses, comparator, relaxed}
-use Rattle.bound.specs.declared.additions.Addition.{Addition}
-use Rattle.bound.specs.declared.additions.Addition.TheVariants.{Network, Sums}
-use Rattle.bound.specs.Bound.{kept, cell_clauses, relaxed_clauses, comparator_of, comparator_over}
+use Rattle.bound.specs.Bound.{kept, cell_clauses, relaxed_clauses, comparator_of, bound_as}
 use Rattle.bound.specs.Bound.{SaysCheaper}
-use Rattle.bound.proofs.Addition.{AreSumsOf, clauses_with, addition_cases, sums_cheaper}
-use Rattle.bound.proofs.Addition.{sums_relaxed}
 use Rattle.bound.proofs.Clauses.{all_true, all_true-from, from_all_true, all_true-kept, value-no}
 use Rattle.bound.proofs.Adders.{cell_holds, holds_cell}
 use Rattle.bound.proofs.Comparator.{comparator_true}
@@ -58,12 +53,8 @@ parts_true t a b c d = list_all-append (clause_value t) (a ++ b ++ c) d
     ∙ ap (λ x. x && all_true t d) (list_all-append (clause_value t) (a ++ b) c
     ∙ ap (λ x. x && all_true t c) (list_all-append (clause_value t) a b))
 
--- the formula with a network
-abbrev with_network : Profile → Problem → ℕ → List (List Literal)
-with_network profile p k = clauses_with profile p (Network (adders_as profile p)) k
-
 formula_true : (profile : Profile) (p : Problem) (k : ℕ) (t : Assignment)
-    → all_true t (with_network profile p k)
+    → all_true t (bound_as profile p k).clauses
     ≡ (all_true t p.hard && all_true t (relaxed_clauses profile p) && all_true t
     (flat_map cell_clauses (adders_as profile p).cells) && nat_lt
     (value_of t (adders_as profile p).outputs) k)
@@ -213,11 +204,11 @@ clauses_same n t u (c ∷ cs) same h =
     cs same h.1 i
 
 module _ (profile : Profile) (p : Problem) (k : ℕ) (small : total_weight p < 2 ^ 63) where
-  cheaper_to : (t : Assignment) → All (Satisfies t) (with_network profile p k)
+  cheaper_to : (t : Assignment) → All (Satisfies t) (bound_as profile p k).clauses
       → IsFeasible p t × (cost_under p t < k)
   cheaper_to t h =
       let whole = sym (formula_true profile p k t)
-      ∙ all_true-from t (with_network profile p k) h in
+      ∙ all_true-from t (bound_as profile p k).clauses h in
       let hard = all_true t p.hard in
       let relaxed = all_true t (relaxed_clauses profile p) in
       let cells = all_true t (flat_map cell_clauses (adders_as profile p).cells) in
@@ -240,7 +231,7 @@ module _ (profile : Profile) (p : Problem) (k : ℕ) (small : total_weight p < 2
       → AllByRecursion (λ c. greatest_variable c ≤ p.variables) p.hard → (u : Assignment)
       → IsFeasible p u → cost_under p u < k
       → (t : Assignment) × SameUpTo p.variables u t
-      × All (Satisfies t) (with_network profile p k)
+      × All (Satisfies t) (bound_as profile p k).clauses
   cheaper_from soft hard u feasible lt =
       let n = p.variables in
       let m = relaxed_variables profile p in
@@ -261,7 +252,7 @@ module _ (profile : Profile) (p : Problem) (k : ℕ) (small : total_weight p < 2
       lt-ltb _ k (subst (λ x. x < k) (sym sum) lt) in (
         t,
         same,
-        from_all_true t (with_network profile p k) (formula_true profile p k t
+        from_all_true t (bound_as profile p k).clauses (formula_true profile p k t
             ∙ and_from _ _ (and_from _ _ (and_from _ _
             (clauses_same n u t p.hard same hard ∙ all_true-from u p.hard feasible)
             (tight_clauses t es tight))
@@ -279,79 +270,6 @@ cost_below p t =
     part true w = omega arith
     part false w = omega arith
 
--- the formula with sums
-module _ (profile : Profile) (p : Problem) (k : ℕ) (n : Node) (s : AreSumsOf profile p n)
-    (h : IsInstance p) where
-  law : SumsSayCheaper p n k
-  law = sums_cheaper profile p n s k h
-
-  with_sums_true : (t : Assignment) → all_true t (clauses_with profile p (Sums n) k)
-      ≡ (all_true t p.hard && all_true t (relaxed p) && all_true t n.clauses && all_true t
-      (comparator_over (Sums n) k))
-  with_sums_true t =
-      parts_true t (kept p.hard) (kept (relaxed_clauses profile p)) (kept n.clauses)
-      (comparator_over (Sums n) k)
-      ∙ (λ i. all_true-kept t p.hard i && (all_true-kept t (relaxed_clauses profile p)
-      ∙ ap (all_true t) (sums_relaxed profile p n s)) i && all_true-kept t n.clauses i && all_true t
-      (comparator_over (Sums n) k))
-
-  compared_true : (t : Assignment) → all_true t (comparator n k) ≡ true
-      → all_true t (comparator_over (Sums n) k) ≡ true
-  compared_true t e =
-      elim (nat_le (2 ^ 62) k)
-      as (λ b. all_true t (if b then [] else kept (comparator n k)) ≡ true) [
-        | true ↦ refl
-        | false ↦ all_true-kept t (comparator n k) ∙ e
-      ]
-
-  sums_to : (t : Assignment) → All (Satisfies t) (clauses_with profile p (Sums n) k)
-      → IsFeasible p t × (cost_under p t < k)
-  sums_to t g =
-      let whole = sym (with_sums_true t)
-      ∙ all_true-from t (clauses_with profile p (Sums n) k) g in
-      let fixed = all_true t p.hard && all_true t (relaxed p) && all_true t n.clauses in
-      let last = and_parts fixed (all_true t (comparator_over (Sums n) k)) whole in
-      elim (nat_le (2 ^ 62) k) as (λ b. nat_le (2 ^ 62) k ≡ b
-      → all_true t (if b then [] else kept (comparator n k)) ≡ true
-      → IsFeasible p t × (cost_under p t < k)) [
-        | true ↦ λ e f. (
-          from_all_true t p.hard (and_parts (all_true t p.hard) (all_true t (relaxed p))
-              (and_parts (all_true t p.hard && all_true t (relaxed p)) (all_true t n.clauses)
-              last.0).0).0,
-          omega (arith, cost_below p t, h.weight_sum, leb-true (2 ^ 62) k e),
-        )
-        | false ↦ λ e f. law.to t (from_all_true t (cheaper_clauses p n k)
-            (parts_true t p.hard (relaxed p) n.clauses (comparator n k)
-            ∙ and_from fixed (all_true t (comparator n k)) last.0
-            (sym (all_true-kept t (comparator n k)) ∙ f)))
-      ] refl last.1
-
-  sums_from : (u : Assignment) → IsFeasible p u → cost_under p u < k
-      → (t : Assignment) × SameUpTo p.variables u t
-      × All (Satisfies t) (clauses_with profile p (Sums n) k)
-  sums_from u feasible lt =
-      let r = law.from u feasible lt in
-      let t = r.0 in
-      let fixed = all_true t p.hard && all_true t (relaxed p) && all_true t n.clauses in
-      let parts =
-      and_parts fixed (all_true t (comparator n k))
-      (sym (parts_true t p.hard (relaxed p) n.clauses (comparator n k))
-      ∙ all_true-from t (cheaper_clauses p n k) r.2) in (
-        t,
-        r.1,
-        from_all_true t (clauses_with profile p (Sums n) k) (with_sums_true t
-            ∙ and_from fixed (all_true t (comparator_over (Sums n) k)) parts.0
-            (compared_true t parts.1)),
-      )
-
--- what the law says of the clauses with an addition
-record SaysWith (profile : Profile) (p : Problem) (k : ℕ) (a : Addition) : Type 0 where
-  to : (t : Assignment) → All (Satisfies t) (clauses_with profile p a k)
-      → IsFeasible p t × (cost_under p t < k)
-  from : (u : Assignment) → IsFeasible p u → cost_under p u < k
-      → (t : Assignment) × SameUpTo p.variables u t
-      × All (Satisfies t) (clauses_with profile p a k)
-
 -- the law of `formula_as`, for each bound
 pub says_cheaper : (profile : Profile) (p : Problem) (k : ℕ) → IsInstance p
     → SaysCheaper profile p k
@@ -365,11 +283,7 @@ says_cheaper profile p k h =
     recursion_from_All _ p.hard
     (All-weaker (IsClauseWithin p.variables) (λ c. greatest_variable c ≤ p.variables)
     (λ c w. w.2) p.hard h.hard_clauses) in
-    let says =
-    addition_cases profile p (SaysWith profile p k)
-    (record {
+    record {
       to = cheaper_to profile p k small;
       from = cheaper_from profile p k small soft hard;
-    })
-    (λ n s. record { to = sums_to profile p k n s h; from = sums_from profile p k n s h }) in
-    record { to = says.to; from = says.from }
+    }

@@ -1,11 +1,11 @@
 -- A comparator covers those of larger bounds.
 use Rattle.std.proofs.Common.{◌≡◌, ℕ, zero, suc, ◌+◌, ◌/◌, ◌%◌, ◌^◌, ◌<◌, ◌≤◌, Bool, true, false}
 use Rattle.std.proofs.Common.{List, [], ◌∷◌, Option, Some, None, ◌==◌, if◌then◌else◌, inl, inr}
-use Rattle.std.proofs.Common.{nat_le, All, refl, sym, ◌∙◌, ap, subst, arith}
+use Rattle.std.proofs.Common.{refl, sym, ◌∙◌, ap, subst, arith}
 use Rattle.std.specs.List.{AllByRecursion}
-use Rattle.std.proofs.lemmas.Bool.{or_left, or_right, cases_eq, ne_eqb, lt-leb, leb-false}
+use Rattle.std.proofs.lemmas.Bool.{or_left, or_right, cases_eq, ne_eqb}
 use Rattle.std.proofs.lemmas.Nat.{shr-shr}
-use Rattle.std.proofs.lemmas.List.Elements.{All-from_recursion, recursion_from_All}
+use Rattle.std.proofs.lemmas.List.Elements.{All-from_recursion}
 use Rattle.std.proofs.lemmas.List.Folds.{list_any-append}
 use Rattle.cnf.specs.Numbers.{one_if}
 use Rattle.cnf.specs.Literal.{Literal}
@@ -13,12 +13,6 @@ use Rattle.cnf.specs.Clause.{is_subset, IsCovered}
 use Rattle.adder.specs.Network.{bit}
 use Rattle.adder.proofs.Laws.{digit}
 use Rattle.bound.specs.Bound.{no, above, rising_clauses, comparator_of, CoversLarger}
-use Rattle.sums.specs.Sums.{comparator}
-use Rattle.sums.proofs.Laws.{covers_larger as sums_cover}
-use Rattle.bound.specs.declared.additions.Addition.{Addition}
-use Rattle.bound.specs.declared.additions.Addition.TheVariants.{Network, Sums}
-use Rattle.bound.specs.Bound.{kept, comparator_over, CoversLargerOver}
-use Rattle.bound.proofs.Subsets.{kept_each}
 use Rattle.bound.proofs.Subsets.{covers, covers_more, subset_self, AreCovered, covered_kept}
 
 rest_same : (m n j : ℕ) → m / 2 ^ j ≡ n / 2 ^ j → m / 2 ^ (j + 1) ≡ n / 2 ^ (j + 1)
@@ -174,24 +168,3 @@ covers_larger outputs (suc m) (suc n) le =
     All-from_recursion (IsCovered (comparator_of outputs (suc m))) (comparator_of outputs (suc n))
     (covered_kept (rising_clauses outputs m 0) (rising_clauses outputs n 0)
     (rising_covered m n outputs 0 (omega arith)))
-
--- the law of `comparator_as`
-pub covers_larger_over : (a : Addition) (k : ℕ) → CoversLargerOver a k
-covers_larger_over (Network n) k larger le = covers_larger n.outputs k larger le
-covers_larger_over (Sums n) k larger le =
-    elim (nat_le (2 ^ 62) larger) as (λ b. nat_le (2 ^ 62) larger ≡ b
-    → All (IsCovered (comparator_over (Sums n) k)) (if b then [] else kept (comparator n larger))) [
-      | true ↦ λ e i d l. absurd (omega arith)
-      | false ↦ λ e.
-          let below : nat_le (2 ^ 62) k ≡ false = lt-leb (2 ^ 62) k (omega (
-            arith,
-            leb-false (2 ^ 62) larger e,
-          )) in
-          let same : kept (comparator n k) ≡ comparator_over (Sums n) k =
-          ap (λ b. if b then [] else kept (comparator n k)) (sym below) in
-          subst (λ cs. All (IsCovered cs) (kept (comparator n larger))) same
-          (All-from_recursion (IsCovered (kept (comparator n k))) (kept (comparator n larger))
-          (kept_each (comparator n k) (comparator n larger)
-          (recursion_from_All (IsCovered (comparator n k)) (comparator n larger)
-          (sums_cover n k larger le))))
-    ] refl

@@ -1,5 +1,4 @@
 -- How many clauses there are, and none without a bound.
-use Rattle.std.proofs.Common.{nat_le, if◌then◌else◌}
 use Rattle.std.proofs.Common.{◌≡◌, ℕ, zero, suc, ◌+◌, ◌-◌, ◌*◌, ◌/◌, ◌%◌, ◌^◌, ◌<◌, ◌≤◌, true}
 use Rattle.std.proofs.Common.{false, not, List, [], ◌∷◌, ◌++◌, length, map, filter, reverse, Option}
 use Rattle.std.proofs.Common.{Some, None, refl, sym, ap, subst, arith}
@@ -16,12 +15,7 @@ use Rattle.adder.specs.declared.profiles.Profile.{Profile}
 use Rattle.adder.specs.Network.{Relaxed, bit, relaxed_as, adders_as}
 use Rattle.adder.proofs.Laws.{filter_le, fresh_few, outputs_few, cells_few}
 use Rattle.bound.specs.Bound.{kept, hard_cnf, cell_clauses, relaxed_clauses, above, rising_clauses}
-use Rattle.bound.specs.Bound.{comparator_of, comparator_over, comparator_for, bound_as}
-use Rattle.bound.specs.Bound.{addition_clauses}
-use Rattle.sums.specs.Sums.{Node, comparator}
-use Rattle.bound.specs.declared.additions.Addition.{Addition}
-use Rattle.bound.specs.declared.additions.Addition.TheVariants.{Network, Sums}
-use Rattle.bound.proofs.Addition.{clauses_with, addition_cases, sums_few}
+use Rattle.bound.specs.Bound.{comparator_of, comparator_for, bound_as}
 
 pub kept_le : (cs : List (List Literal)) → length (kept cs) ≤ length cs
 kept_le cs =
@@ -77,69 +71,44 @@ comparator_le outputs (suc limit) =
 pub hard_few : (p : Problem) → IsInstance p → length (hard_cnf p).clauses < 2 ^ 28
 hard_few p h = omega (arith, kept_le p.hard, h.hard_count)
 
-pub relaxed_few : (profile : Profile) (p : Problem)
-    → length (kept (relaxed_clauses profile p)) ≤ length p.soft
-relaxed_few profile p =
-    omega (
+pub clauses_few : (profile : Profile) (p : Problem) (k : ℕ) → IsInstance p
+    → length (bound_as profile p k).clauses < 2 ^ 28
+clauses_few profile p k h =
+    let hard = kept p.hard in
+    let relaxed = kept (relaxed_clauses profile p) in
+    let cells = kept (flat_map cell_clauses (adders_as profile p).cells) in
+    let last = comparator_for profile p k in
+    room (length hard) (length relaxed) (length cells) (length last) (length p.soft)
+    (length (adders_as profile p).cells) (length (bound_as profile p k).clauses)
+    (omega (arith, kept_le p.hard, h.hard_count))
+    (omega (
       arith,
       kept_le (relaxed_clauses profile p),
       length-map (filter (λ (e : Relaxed). e.is_fresh) (relaxed_as profile p))
           (λ e. (e.soft).clause ++ e.literal ∷ []),
       fresh_few profile p,
-    )
-
--- so few clauses, of each kind
-all_few : (profile : Profile) (p : Problem) (a : Addition) (k : ℕ) → IsInstance p
-    → length (addition_clauses a) ≤ 14 * 63 * 2 ^ 18 → length (comparator_over a k) ≤ 2 ^ 20
-    → length (clauses_with profile p a k) < 2 ^ 28
-all_few profile p a k h few less =
-    let hard = kept p.hard in
-    let relaxed = kept (relaxed_clauses profile p) in
-    let added = addition_clauses a in
-    let last = comparator_over a k in
-    omega (
-      arith,
-      few,
-      less,
-      kept_le p.hard,
-      relaxed_few profile p,
-      h.hard_count,
-      h.soft_count,
-      length-append (hard ++ relaxed ++ added) last,
-      length-append (hard ++ relaxed) added,
-      length-append hard relaxed,
-    )
-
-sums_short : (n : Node) (k m : ℕ) → length (comparator n k) ≤ m
-    → length (comparator_over (Sums n) k) ≤ m
-sums_short n k m le =
-    elim (nat_le (2 ^ 62) k) as (λ b. length (if b then [] else kept (comparator n k)) ≤ m) [
-      | true ↦ omega arith
-      | false ↦ omega (arith, kept_le (comparator n k))
-    ]
-
-pub clauses_few : (profile : Profile) (p : Problem) (k : ℕ) → IsInstance p
-    → length (bound_as profile p k).clauses < 2 ^ 28
-clauses_few profile p k h =
-    addition_cases profile p (λ a. length (clauses_with profile p a k) < 2 ^ 28)
-    (all_few profile p (Network (adders_as profile p)) k h
-    (cells_room (omega (
+    ))
+    (omega (
       arith,
       kept_le (flat_map cell_clauses (adders_as profile p).cells),
       cells_le (adders_as profile p).cells,
-    )) (cells_few profile p) h.soft_count)
+    ))
     (omega (
       arith,
       comparator_le (adders_as profile p).outputs k,
       outputs_few profile p h.weight_sum,
-    )))
-    (λ n s.
-    let small = sums_few profile p n s in
-    all_few profile p (Sums n) k h (omega (arith, kept_le n.clauses, small.clauses))
-    (sums_short n k (2 ^ 20) (omega (arith, small.comparators k))))
+    ))
+    h.soft_count (cells_few profile p)
+    (omega (
+      arith,
+      length-append (hard ++ relaxed ++ cells) last,
+      length-append (hard ++ relaxed) cells,
+      length-append hard relaxed,
+    ))
   where
-    cells_room : {c m n : ℕ} → c ≤ 14 * m → m ≤ 63 * n → n ≤ 2 ^ 18 → c ≤ 14 * 63 * 2 ^ 18
-    cells_room h i j = omega arith
+    room : (a b c d n m w : ℕ) → a ≤ 2 ^ 22 → b ≤ n → c ≤ 14 * m → d ≤ 63 → n ≤ 2 ^ 18 → m ≤ 63 * n
+        → w ≡ a + b + c + d → w < 2 ^ 28
+    room a b c d n m w h i j k l o e = omega arith
 
 -- a limit of ones has no clause
 rising_none : (w : ℕ) (outputs : List (Option Literal)) (j : ℕ) → j + length outputs ≤ w
@@ -159,7 +128,5 @@ pub without_bound : (profile : Profile) (p : Problem) → IsInstance p
     → comparator_for profile p (2 ^ 62) ≡ []
 without_bound profile p h =
     let os = (adders_as profile p).outputs in
-    addition_cases profile p (λ a. comparator_over a (2 ^ 62) ≡ [])
-    (comparator_none os (2 ^ 62 - 1) (2 ^ 62) refl
-    (rising_none 62 os 0 (omega (arith, outputs_few profile p h.weight_sum))))
-    (λ n s. refl)
+    comparator_none os (2 ^ 62 - 1) (2 ^ 62) refl
+    (rising_none 62 os 0 (omega (arith, outputs_few profile p h.weight_sum)))

@@ -1,9 +1,8 @@
 -- The formulas have clauses with no repeat, no complementary literals and variables within their
 -- number.
 use Rattle.std.proofs.Common.{◌≡◌, ℕ, zero, suc, ◌+◌, ◌*◌, ◌^◌, ◌<◌, ◌≤◌, true, false, not}
-use Rattle.std.proofs.Common.{◌-◌, sym, List, [], ◌∷◌, ◌++◌, length, map, filter, reverse, Option}
-use Rattle.std.proofs.Common.{Some, None}
-use Rattle.std.proofs.Common.{if◌then◌else◌, refl, All, subst, arith}
+use Rattle.std.proofs.Common.{List, [], ◌∷◌, ◌++◌, length, map, filter, reverse, Option, Some, None}
+use Rattle.std.proofs.Common.{if◌then◌else◌, refl, All, arith}
 use Rattle.std.specs.List.{AllByRecursion, flat_map}
 use Rattle.std.proofs.lemmas.List.Elements.{recursion_from_All, All-from_recursion, All-append}
 use Rattle.cnf.specs.Literal.{Literal}
@@ -16,22 +15,17 @@ use Rattle.adder.specs.declared.cells.Cell.{Cell}
 use Rattle.adder.specs.declared.profiles.Profile.{Profile}
 use Rattle.adder.specs.Network.{relaxing_of, Relaxed, relaxed_as, relaxed_variables, adders_as}
 use Rattle.adder.proofs.Laws.{adders_with, adds_up, AreOf, IsOutputOf, IsCellWith, relaxed_with}
-use Rattle.sums.specs.Sums.{HaveVariables, comparator}
-use Rattle.bound.specs.declared.additions.Addition.{Addition}
-use Rattle.bound.specs.declared.additions.Addition.TheVariants.{Network, Sums}
-use Rattle.bound.specs.Adding.{HasVariables, HasRoom, IsFit}
-use Rattle.bound.specs.Bound.{kept, hard_cnf, cell_clauses, relaxed_clauses, addition_as}
-use Rattle.bound.specs.Bound.{rising_clauses, comparator_of, addition_clauses, comparator_over}
-use Rattle.bound.specs.Bound.{last_variable, bound_as}
+use Rattle.bound.specs.Adding.{HasVariables}
+use Rattle.bound.specs.Bound.{kept, hard_cnf, cell_clauses, relaxed_clauses, rising_clauses}
+use Rattle.bound.specs.Bound.{comparator_of, fixed_clauses, comparator_for, bound_as}
 use Rattle.bound.proofs.Subsets.{all_reverse}
-use Rattle.bound.proofs.Addition.{clauses_with, addition_cases, sums_few, sums_variables}
-use Rattle.bound.proofs.Compared.{AreCompared, distinct_of, rising_of, named_of, over_sums}
+use Rattle.bound.proofs.Compared.{distinct_of, rising_of}
 
 -- a variable from 1 to v
 abbrev pub IsVariable : ℕ → ℕ → Type 0
 IsVariable v n = (0 < n) × (n ≤ v)
 
-abbrev pub IsPlain : ℕ → List Literal → Type 0
+abbrev IsPlain : ℕ → List Literal → Type 0
 IsPlain v c = AreOf (IsVariable v) c
 
 plain_greatest : (v : ℕ) (c : List Literal) → IsPlain v c → greatest_variable c ≤ v
@@ -42,13 +36,13 @@ plain_positive : (v : ℕ) (c : List Literal) → IsPlain v c → AllByRecursion
 plain_positive v [] h = tt
 plain_positive v (l ∷ c) h = (h.0.0, plain_positive v c h.1)
 
-pub within_plain : (n v : ℕ) (c : List Literal) → n ≤ v → AllByRecursion (λ l. 0 < l.variable) c
+within_plain : (n v : ℕ) (c : List Literal) → n ≤ v → AllByRecursion (λ l. 0 < l.variable) c
     → greatest_variable c ≤ n → IsPlain v c
 within_plain n v [] le h g = tt
 within_plain n v (l ∷ c) le h g = ((h.0, omega arith), within_plain n v c le h.1 (omega arith))
 
 -- clauses of such variables are clauses of a formula, as they are kept
-pub kept_formula : (v : ℕ) (cs : List (List Literal)) → AllByRecursion (IsPlain v) cs
+kept_formula : (v : ℕ) (cs : List (List Literal)) → AllByRecursion (IsPlain v) cs
     → AllByRecursion (IsFormulaClause v) (kept cs)
 kept_formula v [] h = tt
 kept_formula v (c ∷ cs) h =
@@ -154,7 +148,7 @@ relaxed_plain v (e ∷ es) h =
     ]
 
 -- the comparator's clauses, where the outputs are such variables
-pub comparator_formula : (v : ℕ) (outputs : List (Option Literal)) (k : ℕ)
+comparator_formula : (v : ℕ) (outputs : List (Option Literal)) (k : ℕ)
     → AllByRecursion (IsOutputOf (IsVariable v)) outputs
     → AllByRecursion (IsFormulaClause v) (comparator_of outputs k)
 comparator_formula v outputs zero h = (
@@ -238,7 +232,7 @@ network_variables profile p h =
     adders_with profile p (IsVariable v) (literals_of v es relaxed)
     (λ x l u. (omega arith, omega arith))
 
--- the hard clauses and the soft ones, whatever adds up the weights
+-- the hard clauses and the soft ones
 pub given_formula : (profile : Profile) (p : Problem) (v : ℕ) → IsInstance p
     → relaxed_variables profile p ≤ v
     → AllByRecursion (IsFormulaClause v) (kept p.hard ++ kept (relaxed_clauses profile p))
@@ -256,52 +250,27 @@ given_formula profile p v h le =
     (recursion_from_All (IsClauseWithin n) p.hard h.hard_clauses)))
     (kept_formula v (relaxed_clauses profile p) (relaxed_plain v (relaxed_as profile p) relaxed))
 
--- with clauses that add up, and a comparator
-with_formula : (profile : Profile) (p : Problem) (a : Addition) (k v : ℕ) → IsInstance p
-    → relaxed_variables profile p ≤ v → v < 2 ^ 26
-    → AllByRecursion (IsFormulaClause v) (addition_clauses a)
-    → AllByRecursion (IsFormulaClause v) (comparator_over a k)
-    → IsFormula (record { variables = v; clauses = clauses_with profile p a k })
-with_formula profile p a k v h le small added compared =
-    let P = IsFormulaClause v in
-    let given = kept p.hard ++ kept (relaxed_clauses profile p) in
-    record {
-      few = small;
-      clauses =
-          All-from_recursion P (clauses_with profile p a k)
-          (all_append P (given ++ addition_clauses a) (comparator_over a k)
-          (all_append P given (addition_clauses a) (given_formula profile p v h le) added)
-          compared);
-    }
-
-sums_plain : (last fresh : ℕ) (cs : List (List Literal)) → HaveVariables last fresh cs
-    → AllByRecursion (IsPlain (fresh - 1)) cs
-sums_plain last fresh cs h =
-    named_of (IsVariable (fresh - 1)) last fresh (λ v l u. (omega arith, omega arith)) cs h
-
 -- what `Formula::new` asks of the formula
 pub bound_is_formula : (profile : Profile) (p : Problem) (k : ℕ) → IsInstance p
     → IsFormula (bound_as profile p k)
 bound_is_formula profile p k h =
-    let m = relaxed_variables profile p in
-    addition_cases profile p
-    (λ a. IsFormula
-    (record { variables = last_variable m a; clauses = clauses_with profile p a k }))
-    (let adders = adders_as profile p in
-    let v = m + 2 * length adders.cells in
+    let adders = adders_as profile p in
+    let v = relaxed_variables profile p + 2 * length adders.cells in
     let network = network_variables profile p h in
-    with_formula profile p (Network adders) k v h (omega arith) (adds_up profile p h).small.0
+    let P = IsFormulaClause v in
+    let given = kept p.hard ++ kept (relaxed_clauses profile p) in
+    let fixed =
+    all_append P given (kept (flat_map cell_clauses adders.cells))
+    (given_formula profile p v h (omega arith))
     (kept_formula v (flat_map cell_clauses adders.cells) (cells_plain v adders.cells network.0))
-    (comparator_formula v adders.outputs k network.1))
-    (λ n s.
-    let few = sums_few profile p n s in
-    let v = n.fresh - 1 in
-    with_formula profile p (Sums n) k v h (omega (arith, few.from, sums_variables profile p n s))
-    (omega (arith, few.to, h.variables, h.soft_count))
-    (kept_formula v n.clauses (sums_plain p.variables n.fresh n.clauses few.variables))
-    (over_sums (IsFormulaClause v) n k
-    (kept_formula v (comparator n k)
-    (sums_plain p.variables n.fresh (comparator n k) (few.compared k)))))
+    in
+    record {
+      few = (adds_up profile p h).small.0;
+      clauses =
+          All-from_recursion P (bound_as profile p k).clauses
+          (all_append P (fixed_clauses profile p) (comparator_for profile p k) fixed
+          (comparator_formula v adders.outputs k network.1));
+    }
 
 -- the sums and the carries of the cells are variables
 pub cells_variables : (profile : Profile) (p : Problem) → IsInstance p
@@ -327,49 +296,15 @@ pub outputs_variables : (profile : Profile) (p : Problem) → IsInstance p
     (adders_as profile p).outputs
 outputs_variables profile p h = (network_variables profile p h).1
 
--- what is asked where the clauses are made
-pub addition_fits : (profile : Profile) (p : Problem) → IsInstance p → IsFit (addition_as profile p)
-addition_fits profile p h =
-    addition_cases profile p IsFit
-    (record { cells = cells_variables profile p h; few = (adds_up profile p h).small.1 })
-    (λ n s. (sums_few profile p n s).clauses)
-
-pub addition_room : (profile : Profile) (p : Problem) (last : ℕ) (a : Addition) → IsInstance p
-    → last ≡ relaxed_variables profile p → a ≡ addition_as profile p → HasRoom last a
-addition_room profile p last a h counted same =
-    let room : HasRoom (relaxed_variables profile p) (addition_as profile p) =
-    addition_cases profile p (HasRoom (relaxed_variables profile p)) (adds_up profile p h).small.0
-    (λ n s. omega (arith, (sums_few profile p n s).from)) in
-    subst (HasRoom last) (sym same)
-    (subst (λ m. HasRoom m (addition_as profile p)) (sym counted) room)
-
--- the variables of which comparators speak are those of the formula
-pub addition_variables : (profile : Profile) (p : Problem) (k : ℕ) → IsInstance p
-    → AreCompared (IsVariable (bound_as profile p k).variables) p (addition_as profile p)
-addition_variables profile p k h =
-    addition_cases profile p
-    (λ a. AreCompared (IsVariable (last_variable (relaxed_variables profile p) a)) p a)
-    (outputs_variables profile p h) (λ n s v l u. (omega arith, omega arith))
-
 -- no clause has a repeat
-addition_once : (a : Addition) → All (λ c. has_repeat c ≡ false) (addition_clauses a)
-addition_once (Network n) = kept_once (flat_map cell_clauses n.cells)
-addition_once (Sums n) = kept_once n.clauses
-
-pub compared_once : (a : Addition) (k : ℕ) → All (λ c. has_repeat c ≡ false) (comparator_over a k)
-compared_once (Network n) k = comparator_once n.outputs k
-compared_once (Sums n) k =
-    All-from_recursion IsOnce (comparator_over (Sums n) k)
-    (over_sums IsOnce n k (once_kept (comparator n k)))
-
 pub bound_once : (profile : Profile) (p : Problem) (k : ℕ)
     → All (λ c. has_repeat c ≡ false) (bound_as profile p k).clauses
 bound_once profile p k =
-    let a = addition_as profile p in
-    join (hard ++ relaxed ++ addition_clauses a) (comparator_over a k)
-    (join (hard ++ relaxed) (addition_clauses a)
+    join (hard ++ relaxed ++ cells) (comparator_for profile p k)
+    (join (hard ++ relaxed) cells
     (join hard relaxed (kept_once p.hard) (kept_once (relaxed_clauses profile p)))
-    (addition_once a)) (compared_once a k)
+    (kept_once (flat_map cell_clauses (adders_as profile p).cells)))
+    (comparator_once (adders_as profile p).outputs k)
   where
     join : (xs ys : List (List Literal)) → All (λ c. has_repeat c ≡ false) xs
         → All (λ c. has_repeat c ≡ false) ys → All (λ c. has_repeat c ≡ false) (xs ++ ys)
@@ -380,3 +315,6 @@ bound_once profile p k =
 
     relaxed : List (List Literal)
     relaxed = kept (relaxed_clauses profile p)
+
+    cells : List (List Literal)
+    cells = kept (flat_map cell_clauses (adders_as profile p).cells)

@@ -1,9 +1,7 @@
 mod Clauses
 mod Adders
 mod Comparator
-mod Addition
 mod Cheaper
-mod Counted
 mod Compared
 mod Subsets
 mod Covers
@@ -14,12 +12,10 @@ mod Rows
 mod Columns
 mod Relaxations
 mod Parts
-mod RelaxedParts
 mod WeightedParts
 mod Weights
 mod WeightedCost
 mod WeightLimits
-mod RelaxedHold
 mod Lines
 mod Streams
 pub mod Laws

@@ -1,30 +1,30 @@
 -- The formula from its parts.
-use Rattle.std.proofs.Common.{◌≡◌, ℕ, List, [], ◌++◌, ◌∙◌, ap}
+use Rattle.std.proofs.Common.{◌≡◌, ℕ, ◌+◌, ◌*◌, List, [], ◌++◌, length, Option, ◌∙◌, ap}
+use Rattle.std.specs.List.{flat_map}
 use Rattle.cnf.specs.Literal.{Literal}
 use Rattle.cnf.specs.Problem.{Problem}
 use Rattle.cnf.specs.Formula.{Cnf}
+use Rattle.adder.specs.declared.cells.Cell.{Cell}
 use Rattle.adder.specs.declared.profiles.Profile.{Profile}
-use Rattle.adder.specs.Network.{relaxed_variables}
-use Rattle.bound.specs.declared.additions.Addition.{Addition}
-use Rattle.bound.specs.Bound.{kept, relaxed_clauses, addition_as, addition_clauses, last_variable}
-use Rattle.bound.specs.Bound.{comparator_over, bound_as}
-use Rattle.bound.proofs.Addition.{clauses_with}
+use Rattle.adder.specs.Network.{relaxed_variables, adders_as}
+use Rattle.bound.specs.Bound.{kept, cell_clauses, relaxed_clauses, comparator_of, bound_as}
+use Rattle.bound.specs.Adding.{Adds}
 
-pub formula_parts : (profile : Profile) (p : Problem) (k last vars : ℕ)
-    (a b c d : List (List Literal)) (x : Addition) → a ≡ []
+pub formula_parts : (profile : Profile) (p : Problem) (k last : ℕ) (a b c d : List (List Literal))
+    (cells : List Cell) (outputs : List (Option Literal)) → a ≡ []
     → b ≡ a ++ (kept p.hard ++ kept (relaxed_clauses profile p))
-    → c ≡ b ++ addition_clauses x → d ≡ c ++ comparator_over x k
-    → last ≡ relaxed_variables profile p → x ≡ addition_as profile p
-    → vars ≡ last_variable last x
-    → (let f : Cnf = record { variables = vars; clauses = d } in
+    → Adds b c (flat_map cell_clauses cells) → d ≡ c ++ comparator_of outputs k
+    → last ≡ relaxed_variables profile p → cells ≡ (adders_as profile p).cells
+    → outputs ≡ (adders_as profile p).outputs
+    → (let f : Cnf = record { variables = last + 2 * length cells; clauses = d } in
     f ≡ bound_as profile p k)
-formula_parts profile p k last vars a b c d x none given added compared counted same v =
-    let items : d ≡ clauses_with profile p x k =
-    compared ∙ ap (λ z. z ++ comparator_over x k) (added
-    ∙ ap (λ z. z ++ addition_clauses x) (given
-    ∙ ap (λ z. z ++ (kept p.hard ++ kept (relaxed_clauses profile p))) none)) in
+formula_parts profile p k last a b c d cells outputs none given added compared counted same ends =
+    let items : d ≡ kept p.hard ++ kept (relaxed_clauses profile p) ++ kept
+    (flat_map cell_clauses cells) ++ comparator_of outputs k =
+    compared ∙ ap (λ x. x ++ comparator_of outputs k) (added.items
+    ∙ ap (λ x. x ++ kept (flat_map cell_clauses cells)) (given
+    ∙ ap (λ x. x ++ (kept p.hard ++ kept (relaxed_clauses profile p))) none)) in
     let whole : d ≡ (bound_as profile p k).clauses =
-    items ∙ ap (λ y. clauses_with profile p y k) same in
-    let most : vars ≡ (bound_as profile p k).variables =
-    v ∙ (λ i. last_variable (counted i) (same i)) in
-    λ i. record { variables = most i; clauses = whole i }
+    items ∙ (λ i. kept p.hard ++ kept (relaxed_clauses profile p) ++ kept
+    (flat_map cell_clauses (same i)) ++ comparator_of (ends i) k) in
+    λ i. record { variables = counted i + 2 * length (same i); clauses = whole i }

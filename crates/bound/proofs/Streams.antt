@@ -17,10 +17,9 @@ use Rattle.cnf.specs.Problem.{Problem}
 use Rattle.cnf.specs.Instance.{IsInstance}
 use Rattle.adder.specs.declared.cells.Cell.{Cell}
 use Rattle.adder.specs.declared.profiles.Profile.{Profile}
-use Rattle.bound.specs.declared.additions.Addition.{Addition}
+use Rattle.adder.specs.Network.{Adders, adders_as}
 use Rattle.bound.specs.Bound.{kept, bound_as, cell_clauses, dimacs_clause, dimacs_text, header_line}
-use Rattle.bound.specs.Bound.{relaxed_clauses, addition_as, addition_clauses, comparator_over}
-use Rattle.bound.proofs.Addition.{clauses_with}
+use Rattle.bound.specs.Bound.{relaxed_clauses, comparator_for}
 use Rattle.bound.specs.Adding.{Adds}
 use Rattle.bound.proofs.Few.{kept_le, cells_le, clauses_few}
 use Rattle.bound.proofs.Kept.{kept-append, kept_one}
@@ -237,46 +236,13 @@ module _ (clause : List Literal) (rest : List (List Literal))
           put_fault a b h whole j c (dimacs_clause clause) (lines_of (kept rest))
           (same_left a b h whole j _ _ hard_next p) q
 
--- one clause more, which may have a repeat or complementary literals, and was added to none
-module _ (clause : List Literal) (rest left : List (List Literal)) (steps : left ≡ clause ∷ rest)
-    (none now : List (List Literal)) (empty : none ≡ []) (adds : now ≡ none ++ kept (clause ∷ []))
-  where
-    kept_next : kept left ≡ now ++ kept rest
-    kept_next =
-        ap kept steps ∙ kept-append (clause ∷ []) rest
-        ∙ ap (λ x. x ++ kept rest) (sym (adds ∙ ap (λ x. x ++ kept (clause ∷ [])) empty))
-
-    pub kept_counted : length (kept left) ≡ length now + length (kept rest)
-    kept_counted = ap length kept_next ∙ length-append now (kept rest)
-
-    pub one_counted : length now ≤ 1
-    one_counted = omega (
-      arith,
-      ap length (adds ∙ ap (λ x. x ++ kept (clause ∷ [])) empty),
-      kept_le (clause ∷ []),
-    )
-
-    module _ (a b c : Option (List ℕ)) (h whole j : List ℕ)
-        (p : IsPutUpTo a h whole (lines_of (kept left)) b j) where
-      pub kept_put : (k : List ℕ) → PassesOn b j (lines_of now) c k
-          → IsPutUpTo a h whole (lines_of (kept rest)) c k
-      kept_put k q =
-          put_more a b h whole j c (lines_of now) (lines_of (kept rest))
-          (same_left a b h whole j _ _ (ap lines_of kept_next ∙ lines-append now (kept rest)) p) k q
-
-      pub kept_fault : AppendsPart b c (j ++ lines_of now) → AppendsPart a c (h ++ whole)
-      kept_fault q =
-          put_fault a b h whole j c (lines_of now) (lines_of (kept rest))
-          (same_left a b h whole j _ _ (ap lines_of kept_next ∙ lines-append now (kept rest)) p) q
-
 -- in all there are few
-pub sum_small : (profile : Profile) (p : Problem) (k : ℕ) (r m : List (List Literal)) (x : Addition)
-    → IsInstance p → r ≡ kept (relaxed_clauses profile p) → x ≡ addition_as profile p
-    → m ≡ comparator_over x k → (i j n l : ℕ) → i ≡ length (kept p.hard) → j ≡ length r
-    → n ≡ length (addition_clauses x) → l ≡ length m → i + j + n + l < 2 ^ 28
+pub sum_small : (profile : Profile) (p : Problem) (k : ℕ) (r m : List (List Literal)) (x : Adders)
+    → IsInstance p → r ≡ kept (relaxed_clauses profile p) → x ≡ adders_as profile p
+    → m ≡ comparator_for profile p k → (i j n l : ℕ) → i ≡ length (kept p.hard) → j ≡ length r
+    → n ≡ length (cells_kept x.cells) → l ≡ length m → i + j + n + l < 2 ^ 28
 sum_small profile p k r m x h er ex em i j n l a b c d =
     let all : i + j + n + l ≡ length (bound_as profile p k).clauses =
-    counted (kept p.hard) r (addition_clauses x) m i j n l a b c d
-    ∙ (λ t. length (kept p.hard ++ er t ++ addition_clauses x ++ em t))
-    ∙ ap (λ y. length (clauses_with profile p y k)) ex in
+    counted (kept p.hard) r (cells_kept x.cells) m i j n l a b c d
+    ∙ (λ t. length (kept p.hard ++ er t ++ cells_kept (ex t).cells ++ em t)) in
     subst (λ z. z < 2 ^ 28) (sym all) (clauses_few profile p k h)

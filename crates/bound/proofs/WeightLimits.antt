@@ -34,7 +34,8 @@ kept_literals Q (e ∷ es) h =
     ]
 
 weights_variables : (p : Problem) → IsInstance p
-    → AllByRecursion (λ (w : ℕ × Literal). IsVariable (relaxed_variables Two p) (w.1).variable) (weights_of p)
+    → AllByRecursion (λ (w : ℕ × Literal). IsVariable (relaxed_variables Two p) (w.1).variable)
+    (weights_of p)
 weights_variables p h =
     let v = relaxed_variables Two p in
     let es = relaxed_as Two p in

@@ -24,5 +24,6 @@ pub weighted_parts : (p : Problem) (last : ℕ) (a b : List (List Literal)) → 
     → b ≡ a ++ (weighted_cnf p).clauses → last ≡ relaxed_variables Two p
     → (let f : Cnf = record { variables = last; clauses = b } in f ≡ weighted_cnf p)
 weighted_parts p last a b none given counted =
-    let whole : b ≡ (weighted_cnf p).clauses = given ∙ ap (λ z. z ++ (weighted_cnf p).clauses) none in
+    let whole : b ≡ (weighted_cnf p).clauses = given
+    ∙ ap (λ z. z ++ (weighted_cnf p).clauses) none in
     λ i. record { variables = counted i; clauses = whole i }

@@ -1,30 +1,20 @@
 -- The hard clauses as a formula, and the formula for 'cost below k'.
 use Rattle.std.specs.Prelude.{ℕ, zero, suc, ◌+◌, ◌*◌, ◌/◌, ◌^◌, ◌<◌, ◌≤◌, not, List, []}
 use Rattle.std.specs.Prelude.{◌∷◌, ◌++◌, length, map, filter, reverse, Option, Some, None, ◌==◌}
-use Rattle.std.specs.Prelude.{◌-◌, nat_le, if◌then◌else◌, All}
+use Rattle.std.specs.Prelude.{if◌then◌else◌, All}
 use Rattle.std.specs.List.{flat_map}
 use Rattle.std.specs.Fmt.{decimal}
 use lib.Chars.{codes}
 use Rattle.cnf.specs.Literal.{Assignment, Literal, negation, positive}
 use Rattle.cnf.specs.Clause.{Satisfies, IsCovered, distinct, is_tautology}
-use Rattle.cnf.specs.Formula.{Cnf, IsUnsatisfiable}
+use Rattle.cnf.specs.Formula.{Cnf}
 use Rattle.cnf.specs.Problem.{Problem, IsFeasible, cost_under}
-use Rattle.cnf.specs.declared.limits.TheConstants.{NUMBER_LIMIT}
 use Rattle.text.specs.Text.{literal_text}
 use Rattle.text.specs.Writing.{spaced}
 use Rattle.adder.specs.declared.cells.Cell.{Cell}
 use Rattle.adder.specs.declared.profiles.Profile.{Profile}
-use Rattle.adder.specs.declared.profiles.Profile.TheVariants.{One, Five}
-use Rattle.adder.specs.declared.profiles.Adding.{Adding}
-use Rattle.adder.specs.declared.profiles.Adding.TheVariants.{Columns}
-use Rattle.adder.specs.declared.profiles.Adding.TheVariants.{Sums as BySums}
-use Rattle.adder.specs.Network.{Adders, adders_as, adding_of, bit, relaxed_as, relaxed_variables}
-use Rattle.adder.specs.Network.{SameUpTo}
-use Rattle.sums_tree.specs.Arranging.{tree}
-use Rattle.sums.specs.Sums.{Node, sums_over, comparator}
-use Rattle.cores.specs.Cores.{Counted, counted_clauses}
-use Rattle.bound.specs.declared.additions.Addition.{Addition}
-use Rattle.bound.specs.declared.additions.Addition.TheVariants.{Network, Sums}
+use Rattle.adder.specs.declared.profiles.Profile.TheVariants.{One}
+use Rattle.adder.specs.Network.{adders_as, bit, relaxed_as, relaxed_variables, SameUpTo}
 
 -- repeats dropped, and clauses with complementary literals left out
 abbrev pub kept : List (List Literal) → List (List Literal)
@@ -95,43 +85,18 @@ abbrev pub comparator_of : List (Option Literal) → ℕ → List (List Literal)
 comparator_of outputs zero = [] ∷ []
 comparator_of outputs (suc limit) = kept (reverse (rising_clauses outputs limit 0))
 
--- what adds up the weights: a network, or in a profile of sums these, where there are any
-abbrev pub sums_or : Adders → Option Node → Addition
-sums_or n None = Network n
-sums_or n (Some sums) = Sums sums
-
-unfoldable pub addition_as : Profile → Problem → Addition
-addition_as profile p = by (adding_of profile)
-  where
-    by : Adding → Addition
-    by Columns = Network (adders_as profile p)
-    by BySums = sums_or (adders_as profile p) (sums_over p (tree p))
-
-abbrev pub addition_clauses : Addition → List (List Literal)
-addition_clauses (Network n) = kept (flat_map cell_clauses n.cells)
-addition_clauses (Sums n) = kept n.clauses
-
--- the last variable of all, where that of the relaxation is known
-abbrev pub last_variable : ℕ → Addition → ℕ
-last_variable relaxed (Network n) = relaxed + 2 * length n.cells
-last_variable relaxed (Sums n) = n.fresh - 1
-
--- what is added up is below k; sums say nothing of a bound that no cost reaches
-abbrev pub comparator_over : Addition → ℕ → List (List Literal)
-comparator_over (Network n) k = comparator_of n.outputs k
-comparator_over (Sums n) k = if nat_le NUMBER_LIMIT k then [] else kept (comparator n k)
-
 -- all but the comparator
 abbrev pub fixed_clauses : Profile → Problem → List (List Literal)
 fixed_clauses profile p =
-    kept p.hard ++ kept (relaxed_clauses profile p) ++ addition_clauses (addition_as profile p)
+    kept p.hard ++ kept (relaxed_clauses profile p)
+    ++ kept (flat_map cell_clauses (adders_as profile p).cells)
 
 abbrev pub comparator_for : Profile → Problem → ℕ → List (List Literal)
-comparator_for profile p k = comparator_over (addition_as profile p) k
+comparator_for profile p k = comparator_of (adders_as profile p).outputs k
 
 abbrev pub bound_as : Profile → Problem → ℕ → Cnf
 bound_as profile p k = record {
-  variables = last_variable (relaxed_variables profile p) (addition_as profile p);
+  variables = relaxed_variables profile p + 2 * length (adders_as profile p).cells;
   clauses = fixed_clauses profile p ++ comparator_for profile p k;
 }
 
@@ -147,29 +112,11 @@ pub record SaysCheaper (profile : Profile) (p : Problem) (k : ℕ) : Type 0 wher
       → (t : Assignment) × SameUpTo p.variables u t
       × All (Satisfies t) (bound_as profile p k).clauses
 
--- the formula of an instance with cores: the hard clauses, the soft ones, each with its relaxation
--- variable last, and those of the cores
-abbrev pub core_cnf : Problem → Counted → Cnf
-core_cnf p s = record {
-  variables = s.fresh - 1;
-  clauses = kept p.hard ++ kept (relaxed_clauses Five p) ++ kept (counted_clauses s);
-}
-
--- where it is unsatisfiable, nothing costs less than the cores are worth together
-abbrev pub RefutesCheaper : Problem → Counted → Type 0
-RefutesCheaper p s =
-    IsUnsatisfiable (core_cnf p s).clauses → (u : Assignment) → IsFeasible p u
-    → s.weight ≤ cost_under p u
-
 -- each clause of the comparator for a larger bound has one for this bound as a subset
 abbrev pub CoversLarger : List (Option Literal) → ℕ → Type 0
 CoversLarger outputs k =
     (larger : ℕ) → k ≤ larger
     → All (IsCovered (comparator_of outputs k)) (comparator_of outputs larger)
-
-abbrev pub CoversLargerOver : Addition → ℕ → Type 0
-CoversLargerOver a k =
-    (larger : ℕ) → k ≤ larger → All (IsCovered (comparator_over a k)) (comparator_over a larger)
 
 -- the DIMACS text
 abbrev pub header_line : ℕ → ℕ → List ℕ

@@ -1,5 +1,4 @@
 pub mod Bound
-pub mod Relaxed
 pub mod Weighted
 pub mod Adding
 pub mod Vectors

@@ -1,5 +1,5 @@
--- An instance whose soft clauses are relaxed, with the weights of their relaxation literals: those of
--- unit clauses are relaxed by their negations.
+-- An instance whose soft clauses are relaxed, with the weights of their relaxation literals: those
+-- of unit clauses are relaxed by their negations.
 use Rattle.std.specs.Prelude.{ℕ, not, List, [], ◌∷◌, ◌++◌, map, filter, if◌then◌else◌}
 use Rattle.cnf.specs.Literal.{Literal}
 use Rattle.cnf.specs.Clause.{is_tautology}

@@ -1,20 +1,14 @@
-// The comparator: clauses that hold where what is added up is below a bound, be it the number that
-// the outputs of a network spell or the sum at the root of a tree.
+// The comparator: clauses that hold where the number that the outputs of a network spell is below a
+// bound.
 ghost use Rattle.std.specs.Prelude.{◌≡◌, ◌/◌, ◌^◌, ◌++◌, false, reverse, All, IfOk, OnOk};
 ghost use Rattle.cnf.specs.Clause.{has_repeat};
 ghost use Rattle.bound.specs.Bound.{kept, rising_clauses, comparator_of, CoversLarger};
-ghost use Rattle.bound.specs.Bound.{comparator_over, CoversLargerOver};
-ghost use Rattle.sums.specs.Sums.{comparator};
 
-use crate::additions::Addition;
-use crate::kept_clauses::{keep_all, keep_short};
+use crate::kept_clauses::keep_short;
 use adder::networks::Network;
 use cnf::clause_list::ClauseList;
-use cnf::limits::NUMBER_LIMIT;
 use cnf::types::{Clause, Lit};
 use std::alloc::AllocError;
-use sums::comparators::push_comparator;
-use sums::root::Root;
 
 /// The clauses that hold exactly where the outputs of the network spell a number below `k`
 /// (Warners, "A linear-time transformation of linear inequalities into conjunctive normal form",
@@ -29,24 +23,7 @@ pub fn comparator(network: &Network, k: u64) -> Result<Vec<Clause>, AllocError>
     ensures covers { OnOk result (CoversLarger network.now.outputs k) }
 {
     let mut clauses = ClauseList::new(network.allocator());
-    keep_outputs_below(&mut clauses, network.outputs(), k)?;
-    Ok(copy_clauses(&clauses)?)
-}
-
-/// The clauses by which `formula_as` says that what is added up is below `k`. Those of a network
-/// are those of `comparator`. Those of sums hold where the sum at the root of their tree is below
-/// `k`; there are none for 2^62 and above, which no cost reaches. For 0 it is the empty clause.
-/// Each clause of the comparator for a larger bound has one of these as a subset.
-///
-/// # Errors
-///
-/// `AllocError` where memory was refused.
-pub fn comparator_as(addition: &Addition, k: u64) -> Result<Vec<Clause>, AllocError>
-    ensures clauses { IfOk result (λ cs. cs.items ≡ comparator_over addition.now k) }
-    ensures covers { OnOk result (CoversLargerOver addition.now k) }
-{
-    let mut clauses = ClauseList::new(addition.allocator());
-    keep_comparator(&mut clauses, addition, k)?;
+    keep_comparator(&mut clauses, network.outputs(), k)?;
     Ok(copy_clauses(&clauses)?)
 }
 
@@ -63,32 +40,8 @@ fn copy_clauses(clauses: &ClauseList) -> Result<Vec<Clause>, AllocError>
     Ok(owned)
 }
 
-/// Adds the comparator of what adds up the weights.
-pub(crate) fn keep_comparator(
-    clauses: &mut ClauseList,
-    addition: &Addition,
-    k: u64,
-) -> Result<(), AllocError>
-    ensures { OnOk result (clauses.new ≡ clauses.old ++ comparator_over addition.now k) }
-{
-    match addition {
-        Addition::Network(network) => keep_outputs_below(clauses, network.outputs(), k),
-        Addition::Sums(_) if k >= NUMBER_LIMIT => Ok(()),
-        Addition::Sums(root) => keep_sums_below(clauses, root, k),
-    }
-}
-
-/// Adds the comparator of sums.
-fn keep_sums_below(clauses: &mut ClauseList, root: &Root, k: u64) -> Result<(), AllocError>
-    ensures { OnOk result (clauses.new ≡ clauses.old ++ kept (comparator root.now k)) }
-{
-    let mut below = ClauseList::new(clauses.allocator());
-    push_comparator(&mut below, root, k)?;
-    keep_all(clauses, &below)
-}
-
 /// Adds the comparator of the outputs.
-fn keep_outputs_below(
+pub(crate) fn keep_comparator(
     clauses: &mut ClauseList,
     outputs: &[Option<Lit>],
     k: u64,

@@ -2,21 +2,20 @@
 // made of and the clauses of one cell, so the formula may be far larger than memory.
 ghost use Rattle.std.specs.Prelude.{◌≡◌, ◌+◌, ◌*◌, ◌<◌, ◌≤◌, length, All, IfOk, IfErr};
 ghost use Rattle.std.specs.List.{flat_map};
-ghost use Rattle.sums.specs.declared.root.TheConstants.{MOST_CLAUSES};
 ghost use Rattle.cnf.specs.declared.limits.TheConstants.{NUMBER_LIMIT};
+ghost use Rattle.adder.specs.Network.{adders_as};
 ghost use Rattle.adder.specs.declared.networks.TheConstants.{CELL_LIMIT};
 ghost use Rattle.text.specs.Writing.{Writes, Puts};
 ghost use Rattle.bound.specs.Bound.{kept, bound_as, cell_clauses, comparator_for, dimacs_clause};
-ghost use Rattle.bound.specs.Bound.{dimacs_text, relaxed_clauses, addition_as, addition_clauses};
-ghost use Rattle.bound.specs.Adding.{HasVariables, IsFit};
+ghost use Rattle.bound.specs.Bound.{dimacs_text, relaxed_clauses};
+ghost use Rattle.bound.specs.Adding.{HasVariables};
 ghost use Rattle.bound.specs.Encoding.{fault_by, outlined};
 
-use crate::additions::Addition;
 use crate::cells::keep_cell;
 use crate::comparators::keep_comparator;
 use crate::dimacs::{put_clause, put_clauses, put_header};
-use crate::kept_clauses::keep_short;
 use crate::relaxing::keep_relaxed;
+use adder::building::network_as;
 use adder::cells::Cell;
 use adder::networks::Network;
 use adder::profiles::Profile;
@@ -118,7 +117,7 @@ fn put_formula<W: Write>(
     writer: &mut W,
 ) -> Result<(), EncodeFault>
     requires places { 2 * instance.now.variables ≤ length marks.old }
-    requires addition { IsFit outline.now.addition }
+    requires cells { All HasVariables outline.now.network.cells }
     requires count { outline.now.count ≡ length (outlined instance.now.hard outline.now).clauses }
     ensures { Writes result (W.contents writer.old)
         (dimacs_text (outlined instance.now.hard outline.now)) (W.contents writer.new) }
@@ -127,7 +126,7 @@ fn put_formula<W: Write>(
     put_header(&mut block, writer, outline.vars, outline.count)?;
     put_hard(&mut block, writer, instance, marks)?;
     put_clauses(&mut block, writer, &outline.relaxed)?;
-    put_addition(&mut block, writer, &outline.addition)?;
+    put_cells(&mut block, writer, &outline.network)?;
     put_clauses(&mut block, writer, &outline.comparator)?;
     Ok(block.flush(writer)?)
 }
@@ -138,7 +137,7 @@ struct Outline {
     /// The soft clauses with their relaxation variables.
     relaxed: ClauseList,
     /// What adds up the weights of the soft clauses that are given up.
-    addition: Addition,
+    network: Network,
     /// What compares their sum with the bound.
     comparator: ClauseList,
     /// The last variable.
@@ -159,7 +158,7 @@ impl Outline {
             ≤ length marks.old }
         ensures relaxed { IfOk result
             (λ o. o.relaxed ≡ kept (relaxed_clauses profile instance.now)) }
-        ensures addition { IfOk result (λ o. o.addition ≡ addition_as profile instance.now) }
+        ensures network { IfOk result (λ o. o.network ≡ adders_as profile instance.now) }
         ensures comparator { IfOk result
             (λ o. o.comparator ≡ comparator_for profile instance.now k) }
         ensures vars { IfOk result (λ o. o.vars ≡ (bound_as profile instance.now k).variables) }
@@ -171,18 +170,18 @@ impl Outline {
         let alloc = instance.allocator();
         let mut relaxed = ClauseList::new(alloc);
         let last = keep_relaxed(&mut relaxed, marks, instance, profile)?;
-        let addition = Addition::of(instance, profile)?;
+        let network = network_as(instance, profile)?;
         let mut comparator = ClauseList::new(alloc);
-        keep_comparator(&mut comparator, &addition, k)?;
+        keep_comparator(&mut comparator, network.outputs(), k)?;
         let hard = count_hard(instance, marks);
         let soft = relaxed.len();
-        let added = count_addition(&addition)?;
+        let cells = count_cells(&network)?;
         let last_part = comparator.len();
-        let count = hard + soft + added + last_part;
-        let vars = addition.last_variable(last);
+        let count = hard + soft + cells + last_part;
+        let vars = last + 2 * network.cells().len() as u32;
         Ok(Outline {
             relaxed,
-            addition,
+            network,
             comparator,
             vars,
             count,
@@ -204,32 +203,6 @@ fn count_hard(instance: &Instance, marks: &mut Marks) -> usize
         }
     }
     count
-}
-
-/// How many clauses of cells, or of sums, a formula keeps.
-fn count_addition(addition: &Addition) -> Result<usize, AllocError>
-    requires { IsFit addition.now }
-    ensures { IfOk result (λ n. n ≡ length (addition_clauses addition.now)) }
-{
-    match addition {
-        Addition::Network(network) => count_cells(network),
-        Addition::Sums(root) => count_kept(root.clauses()),
-    }
-}
-
-/// How many of the clauses a formula keeps.
-fn count_kept(clauses: &ClauseList) -> Result<usize, AllocError>
-    requires { length clauses.now ≤ MOST_CLAUSES }
-    ensures { IfOk result (λ n. n ≡ length (kept clauses.now)) }
-{
-    let mut part = ClauseList::new(clauses.allocator());
-    let mut count = 0;
-    for clause in clauses.iter() {
-        part.clear();
-        keep_short(&mut part, clause)?;
-        count += part.len();
-    }
-    Ok(count)
 }
 
 /// How many clauses of its cells a formula keeps.
@@ -265,40 +238,6 @@ fn put_hard<W: Write>(
         if !is_tautology_by(marks, clause) {
             put_clause(block, writer, clause)?;
         }
-    }
-    Ok(())
-}
-
-/// Puts the clauses of the cells, or of the sums.
-fn put_addition<W: Write>(
-    block: &mut Block,
-    writer: &mut W,
-    addition: &Addition,
-) -> Result<(), EncodeFault>
-    requires { IsFit addition.now }
-    ensures { Puts result (W.contents writer.old) block.old
-        (flat_map dimacs_clause (addition_clauses addition.now)) (W.contents writer.new) block.new }
-{
-    match addition {
-        Addition::Network(network) => put_cells(block, writer, network),
-        Addition::Sums(root) => put_kept(block, writer, root.clauses()),
-    }
-}
-
-/// Puts the clauses that a formula keeps.
-fn put_kept<W: Write>(
-    block: &mut Block,
-    writer: &mut W,
-    clauses: &ClauseList,
-) -> Result<(), EncodeFault>
-    ensures { Puts result (W.contents writer.old) block.old
-        (flat_map dimacs_clause (kept clauses.now)) (W.contents writer.new) block.new }
-{
-    let mut part = ClauseList::new(clauses.allocator());
-    for clause in clauses.iter() {
-        part.clear();
-        keep_short(&mut part, clause)?;
-        put_clauses(block, writer, &part)?;
     }
     Ok(())
 }

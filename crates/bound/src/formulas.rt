@@ -4,15 +4,14 @@ ghost use Rattle.cnf.specs.declared.limits.TheConstants.{CLAUSE_LIMIT, NUMBER_LI
 ghost use Rattle.adder.specs.Network.{relaxed_variables};
 ghost use Rattle.bound.specs.Bound.{kept, relaxed_clauses, bound_as, comparator_for, SaysCheaper};
 
-use crate::additions::{Addition, keep_addition};
+use crate::cells::keep_cells;
+pub use crate::comparators::comparator;
 use crate::comparators::keep_comparator;
-pub use crate::comparators::{comparator, comparator_as};
-pub use crate::core_formulas::formula_of_cores;
 pub use crate::dimacs::write_dimacs;
 pub use crate::hard::hard_formula;
 use crate::hard::keep_hard;
-pub use crate::relaxed::relaxed_formula;
 use crate::relaxing::keep_relaxed;
+use adder::building::network_as;
 use adder::profiles::Profile;
 use cnf::clause_list::ClauseList;
 use cnf::marks::Marks;
@@ -42,9 +41,7 @@ pub fn formula(instance: &Instance, k: u64) -> Result<Formula, AllocError>
 }
 
 /// As `formula`, in any profile: in `Profile::Two` a soft clause of one literal has no relaxation
-/// variable and is not among the clauses, as the negation of its literal relaxes it; in
-/// `Profile::Four` and `Profile::Five` the clauses of sums stand in place of those of cells, unless
-/// they would be too many.
+/// variable and is not among the clauses, as the negation of its literal relaxes it.
 ///
 /// # Errors
 ///
@@ -59,10 +56,11 @@ pub fn formula_as(instance: &Instance, k: u64, profile: Profile) -> Result<Formu
     instance.limits();
     let mut clauses = ClauseList::new(instance.allocator());
     let last = keep_given(&mut clauses, instance, profile)?;
-    let addition = Addition::of(instance, profile)?;
-    keep_addition(&mut clauses, &addition)?;
-    keep_comparator(&mut clauses, &addition, k)?;
-    Ok(Formula::new(addition.last_variable(last), clauses))
+    let network = network_as(instance, profile)?;
+    keep_cells(&mut clauses, network.cells())?;
+    keep_comparator(&mut clauses, network.outputs(), k)?;
+    let vars = last + 2 * network.cells().len() as u32;
+    Ok(Formula::new(vars, clauses))
 }
 
 /// Adds the hard clauses and the soft ones with their relaxation variables; answers the last of all

@@ -3,7 +3,6 @@
 ghost use Rattle.std.specs.Prelude.{◌≡◌, false, [], ◌∷◌, ◌++◌, length, All, IfOk, OnOk};
 ghost use Rattle.cnf.specs.Clause.{distinct, has_repeat, is_tautology};
 ghost use Rattle.bound.specs.Bound.{kept};
-ghost use Rattle.bound.specs.Adding.{Adds};
 ghost use Rattle.cnf.specs.Marks.{HasPlace};
 
 use crate::repeats::has_repeat;
@@ -42,16 +41,6 @@ pub(crate) fn keep_short(clauses: &mut ClauseList, lits: &[Lit]) -> Result<(), A
     } else {
         keep_once(clauses, lits)
     }
-}
-
-/// Adds clauses that have a few literals each.
-pub(crate) fn keep_all(clauses: &mut ClauseList, more: &ClauseList) -> Result<(), AllocError>
-    ensures { OnOk result (Adds clauses.old clauses.new more.now) }
-{
-    for clause in more.iter() {
-        keep_short(clauses, clause)?;
-    }
-    Ok(())
 }
 
 /// As `keep`, for a few literals, of which none stands twice.

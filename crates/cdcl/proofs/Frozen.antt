@@ -12,7 +12,7 @@ use Rattle.propagate.proofs.Laws.{NoTautology}
 use Rattle.eliminate.specs.Elimination.{Removed, extended, IsFree}
 use Rattle.eliminate.proofs.Laws.{length-extended}
 use Rattle.cdcl_search.specs.Giving.{IsFrozen}
-use Rattle.cdcl.specs.Assuming.{IsTrueUnder}
+use Rattle.cdcl.specs.Outcomes.{IsTrueUnder}
 use Rattle.cdcl.specs.Outcomes.{AreValues}
 use Rattle.cdcl_search.proofs.Laws.{extended_frozen}
 use Rattle.cdcl.proofs.Satisfied.{value_by}

@@ -6,8 +6,6 @@ mod GivenClause
 mod Rounds
 mod Guiding
 mod Apart
-mod Halts
-mod Assumed
 mod Frozen
 mod Solved
 pub mod Laws

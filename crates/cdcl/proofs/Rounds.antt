@@ -33,9 +33,6 @@ pays_none given a b s w =
       },
     )
 
-pub pays_nothing : (given : Given) (a : List LogLine) (s : BudgetState) → Pays given a a s s
-pays_nothing given a s = pays_none given a a s (writes_none given a)
-
 pub pays_waived : (given : Given) (a : List LogLine) (s t : BudgetState)
     → t ≡ record s { waived = t.waived } → Pays given a a s t
 pays_waived given a s t same =

@@ -1,6 +1,6 @@
 -- What holds of a solver between its calls, and what a search answers.
-use Rattle.std.specs.Prelude.{◌≡◌, ℕ, ◌+◌, ◌<◌, Bool, false, List, length, Some, Result}
-use Rattle.std.specs.Prelude.{slice_index_or}
+use Rattle.std.specs.Prelude.{◌≡◌, ℕ, ◌+◌, ◌-◌, ◌<◌, Bool, false, not, List, length, Some, Result}
+use Rattle.std.specs.Prelude.{slice_get, slice_index_or}
 use Rattle.cnf.specs.Literal.{Literal}
 use Rattle.analyze.specs.Analyzer.{IsFixpoint}
 use Rattle.cdcl_order.specs.Budgets.{BudgetState}
@@ -30,6 +30,10 @@ pub record IsSolver (s : Search) (p : Input) (ls : List LogLine)
 abbrev pub AreValues : List Assigned → List Bool → Type 0
 AreValues T bits = (i : ℕ) → i < length bits
     → value_in T (positive (i + 1)) ≡ Some (slice_index_or bits i false)
+
+-- the bits make the literal true
+abbrev pub IsTrueUnder : List Bool → Literal → Type 0
+IsTrueUnder bits l = slice_get bits (l.variable - 1) ≡ Some (not l.negated)
 
 -- the bits satisfy what was given, and the search may go on
 pub record IsSatisfying (s : Search) (p : Input) (ls : List LogLine)

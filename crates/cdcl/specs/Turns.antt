@@ -1,7 +1,6 @@
 -- How a search ends, and what a turn of it promises. Where memory was refused, its log stays open.
 use Rattle.std.specs.Prelude.{◌≡◌, ℕ, ◌+◌, List, length, Option, Result, IfOk, OnErr, IfSome}
-use Rattle.std.specs.Prelude.{if◌then◌else◌, IfNone, ◌<◌, ◌-◌, ◌*◌, Bool, true, false, Contains}
-use Rattle.std.specs.Prelude.{map, take, [], ◌⊎◌}
+use Rattle.std.specs.Prelude.{if◌then◌else◌, IfNone, ◌<◌, ◌-◌, ◌*◌, Bool, true, false}
 use Rattle.propagate.specs.Trail.{literals_of}
 use Rattle.analyze.specs.Analyzer.{IsFixpoint}
 use Rattle.cdcl_order.specs.Budgets.{BudgetState, left_of}
@@ -13,7 +12,6 @@ use Rattle.cdcl_search.specs.Running.{Runs, Writes, StaysOpen, IsEnded}
 use Rattle.cnf.specs.Literal.{Literal}
 use Rattle.cdcl_order.specs.Orders.{AreClosed}
 use Rattle.cdcl.specs.declared.searching.End.TheVariants.{Satisfied, Refuted, Spent}
-use Rattle.cnf.specs.Refute.{IsRefutedByHints}
 use Rattle.cdcl.specs.Solving.{IsLiveRefuted}
 
 -- what was written, and that a unit was paid for each learned line
@@ -68,17 +66,11 @@ pub record Turns {E : Type 0} (result : Result (Option End) E) (old new : Search
   pub pays : Pays p.given before after had left
   pub err : OnErr result (StaysOpen p after)
 
--- Propagation alone refutes the formula, or the empty clause was given.
-abbrev pub IsPlain : Input → Type 0
-IsPlain p = IsRefutedByHints (map (λ g. g.1) (take p.first p.given))
-    ⊎ Contains (map (λ g. g.1) p.given) []
-
 -- What a search leaves where propagation at level 0 finds no conflict.
 pub record IsOpened (new : Search) (p : Input) (before after : List LogLine) : Type 0 where
   pub runs : Runs new p after
   pub unwritten : after ≡ before
   pub live : IsLiveRefuted p.given before → ⊥
-  pub plain : IsPlain p → ⊥
 
 -- Propagation at level 0 refutes the clauses, or leaves a search that goes on.
 pub record Opens {E : Type 0} (result : Result Bool E) (new : Search) (p : Input)

@@ -10,7 +10,7 @@ ghost use Rattle.eliminate.specs.Elimination.{extended};
 ghost use Rattle.cdcl.specs.Outcomes.{AreValues};
 ghost use Rattle.cdcl.specs.Solving.{SatisfyGiven};
 ghost use Rattle.cdcl_search.specs.Giving.{IsFrozen};
-ghost use Rattle.cdcl.specs.Assuming.{IsTrueUnder};
+ghost use Rattle.cdcl.specs.Outcomes.{IsTrueUnder};
 ghost use Rattle.cdcl_search.specs.Running.{Runs, IsInput};
 
 use cdcl_search::input::Input;

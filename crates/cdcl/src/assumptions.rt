@@ -161,7 +161,7 @@ impl Guide for Assumptions {
     fn advise(&mut self, search: &Search) -> Result<Advice, AllocError> {
         self.falsified = None;
         self.forget(search.engine.depth());
-        if self.learned > self.share.learned {
+        if self.learned > self.share.learned || search.policy.propagations() > self.share.until {
             return Ok(Advice::Stop);
         }
         self.follow(search)

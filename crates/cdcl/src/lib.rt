@@ -5,7 +5,6 @@ pub use cdcl_order::{budget, watch};
 pub use cdcl_search::given;
 
 pub mod answers;
-mod assuming;
 pub mod assumptions;
 pub mod core_finding;
 pub mod guide;

@@ -61,7 +61,7 @@ pub(crate) fn run<S: Sink, W: SearchWatch>(
 
 /// Begins at level 0, propagates, and answers whether that refutes the clauses: then the Empty line
 /// is written.
-pub(crate) fn refutes_at_once<S: Sink>(
+fn refutes_at_once<S: Sink>(
     search: &mut Search,
     input: &Input,
     sink: &mut S,

@@ -7,17 +7,13 @@ ghost use Rattle.cdcl_order.specs.Budgets.{WaivesAs};
 ghost use Rattle.cdcl.specs.declared.outcome.Outcome.TheVariants.{Unsat};
 ghost use Rattle.cdcl_search.specs.Running.{Runs, IsInput, StaysOpen};
 ghost use Rattle.cdcl.specs.Outcomes.{IsAnswer, PaysFor};
-ghost use Rattle.cdcl.specs.Turns.{Pays, IsPlain};
 ghost use Rattle.cdcl.specs.Solving.{Solves, given_to, SameGiven, GivesMore, IsLiveRefuted};
 ghost use Rattle.cdcl.specs.Solving.{lines_since};
 ghost use Rattle.cdcl_search.specs.Giving.{IsFreshName, IsFrozen};
-ghost use Rattle.cdcl.specs.Assuming.{SolvesAssuming};
-ghost use Rattle.cdcl.specs.Answering.{IsAssumed, is_unsat};
 
 use crate::answers::bits;
-use crate::assuming::{SearchEnd, run_assuming};
 use crate::budget::Budget;
-use crate::outcome::{Assumed, Outcome, Passed, Share, SolveFault};
+use crate::outcome::{Outcome, SolveFault};
 use crate::searching::{End, run};
 use crate::tally::Tally;
 use crate::watch::{SearchWatch, Unwatched};
@@ -48,15 +44,6 @@ pub struct Solver<S: Sink> {
     refuted: bool,
     // Whether memory was refused, or the search was given back. It stays so.
     failed: bool,
-}
-
-/// What is left of a solver that is done with.
-#[derive(Drop)]
-pub struct Parts<S: Sink> {
-    /// The clauses that it was given, in their order.
-    pub given: GivenClauses,
-    /// What its lines went to.
-    pub sink: S,
 }
 
 impl<S: Sink> Model for Solver<S> {
@@ -166,22 +153,6 @@ impl<S: Sink> Solver<S> {
         drop(self.search);
         drop(self.input);
         self.sink
-    }
-
-    /// What it was given, and its lines, once the solver is done with.
-    pub fn into_parts(self) -> Parts<S>
-        ensures given { result.given ≡ given_to self }
-        ensures sink { result.sink ≡ self.sink }
-    {
-        let Solver {
-            search,
-            input,
-            sink,
-            ..
-        } = self;
-        drop(search);
-        let Input { given, .. } = input;
-        Parts { given, sink }
     }
 
     /// Gives back the memory of the search, for whoever needs only the lines and the clauses from
@@ -314,139 +285,6 @@ impl<S: Sink> Solver<S> {
                 Err(SolveFault::Memory)
             }
         }
-    }
-
-    /// Searches under assumptions until it has an answer, or the share or the budget is spent, or
-    /// the watch waives what is left of the budget. Each call begins at level 0, with what was
-    /// learned before. The assumptions are decided first, in their order; they hold for this call
-    /// alone. An answer with bits costs no unit of the budget; the clause of a core costs one,
-    /// unless a live clause has no literals but its.
-    ///
-    /// # Errors
-    ///
-    /// `Memory` where memory was refused: the lines are steps also then. `Failed` after that.
-    pub fn solve_assuming<W: SearchWatch>(
-        &mut self,
-        assumptions: &[Lit],
-        share: Share,
-        budget: &mut Budget,
-        watch: &mut W,
-    ) -> Result<Assumed, SolveFault>
-        requires { All (IsFrozen self.old.frozen) assumptions.now }
-        ensures solves { SolvesAssuming result self.old self.new assumptions.now
-            (S.lines self.old.sink) (S.lines self.new.sink) budget.old budget.new }
-        ensures same_seen { W.seen watch.new ≡ W.seen watch.old }
-        ensures waives { WaivesAs budget.old budget.new (W.waived watch.old)
-            (W.waived watch.new) }
-    {
-        let mut none = Passed::new(self.search.store.allocator(), 0);
-        self.solve_passing(assumptions, share, &mut none, budget, watch)
-    }
-
-    /// As `solve_assuming`, where an assumption that is false is skipped as long as there is room
-    /// for what explains it. No line is learned for it. Where some were skipped, the search ends
-    /// `Open` as soon as all others are true or no room is left, unless another answer comes first.
-    ///
-    /// # Errors
-    ///
-    /// Those of `solve_assuming`.
-    pub fn solve_passing<W: SearchWatch>(
-        &mut self,
-        assumptions: &[Lit],
-        share: Share,
-        passed: &mut Passed,
-        budget: &mut Budget,
-        watch: &mut W,
-    ) -> Result<Assumed, SolveFault>
-        requires { All (IsFrozen self.old.frozen) assumptions.now }
-        ensures solves { SolvesAssuming result self.old self.new assumptions.now
-            (S.lines self.old.sink) (S.lines self.new.sink) budget.old budget.new }
-        ensures same_seen { W.seen watch.new ≡ W.seen watch.old }
-        ensures waives { WaivesAs budget.old budget.new (W.waived watch.old)
-            (W.waived watch.new) }
-    {
-        if self.failed {
-            return Err(SolveFault::Failed);
-        }
-        if self.refuted {
-            return Ok(Assumed::Unsat);
-        }
-        ask_variables(assumptions);
-        let answer = answer_assuming(
-            &mut self.search,
-            &self.input,
-            &mut self.sink,
-            budget,
-            watch,
-            assumptions,
-            share,
-            passed,
-        );
-        match answer {
-            Ok(found) => {
-                self.refuted = is_unsat(&found);
-                Ok(found)
-            }
-            Err(_) => {
-                self.failed = true;
-                Err(SolveFault::Memory)
-            }
-        }
-    }
-}
-
-/// Whether no bits satisfy the clauses given, whatever is assumed.
-fn is_unsat(found: &Assumed) -> bool
-    ensures { result ≡ is_unsat found.now }
-{
-    matches!(found, Assumed::Unsat)
-}
-
-/// Searches under assumptions, and reads the bits off the trail.
-fn answer_assuming<S: Sink, W: SearchWatch>(
-    search: &mut Search,
-    input: &Input,
-    sink: &mut S,
-    budget: &mut Budget,
-    watch: &mut W,
-    assumptions: &[Lit],
-    share: Share,
-    passed: &mut Passed,
-) -> Result<Assumed, AllocError>
-    requires runs { Runs search.old input.now (S.lines sink.old) }
-    requires input { IsInput input.now }
-    requires named { All (λ l. 0 < l.variable) assumptions.now }
-    requires frozen { All (IsFrozen input.now.frozen.items) assumptions.now }
-    ensures answers { IfOk result
-        (IsAssumed search.new input.now (S.lines sink.new) budget.new assumptions.now) }
-    ensures propagates { IfOk result (λ o.
-        IsLiveRefuted input.now.given (S.lines sink.old) → o ≡ Assumed.Unsat) }
-    ensures plain { IfOk result (λ o. IsPlain input.now → o ≡ Assumed.Unsat) }
-    ensures pays { Pays input.now.given (S.lines sink.old) (S.lines sink.new)
-        budget.old budget.new }
-    ensures err { OnErr result (StaysOpen input.now (S.lines sink.new)) }
-    ensures same_seen { W.seen watch.new ≡ W.seen watch.old }
-    ensures waives { WaivesAs budget.old budget.new (W.waived watch.old) (W.waived watch.new) }
-{
-    let halt = run_assuming(
-        search,
-        input,
-        sink,
-        budget,
-        watch,
-        assumptions,
-        share,
-        passed,
-    )?;
-    match halt {
-        SearchEnd::Satisfied => {
-            let bits = bits(search, input)?;
-            Ok(Assumed::Sat(bits))
-        }
-        SearchEnd::Refuted => Ok(Assumed::Unsat),
-        SearchEnd::Core(core) => Ok(Assumed::Core(core)),
-        SearchEnd::Open => Ok(Assumed::Open),
-        SearchEnd::Spent => Ok(Assumed::Limit),
     }
 }
 

@@ -233,6 +233,11 @@ impl Policy {
         }
     }
 
+    /// How many literals were assigned and are so no more: a measure of work.
+    pub fn propagations(&self) -> u64 {
+        self.undone
+    }
+
     /// Whether it is time to delete learned clauses.
     pub fn is_deletion_due(&self) -> bool {
         is_due(self.long, self.deletions)

@@ -1,9 +1,9 @@
 -- The tables of a search before its first move.
-use Rattle.std.proofs.Common.{◌≡◌, ℕ, ◌<◌, false, List, [], length, get_or, inl, inr, sym, ◌∙◌, ap}
+use Rattle.std.proofs.Common.{◌≡◌, ℕ, ◌<◌, false, List, [], length, get_or, sym, ◌∙◌, ap}
 use Rattle.std.proofs.Common.{subst, arith, zero-add}
 use Rattle.std.specs.Prelude.{All}
 use Rattle.std.specs.List.{enumerate_from}
-use Rattle.std.proofs.lemmas.Bool.{cases_Bool, both_ways}
+use Rattle.std.proofs.lemmas.Bool.{both_ways}
 use Rattle.std.proofs.lemmas.List.{get_or_default}
 use Rattle.std.proofs.lemmas.List.FromFn.{get_or-enumerate_from, length-enumerate_from}
 use Rattle.std.proofs.lemmas.Option.{same_Some}
@@ -63,11 +63,3 @@ attached_none e slots variables fits same none = record {
   attached = λ r lt live. absurd (omega arith);
   only = λ r on. absurd (both_ways (is_attached e r) (none r) on);
 }
-
-pub not_yet : (e : EngineState) (slots : Slots) (variables n : ℕ)
-    → AreAttachedBelow e slots variables n → is_attached e n ≡ false
-not_yet e slots variables n a =
-    elim (cases_Bool (is_attached e n)) as (λ _. is_attached e n ≡ false) [
-      | inr f ↦ f
-      | inl t ↦ let lt : n < n = a.only n t in absurd (omega arith)
-    ]

@@ -3,7 +3,6 @@ use Rattle.std.specs.Prelude.{ℕ, ◌<◌, List, [], length, map, All, ⊤, sli
 use Rattle.cnf.specs.Literal.{Assignment, Literal}
 use Rattle.cnf.specs.Clause.{Satisfies}
 use Rattle.cnf.specs.Problem.{Problem, IsInconsistent}
-use Rattle.wcnf.specs.Wcnf.{Reads}
 use Rattle.contradiction.specs.declared.finding.Finding.{Finding}
 use Rattle.contradiction.specs.declared.finding.Finding.TheVariants.{Contradiction, Solution, Open}
 use Rattle.contradiction.specs.declared.trials.Trial.{Trial}
@@ -32,8 +31,8 @@ IsTrueTrial p places (IsContradiction proof) = AreContradictory p places
 IsTrueTrial p places (IsSolved bits) = ⊤
 IsTrueTrial p places IsLeftOpen = ⊤
 
--- the same of a run on a text
-abbrev pub IsRefuted : List ℕ → Trial → Type 0
-IsRefuted text (IsContradiction proof) = (p : Problem) → Reads text p → IsInconsistent p
-IsRefuted text (IsSolved bits) = ⊤
-IsRefuted text IsLeftOpen = ⊤
+-- the same of a run on an instance
+abbrev pub IsRefuted : Problem → Trial → Type 0
+IsRefuted p (IsContradiction proof) = IsInconsistent p
+IsRefuted p (IsSolved bits) = ⊤
+IsRefuted p IsLeftOpen = ⊤

@@ -1,13 +1,16 @@
 // Whether some of the hard clauses contradict each other, by a run of the solver on their text
 // alone, whose certificate is checked.
-ghost use Rattle.std.specs.Prelude.{◌≡◌, ◌<◌, ℕ, List, All, IfOk, IsTrue, length};
+ghost use Rattle.std.specs.Prelude.{◌≡◌, ◌<◌, All, IfOk, IsTrue, length};
+ghost use Rattle.cnf.specs.Problem.{Problem};
 ghost use Rattle.contradiction.specs.Contradictions.{IsTrueTrial, IsRefuted, clauses_at};
 
 use adder::profiles::Profile;
+use bound::formulas::hard_formula;
 use cdcl::budget::Budget;
 use cnf::clause_list::ClauseList;
 use cnf::types::{Instance, Lit};
-use lrat_check::lower::{LowerVerdict, check_lower};
+use lrat_check::certificate::check_lines;
+use lrat_check::verdicts::Verdict;
 use lrat_result::report::Said;
 use lrat_result::result::read_report;
 use report::running::run_as;
@@ -115,20 +118,25 @@ fn try_within(instance: &Instance, places: &[u32], budget: &mut Budget) -> Resul
     if !are_same(part.hard(), instance.hard(), places) {
         return Ok(Trial::Open);
     }
-    run_on(alloc, &text, budget)
+    run_on(&part, &text, budget)
 }
 
-/// Runs the solver on this text, and checks the certificate.
-fn run_on(alloc: Global, text: &[u8], budget: &mut Budget) -> Result<Trial, AllocError>
-    ensures { IfOk result (λ trial. IsRefuted text.now trial) }
+/// Runs the solver on this text, which reads as the instance, and checks the certificate: it has to
+/// refute the hard clauses.
+fn run_on(instance: &Instance, text: &[u8], budget: &mut Budget) -> Result<Trial, AllocError>
+    ensures { IfOk result (IsRefuted instance.now) }
 {
+    let alloc = instance.allocator();
     let mut out = Vec::new(alloc);
     let mut proof = Vec::new(alloc);
     match run(alloc, text, budget, &mut out, &mut proof)? {
-        UNSATISFIABLE => match check_lower(alloc, text, &proof)? {
-            LowerVerdict::NoSolution => Ok(Trial::Contradiction(proof)),
-            _ => Ok(Trial::Open),
-        },
+        UNSATISFIABLE => {
+            let formula = hard_formula(instance)?;
+            match check_lines(&formula, &proof)? {
+                Verdict::Yes => Ok(Trial::Contradiction(proof)),
+                Verdict::No(_, _) => Ok(Trial::Open),
+            }
+        }
         OPTIMUM_FOUND => read_solution(alloc, &out),
         _ => Ok(Trial::Open),
     }
@@ -160,7 +168,7 @@ fn run(
 
 /// The solution of a result.
 fn read_solution(alloc: Global, said: &[u8]) -> Result<Trial, AllocError>
-    ensures { IfOk result (λ trial. (text : List ℕ) → IsRefuted text trial) }
+    ensures { IfOk result (λ trial. (p : Problem) → IsRefuted p trial) }
 {
     match read_report(alloc, said) {
         Ok(report) => Ok(solution_of(report.said)),
@@ -170,7 +178,7 @@ fn read_solution(alloc: Global, said: &[u8]) -> Result<Trial, AllocError>
 
 /// The bits of a result that has some.
 fn solution_of(said: Said) -> Trial
-    ensures { (text : List ℕ) → IsRefuted text result }
+    ensures { (p : Problem) → IsRefuted p result }
 {
     match said {
         Said::Optimum(solution) | Said::Sat(solution) => Trial::Solution(solution.bits),

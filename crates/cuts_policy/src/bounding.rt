@@ -40,14 +40,14 @@ pub(crate) struct BoundGuide {
     paid: Vec<Paid>,
     // The last cut.
     cut: Vec<Lit>,
-    // So many clauses may still be learned, or cut.
-    left: u64,
+    // It stops once the search has so many propagations; at 0 at once.
+    until: u64,
 }
 
 impl BoundGuide {
-    /// The present form as a bound, for about so many clauses that are learned or cut: what is
-    /// cheaper than the best solution stays below it. None where nothing does.
-    pub(crate) fn new<D: Desk>(desk: &D, share: u64) -> Result<Option<Self>, AllocError> {
+    /// The present form as a bound, until there were so many propagations: what is cheaper than the
+    /// best solution stays below it. None where nothing does.
+    pub(crate) fn new<D: Desk>(desk: &D, until: u64) -> Result<Option<Self>, AllocError> {
         let Some(limit) = limit_below_best(desk) else {
             return Ok(None);
         };
@@ -59,7 +59,7 @@ impl BoundGuide {
             sum: 0,
             paid: Vec::new(alloc),
             cut: Vec::new(alloc),
-            left: share,
+            until,
         }))
     }
 
@@ -170,14 +170,13 @@ impl Guide for BoundGuide {
     ghost follows = { λ _ _. ⊤ };
 
     fn advise(&mut self, search: &Search) -> Result<Advice, AllocError> {
-        if self.left == 0 {
+        if search.policy.propagations() >= self.until {
             return Ok(Advice::Stop);
         }
         self.look(search.engine.trail())?;
         if self.sum <= self.limit as u128 {
             return Ok(Advice::Free);
         }
-        self.left = self.left.saturating_sub(1);
         let levels = self.make_cut(search)?;
         Ok(Advice::Cut(Some(levels)))
     }
@@ -187,7 +186,7 @@ impl Guide for BoundGuide {
     }
 
     fn refused(&mut self) {
-        self.left = 0;
+        self.until = 0;
     }
 
     fn explained(&mut self, _falsified: Lit, _clause: &[Lit]) -> Result<(), AllocError> {
@@ -207,9 +206,7 @@ impl Guide for BoundGuide {
         self.seen = self.seen.min(assigned);
     }
 
-    fn learned(&mut self) {
-        self.left = self.left.saturating_sub(1);
-    }
+    fn learned(&mut self) {}
 
     fn kept_levels(&self) -> usize {
         0

@@ -72,14 +72,18 @@ impl Cores {
         })
     }
 
-    /// Looks for cores until about so many clauses were learned.
+    /// What the best solution costs beyond what the cores are worth.
+    pub(crate) fn gap<D: Desk>(&self, desk: &D) -> u64 {
+        desk.cost().saturating_sub(self.lower)
+    }
+
+    /// Looks for cores until about so many literals were assigned.
     pub(crate) fn turn<D: Desk>(&mut self, desk: &mut D, share: u64) -> Result<Course, DeskFault>
         ensures follows { (first : D) → D.follows first desk.old → D.follows first desk.new }
     {
-        let end = desk.learned().saturating_add(share);
+        let end = desk.propagations().saturating_add(share);
         for _ in 0..u64::MAX {
-            let left = end.saturating_sub(desk.learned());
-            match self.step(desk, left)? {
+            match self.step(desk, end)? {
                 Course::GoesOn => {}
                 Course::Over => return self.leave(desk),
                 Course::Ended => return Ok(Course::Ended),
@@ -144,14 +148,16 @@ impl Cores {
         self.counting.citing.cite_cost(desk)
     }
 
-    /// One search of the stratum, and what follows from it.
-    fn step<D: Desk>(&mut self, desk: &mut D, share: u64) -> Result<Course, DeskFault>
+    /// One search of the stratum, and what follows from it. The turn is over once there were more
+    /// propagations than `until`.
+    fn step<D: Desk>(&mut self, desk: &mut D, until: u64) -> Result<Course, DeskFault>
         ensures follows { (first : D) → D.follows first desk.old → D.follows first desk.new }
     {
         if self.settle(desk)? {
             return Ok(Course::Ended);
         }
-        if self.is_over || share == 0 || (self.threshold == 0 && !self.next_stratum()) {
+        let is_spent = desk.propagations() >= until;
+        if self.is_over || is_spent || (self.threshold == 0 && !self.next_stratum()) {
             return Ok(Course::Over);
         }
         self.tell_in_time(desk)?;
@@ -159,8 +165,9 @@ impl Cores {
         let assumed = self.assumed(desk)?;
         let room = assumed.len().saturating_mul(PASSED);
         let share = Share {
-            learned: share,
+            learned: u64::MAX,
             decisions: u64::MAX,
+            until,
         };
         let start = desk.learned();
         let mut guide = Assumptions::new(alloc, assumed, share, Passed::new(alloc, room));

@@ -294,6 +294,7 @@ fn refute<D: Desk>(desk: &mut D, lit: Lit, conflicts: u64) -> Result<(), DeskFau
     let share = Share {
         learned: conflicts,
         decisions: u64::MAX,
+        until: u64::MAX,
     };
     let mut guide = Assumptions::new(alloc, assumed, share, Passed::new(alloc, 0));
     desk.assume(&mut guide)?;

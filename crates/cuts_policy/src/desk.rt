@@ -106,6 +106,10 @@ pub trait Desk: Drop {
     /// How many clauses were learned or cut.
     fn learned(&self) -> u64;
 
+    /// How many literals the searches have assigned, those that have a value now left out: a measure
+    /// of work.
+    fn propagations(&self) -> u64;
+
     /// Whether the empty clause was added: nothing is cheaper than the best solution, or there is
     /// none.
     fn is_refuted(&self) -> bool
@@ -121,9 +125,11 @@ pub trait Desk: Drop {
     /// The value of the literal where the last search has ended, if it has one.
     fn value(&self, lit: Lit) -> Option<bool>;
 
-    /// Spends units until at most so many are left.
+    /// Spends units until at most so many are left, and no more.
     fn charge(&mut self, most: u64)
         ensures left { left self.new ≤ most }
+        ensures just { most ≤ left self.old → left self.new ≡ most }
+        ensures none { left self.old ≤ most → left self.new ≡ left self.old }
         ensures follows { (first : Self) → follows first self.old → follows first self.new };
 
     /// Searches under assumptions.

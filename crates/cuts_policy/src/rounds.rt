@@ -1,7 +1,11 @@
 // The rounds of the search: cores, then walks from the best solution, then solutions below it, each
-// for a share of conflicts that grows from round to round. Some instances are closed by cores
-// alone, and some only from above (Ansótegui, Bonet and Levy, "SAT-based MaxSAT algorithms", 2013,
-// compare the two).
+// for a share of work that grows from round to round. Some instances are closed by cores alone, and
+// some only from above (Ansótegui, Bonet and Levy, "SAT-based MaxSAT algorithms", 2013, compare the
+// two). A part that closed a tenth of the gap between cost and bound gets up to twice its share in
+// the next round.
+//
+// Work is counted in propagations: where one conflict takes thousands of them, turns by conflicts
+// were a second long, and walks came too late (a roster of 60 nurses: 801 after 3 s).
 //
 // The cores' form is the bound under which solutions are looked for. A solution that is no cheaper
 // shows that the form leaves cost unsaid: then counts grow; and where that takes too much, the cost
@@ -18,8 +22,37 @@ use cdcl::assumptions::Assumptions;
 use cdcl::outcome::{Passed, Share};
 use std::alloc::{AllocError, Global};
 
-/// The first turns learn about so many clauses.
-const FIRST: u64 = 1000;
+/// The first turns assign about so many literals.
+const FIRST: u64 = 300_000;
+
+/// Shares are counted in thousandths.
+const PARTS: u64 = 1000;
+
+/// A part that pays gets no more than so many thousandths of the share of a round.
+const MOST: u64 = 2000;
+
+/// What the parts of a round get of its share, from `PARTS` to `MOST` thousandths.
+#[derive(Drop)]
+struct Parts {
+    // The search for cores.
+    cores: u64,
+    // That for cheaper solutions.
+    descents: u64,
+}
+
+/// What a part gets in the next round, where there was such a gap before its turn, and after it.
+fn judge(part: u64, before: u64, after: u64) -> u64 {
+    if before.saturating_sub(after) > before / 10 {
+        (part.saturating_mul(3) / 2).min(MOST)
+    } else {
+        (part.saturating_mul(7) / 10).max(PARTS)
+    }
+}
+
+/// So many thousandths of a share.
+fn part_of(share: u64, part: u64) -> u64 {
+    (share / PARTS).saturating_mul(part)
+}
 
 /// Searches until nothing is cheaper than the best solution, or the budget is spent. `weights` are
 /// the literals that cost something, with what they cost. Each round costs a unit at least.
@@ -34,13 +67,17 @@ pub fn search<D: Desk>(desk: &mut D, weights: &[Relaxation]) -> Result<(), DeskF
     begin(desk, weights)?;
     let mut cores = Cores::new(desk.allocator(), weights, desk.last())?;
     let mut walks = Walks::new();
+    let mut parts = Parts {
+        cores: PARTS,
+        descents: PARTS,
+    };
     let mut share = FIRST;
     let mut left = desk.left();
     while left > 0 {
         if desk.is_refuted() {
             return Ok(());
         }
-        round(desk, &mut cores, &mut walks, share)?;
+        round(desk, &mut cores, &mut walks, &mut parts, share)?;
         share = share.saturating_add(share / 2);
         desk.charge(left - 1);
         left = desk.left();
@@ -63,6 +100,7 @@ fn begin<D: Desk>(desk: &mut D, weights: &[Relaxation]) -> Result<(), DeskFault>
     let all = Share {
         learned: u64::MAX,
         decisions: u64::MAX,
+        until: u64::MAX,
     };
     let mut free = Assumptions::new(alloc, Vec::new(alloc), all, Passed::new(alloc, 0));
     desk.assume(&mut free)?;
@@ -79,45 +117,51 @@ fn cheap_values(alloc: Global, weights: &[Relaxation], last: u32) -> Result<Vec<
     Ok(values)
 }
 
-/// Cores, then walks, and then solutions, for a share of conflicts each.
+/// Cores, then walks, and then solutions, for a share of propagations each.
 fn round<D: Desk>(
     desk: &mut D,
     cores: &mut Cores,
     walks: &mut Walks,
+    parts: &mut Parts,
     share: u64,
 ) -> Result<(), DeskFault>
     ensures follows { (first : D) → D.follows first desk.old → D.follows first desk.new }
 {
-    match cores.turn(desk, share)? {
+    let before = cores.gap(desk);
+    let course = cores.turn(desk, part_of(share, parts.cores))?;
+    parts.cores = judge(parts.cores, before, cores.gap(desk));
+    match course {
         Course::GoesOn | Course::Over => {
             walks.turn(desk, share)?;
-            descend(desk, cores, share)?;
+            let before = cores.gap(desk);
+            descend(desk, cores, part_of(share, parts.descents))?;
+            parts.descents = judge(parts.descents, before, cores.gap(desk));
         }
         Course::Ended => {}
     }
     cores.tell_bound(desk)
 }
 
-/// Looks for solutions below the best one.
+/// Looks for solutions below the best one, until about so many literals were assigned.
 fn descend<D: Desk>(desk: &mut D, cores: &mut Cores, share: u64) -> Result<(), DeskFault>
     ensures follows { (first : D) → D.follows first desk.old → D.follows first desk.new }
 {
-    let end = desk.learned().saturating_add(share);
+    let end = desk.propagations().saturating_add(share);
     cores.cite_cores(desk)?;
     for _ in 0..u64::MAX {
-        let left = end.saturating_sub(desk.learned());
-        if left == 0 || !descend_once(desk, cores, left)? {
+        if desk.propagations() >= end || !descend_once(desk, cores, end)? {
             return Ok(());
         }
     }
     Ok(())
 }
 
-/// Looks for a solution below the best one; answers whether to go on from where that has led.
-fn descend_once<D: Desk>(desk: &mut D, cores: &mut Cores, share: u64) -> Result<bool, DeskFault>
+/// Looks for a solution below the best one, until there were so many propagations; answers whether
+/// to go on from where that has led.
+fn descend_once<D: Desk>(desk: &mut D, cores: &mut Cores, until: u64) -> Result<bool, DeskFault>
     ensures follows { (first : D) → D.follows first desk.old → D.follows first desk.new }
 {
-    let Some(mut guide) = BoundGuide::new(desk, share)? else {
+    let Some(mut guide) = BoundGuide::new(desk, until)? else {
         desk.cut(&[])?;
         return Ok(false);
     };

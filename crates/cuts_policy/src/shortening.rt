@@ -68,6 +68,7 @@ fn search_again<D: Desk>(
     let share = Share {
         learned: AGAIN_CONFLICTS,
         decisions: u64::MAX,
+        until: u64::MAX,
     };
     let mut core = first;
     let mut is_shown = false;
@@ -104,6 +105,7 @@ fn leave_out_each<D: Desk>(
     let share = Share {
         learned: WITHOUT_ONE,
         decisions: DECISIONS,
+        until: u64::MAX,
     };
     let mut core = first;
     if core.len() < 2 || core.len() > LONG {

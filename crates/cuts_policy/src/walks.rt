@@ -4,19 +4,15 @@
 // where it found something, and a smaller one where not.
 //
 // A walk costs no unit of the budget, so all walks together make at most so many visits for each
-// clause that was learned. A visit takes some 13 ns, and the search 20 to 70 microseconds for each
-// clause that it learns on instances of middle size, and up to a millisecond on large ones.
+// propagation. A visit takes some 13 ns, and a propagation some 170 with all that goes with it.
 
 use crate::desk::{Desk, DeskFault};
 use improve_local::kinds::WalkKind;
 
-/// So many visits go with each clause that the other parts of a turn learn,
-const VISITS: u64 = 4000;
+/// So many visits go with each propagation of the other parts of a turn.
+const VISITS: u64 = 13;
 
-/// and one more for so many literals of the instance.
-const LITERALS: u64 = 32;
-
-/// Of these the first priced walk makes so many thousandths,
+/// Of these the second priced walk makes so many thousandths,
 const FIRST_PRICED: u64 = 100;
 
 /// and the first growing one so many.
@@ -41,8 +37,14 @@ const LEAST_GROWING: u64 = 20;
 /// A walk makes no more than so many visits for each literal.
 const MOST_EACH: u64 = 1000;
 
-/// All walks may make as many visits as if so many clauses more were learned.
-const BEFORE: u64 = 50;
+/// The first priced walk makes so many visits for each literal,
+const BEGINNING_EACH: u64 = 120;
+
+/// and so many at most. They are beside what goes with propagations.
+const BEGINNING: u64 = 10_000_000;
+
+/// All walks may make as many visits as if there were so many propagations more.
+const BEFORE: u64 = 15_000;
 
 /// The walks of one kind.
 #[derive(Drop)]
@@ -56,9 +58,9 @@ struct Way {
 }
 
 impl Way {
-    /// How many visits a walk is to make, where the turns learn about so many clauses each.
+    /// How many visits a walk is to make, where the turns have about so many propagations each.
     fn visits(&self, size: u64, share: u64) -> u64 {
-        let turn = share.saturating_mul(visits_each(size));
+        let turn = share.saturating_mul(VISITS);
         let part = (turn / PARTS).saturating_mul(self.part);
         let least = size.saturating_mul(self.least).min(turn / 2);
         part.max(least).min(size.saturating_mul(MOST_EACH))
@@ -81,8 +83,10 @@ pub(crate) struct Walks {
     priced: Way,
     // Those whose clauses only become heavier.
     growing: Way,
-    // How many visits all of them made.
+    // How many visits all of them made but the first one.
     visits: u64,
+    // Whether there was a first one.
+    has_begun: bool,
 }
 
 impl Walks {
@@ -100,37 +104,44 @@ impl Walks {
                 least: LEAST_GROWING,
             },
             visits: 0,
+            has_begun: false,
         }
     }
 
-    /// A walk of each kind, as one of the turns that learn about so many clauses each.
+    /// A walk of each kind, as one of the turns that have about so many propagations each.
     pub(crate) fn turn<D: Desk>(&mut self, desk: &mut D, share: u64) -> Result<(), DeskFault>
         ensures follows { (first : D) → D.follows first desk.old → D.follows first desk.new }
     {
-        walk(desk, &mut self.priced, &mut self.visits, share)?;
+        if self.has_begun {
+            walk(desk, &mut self.priced, &mut self.visits, share)?;
+        } else {
+            self.has_begun = true;
+            let most = desk.size().saturating_mul(BEGINNING_EACH);
+            walk_for(desk, &mut self.priced, most.min(BEGINNING))?;
+        }
         walk(desk, &mut self.growing, &mut self.visits, share)
     }
 }
 
-/// How many visits go with a learned clause.
-fn visits_each(size: u64) -> u64 {
-    VISITS.saturating_add(size / LITERALS)
-}
-
-/// A walk of this kind; `made` are the visits of all walks.
+/// A walk of this kind; `made` are the visits of all walks that go with propagations.
 fn walk<D: Desk>(desk: &mut D, way: &mut Way, made: &mut u64, share: u64) -> Result<(), DeskFault>
     ensures follows { (first : D) → D.follows first desk.old → D.follows first desk.new }
 {
-    let size = desk.size();
-    let clauses = desk.learned().saturating_add(BEFORE);
-    let left = clauses
-        .saturating_mul(visits_each(size))
-        .saturating_sub(*made);
-    let visits = way.visits(size, share).min(left);
+    let propagations = desk.propagations().saturating_add(BEFORE);
+    let left = propagations.saturating_mul(VISITS).saturating_sub(*made);
+    let visits = way.visits(desk.size(), share).min(left);
+    let walked = walk_for(desk, way, visits)?;
+    *made = made.saturating_add(walked);
+    Ok(())
+}
+
+/// A walk of this kind for about so many visits; answers how many it made.
+fn walk_for<D: Desk>(desk: &mut D, way: &mut Way, visits: u64) -> Result<u64, DeskFault>
+    ensures follows { (first : D) → D.follows first desk.old → D.follows first desk.new }
+{
     let walked = desk.walk(way.kind, visits)?;
     if walked.visits > 0 {
-        *made = made.saturating_add(walked.visits);
         way.judge(walked.is_cheaper);
     }
-    Ok(())
+    Ok(walked.visits)
 }

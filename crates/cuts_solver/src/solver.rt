@@ -4,13 +4,14 @@
 //! log takes them where they are right and refuses them else, and the clauses that it makes of them
 //! go to the engine at once. So no proof rests on what is proposed.
 ghost use Rattle.std.specs.Prelude.{◌≡◌, ◌+◌, ◌<◌, ◌≤◌, [], ◌∷◌, ◌++◌, List, true, false, min};
-ghost use Rattle.std.specs.Prelude.{IfOk, IfSome, OnOk, length, map};
+ghost use Rattle.std.specs.Prelude.{IfOk, IfSome, OnOk, length, map, Some, None};
 ghost use Rattle.cnf.specs.Literal.{Literal};
 ghost use Rattle.cnf.specs.declared.limits.TheConstants.{NUMBER_LIMIT};
 ghost use Rattle.std.specs.List.{AllByRecursion};
 ghost use Rattle.lrat_log.specs.Log.{LogLine, axiom_line};
 ghost use Rattle.lrat_log.specs.Axioms.{IsNewClause};
 ghost use Rattle.propagate.specs.Fits.{IsWithin};
+ghost use Rattle.propagate.specs.Trail.{level_in, value_in};
 ghost use Rattle.cdcl_search.specs.Running.{Runs};
 ghost use Rattle.cuts_log.specs.Books.{IsBook};
 ghost use Rattle.cuts_log.specs.Logs.{IsKept, SameLog, lines_seen};
@@ -202,8 +203,21 @@ impl<W: Write + Drop> CutsSolver<W> {
         self.log.has_write_failed()
     }
 
+    /// How many literals the searches have assigned, those that have a value now left out: a measure
+    /// of work.
+    pub fn propagations(&self) -> u64 {
+        self.search.policy.propagations()
+    }
+
     /// The value of the literal at level 0, where it has one there.
-    pub fn fixed(&self, lit: Lit) -> Option<bool> {
+    pub fn fixed(&self, lit: Lit) -> Option<bool>
+        ensures fixed { level_in self.now.search.engine.trail lit.variable ≡ Some 0
+            → lit.variable ≤ self.now.search.engine.variables
+            → result ≡ value_in self.now.search.engine.trail lit }
+        ensures above { (level_in self.now.search.engine.trail lit.variable ≡ Some 0 → ⊥)
+            → result ≡ None }
+        ensures beyond { self.now.search.engine.variables < lit.variable → result ≡ None }
+    {
         if lit.variable() > self.last() || self.search.engine.level(lit.variable()) != Some(0) {
             return None;
         }
@@ -211,7 +225,11 @@ impl<W: Write + Drop> CutsSolver<W> {
     }
 
     /// The value of the literal where the last search has ended, if it has one.
-    pub fn value(&self, lit: Lit) -> Option<bool> {
+    pub fn value(&self, lit: Lit) -> Option<bool>
+        ensures here { lit.variable ≤ self.now.search.engine.variables
+            → result ≡ value_in self.now.search.engine.trail lit }
+        ensures beyond { self.now.search.engine.variables < lit.variable → result ≡ None }
+    {
         if lit.variable() > self.last() {
             return None;
         }

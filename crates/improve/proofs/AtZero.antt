@@ -1,6 +1,6 @@
 -- The formula for 'cost below 0' has the empty clause as its last one, and no cost is below 0.
 use Rattle.std.proofs.Common.{◌≡◌, ℕ, ◌+◌, Bool, List, [], ◌∷◌, ◌++◌, length, inl, refl, sym, subst}
-use Rattle.std.proofs.Common.{ap, ◌∙◌, arith, length-append}
+use Rattle.std.proofs.Common.{arith, length-append}
 use Rattle.std.specs.declared.vec.Vec.{Vec}
 use Rattle.std.specs.declared.alloc.Global.{Global}
 use Rattle.cnf.specs.Literal.{Literal}
@@ -11,12 +11,10 @@ use Rattle.cnf.specs.Problem.{Problem}
 use Rattle.lrat_log.specs.Log.{LogLine}
 use Rattle.lrat_log.proofs.Laws.{numbered_right}
 use Rattle.adder.specs.declared.profiles.Profile.{Profile}
-use Rattle.bound.specs.Bound.{bound_as, addition_as, fixed_clauses}
+use Rattle.bound.specs.Bound.{bound_as, fixed_clauses}
 use Rattle.improve.specs.Improving.{IsSolution, IsAcceptedOver, IsClauseCount, IsRightFound}
-use Rattle.improve.specs.Improving.{repeats_empty, IsRefutation}
+use Rattle.improve.specs.Improving.{repeats_empty}
 use Rattle.improve.specs.declared.found.Found.TheVariants.{Optimum}
-use Rattle.cores.specs.Cores.{Core}
-use Rattle.improve.proofs.Comparators.{compared_zero}
 
 -- its number is that of the clauses
 empty_accepted : (cs : List (List Literal)) (n : ℕ) → n ≡ length (cs ++ [] ∷ [])
@@ -55,23 +53,17 @@ pub zero_accepted : (profile : Profile) (p : Problem) (n : ℕ) (log : List LogL
     → n ≡ length (bound_as profile p 0).clauses → log ≡ repeats_empty n
     → IsAcceptedOver (bound_as profile p 0).clauses log
 zero_accepted profile p n log e is =
-    let fixed = fixed_clauses profile p in
-    let none = compared_zero (addition_as profile p) in
     subst (IsAcceptedOver (bound_as profile p 0).clauses) (sym is)
-    (subst (λ x. IsAcceptedOver (fixed ++ x) (repeats_empty n)) (sym none)
-    (empty_accepted fixed n (e ∙ ap (λ x. length (fixed ++ x)) none)))
+    (empty_accepted (fixed_clauses profile p) n e)
 
 pub right_zero : (profile : Profile) (p : Problem) (bits : Vec Bool Global) (log : List LogLine)
-    (count : ℕ) (cores : Vec Core Global) → cores.items ≡ []
-    → IsSolution p bits.items 0 → IsAcceptedOver (bound_as profile p 0).clauses log
+    (count : ℕ) → IsSolution p bits.items 0 → IsAcceptedOver (bound_as profile p 0).clauses log
     → IsClauseCount count (bound_as profile p 0).clauses
-    → IsRightFound profile p (0 ∷ []) (Optimum 0 bits log count cores)
-right_zero profile p bits log count cores none s accepted counted = record {
+    → IsRightFound profile p (0 ∷ []) (Optimum 0 bits log count)
+right_zero profile p bits log count s accepted counted = record {
   solution = s;
   told = ([], refl);
   optimal =
       λ t x. record { feasible = (s.1 t x).0; exact = (s.1 t x).1; least = λ u f. omega arith };
-  refutation =
-      subst (λ x. IsRefutation profile p (0 ∷ []) 0 x log count) (sym none)
-      (record { accepted = accepted; begins = (log, refl); counted = counted });
+  refutation = record { accepted = accepted; begins = (log, refl); counted = counted };
 }

@@ -10,7 +10,8 @@ use Rattle.cnf.specs.Clause.{Satisfies}
 use Rattle.cnf.specs.Bits.{Extends, assignment_of}
 use Rattle.cnf.specs.Problem.{Problem, IsFeasible, cost_under}
 use Rattle.lrat_log.specs.declared.lines.Name.{Name}
-use Rattle.bound.specs.Bound.{bound_as, addition_as, fixed_clauses, comparator_for}
+use Rattle.adder.specs.Network.{adders_as}
+use Rattle.bound.specs.Bound.{bound_as, fixed_clauses, comparator_for}
 use Rattle.bound.proofs.Laws.{says_cheaper}
 use Rattle.std.specs.Prelude.{Contains, if◌then◌else◌}
 use Rattle.std.proofs.lemmas.Bool.{false_from_ne_true}
@@ -19,7 +20,7 @@ use Rattle.lrat_log.specs.Log.{LogLine, is_learned, clauses_in}
 use Rattle.lrat_log.specs.Steps.{IsLogOver, IsBaseOf, LearnsNew, is_later, nothing_exempt}
 use Rattle.lrat_log.specs.Steps.{learned_count, given_of}
 use Rattle.lrat_log.proofs.Laws.{base_of}
-use Rattle.improve.specs.Frozen.{IsFrozenFor}
+use Rattle.improve.specs.Frozen.{AreFrozen}
 use Rattle.cdcl.specs.Solving.{given_to, SatisfyGiven, SameGiven, IsPlainlyRefuted, lines_since}
 use Rattle.improve.specs.Improving.{IsSolution, IsCostOfSome, AreFalling}
 use Rattle.improve.specs.Bounds.{LogSolver, IsOver}
@@ -28,7 +29,7 @@ use Rattle.std.proofs.lemmas.List.{length-map}
 use Rattle.lrat_log.proofs.Laws.{new_searched}
 use Rattle.improve.specs.declared.bounds.Bounds.{Bounds}
 use Rattle.cnf.proofs.Laws.{extends_own, all_left, all_right, all_append}
-use Rattle.improve.proofs.Comparators.{compared_zero, variables_within}
+use Rattle.improve.proofs.Comparators.{variables_within}
 use Rattle.improve.proofs.GivenParts.{given_split}
 
 -- all clauses given hold, so those of the formula for the last bound do
@@ -91,7 +92,7 @@ pub solved_over : (p : Problem) (b : Bounds) (s : LogSolver) → IsOver p b → 
     (lines_since (b.solver).sink s.sink))
     → IsOver p (record {
       solver = s;
-      addition = b.addition;
+      network = b.network;
       profile = b.profile;
       costs = b.costs;
       fixed = b.fixed;
@@ -113,8 +114,8 @@ solved_over p b s h same works log grows fresh =
           };
       formula = same.0 ∙ h.formula;
       clauses = ap clauses_in given ∙ h.clauses;
-      addition = h.addition;
-      frozen = subst (λ x. IsFrozenFor x p (addition_as b.profile p)) (sym same.2) h.frozen;
+      network = h.network;
+      frozen = subst (λ x. AreFrozen x (adders_as b.profile p).outputs) (sym same.2) h.frozen;
       fixed = h.fixed;
       last = h.last;
     }
@@ -167,7 +168,6 @@ zero_refuted p b before c h e none =
     ≡ (fixed_clauses b.profile p ++ flat_map (comparator_for b.profile p) before) ++ [] ∷ [] =
     given_split p b before c h e
     ∙ ap (λ k. A ++ (B ++ comparator_for b.profile p k)) none
-    ∙ ap (λ x. A ++ (B ++ x)) (compared_zero (addition_as b.profile p))
     ∙ sym (append_assoc A B ([] ∷ [])) in
     inr (subst (λ x. Contains x []) (sym parts) (Contains-push (A ++ B) []))
 

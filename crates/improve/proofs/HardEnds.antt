@@ -1,9 +1,9 @@
 -- The ends of a search over the hard clauses alone.
 use Rattle.std.proofs.Common.{◌≡◌, ℕ, ◌+◌, Bool, List, [], ◌∷◌, ◌++◌, length, inl, refl, sym, ◌∙◌}
 use Rattle.std.proofs.Common.{ap, subst, arith}
-use Rattle.std.specs.Prelude.{All, IfSome}
+use Rattle.std.specs.Prelude.{All}
 use Rattle.std.proofs.lemmas.List.{length-map}
-use Rattle.std.proofs.lemmas.List.Elements.{All-map, All-nil}
+use Rattle.std.proofs.lemmas.List.Elements.{All-map}
 use Rattle.cnf.specs.Literal.{Literal, Assignment}
 use Rattle.cnf.specs.Clause.{Satisfies}
 use Rattle.cnf.specs.Bits.{Extends, assignment_of}
@@ -22,9 +22,8 @@ use Rattle.bound.specs.Bound.{hard_cnf}
 use Rattle.bound.proofs.Laws.{feasible}
 use Rattle.bound.proofs.Laws.{hard_few}
 use Rattle.cdcl.specs.Solving.{given_to, SatisfyGiven, SameGiven, IsPlainlyRefuted, lines_since}
-use Rattle.improve.specs.Improving.{IsHardLog, IsRightFound, IsSearchWork, IsCoreRefutation}
-use Rattle.improve.specs.Improving.{work_count, search_count, tried_count}
-use Rattle.improve.specs.Standing.{AreFeasible, IsEarlyWork, IsOnlyHard}
+use Rattle.improve.specs.Improving.{IsHardLog, IsRightFound}
+use Rattle.improve.specs.Standing.{AreFeasible}
 use Rattle.improve.specs.Bounds.{LogSolver, IsOverHard}
 use Rattle.improve.specs.declared.found.Work.{Work}
 use Rattle.improve.specs.declared.found.Found.TheVariants.{Unsat, Nothing}
@@ -130,38 +129,9 @@ module _ (p : Problem) (old : LogSolver) (h : IsOverHard p old) where
   hard_learned new before after e l =
       omega (arith, learned_more old.sink new before after e l, h.learned)
 
--- what was learned over the hard clauses, and nothing else
-
-pub only_hard_count : (hard : List LogLine) (w : Work) → IsOnlyHard hard w
-    → work_count w ≡ learned_count hard
-only_hard_count hard w e =
-    omega (
-      arith,
-      ap learned_count e.hard_is,
-      ap learned_count e.no_bound,
-      ap search_count e.no_search,
-      ap tried_count e.none_tried,
-    )
-
-pub only_hard_early : (p : Problem) (hard : List LogLine) (w : Work) → IsOnlyHard hard w
-    → IsHardLog p hard → IsEarlyWork p w
-only_hard_early p hard w e log = record {
-  hard = subst (IsHardLog p) (sym e.hard_is) log;
-  no_bound = e.no_bound;
-  search = subst (λ s. IfSome s (IsSearchWork p)) (sym e.no_search) tt;
-  tried =
-      subst (All (IsCoreRefutation p)) (sym e.none_tried) (All-nil (IsCoreRefutation p));
-}
-
 -- nothing was found
-pub right_nothing : (profile : Profile) (p : Problem) (hard : List LogLine) (work : Work)
-    → IsOnlyHard hard work → IsHardLog p hard → (IsRefutedByHints (hard_cnf p).clauses → ⊥)
+pub right_nothing : (profile : Profile) (p : Problem) (work : Work) → work.bound ≡ []
+    → IsHardLog p work.hard → (IsRefutedByHints (hard_cnf p).clauses → ⊥)
     → IsRightFound profile p [] (Nothing work)
-right_nothing profile p hard work e log free = record {
-  none_told = refl;
-  not_refuted = free;
-  hard = subst (IsHardLog p) (sym e.hard_is) log;
-  no_bound = e.no_bound;
-  no_search = e.no_search;
-  none_tried = e.none_tried;
-}
+right_nothing profile p work none log free =
+    record { none_told = refl; not_refuted = free; hard = log; no_bound = none }

@@ -19,8 +19,9 @@ use Rattle.lrat_log.specs.Steps.{IsLogOver, IsAcceptedLog, AddsNoEmptyClause}
 use Rattle.lrat_log.specs.Steps.{LearnsNew, is_later, learned_count, given_of}
 use Rattle.lrat_log.specs.Rebase.{WeakerList, rebased, IsWeakerOf, IsSomeClause, KeepsLog}
 use Rattle.adder.specs.declared.profiles.Profile.{Profile}
-use Rattle.bound.specs.Bound.{bound_as, addition_as, fixed_clauses, comparator_for}
-use Rattle.bound.proofs.Laws.{covers_larger_over, without_bound, bound_is_formula}
+use Rattle.adder.specs.Network.{adders_as}
+use Rattle.bound.specs.Bound.{bound_as, fixed_clauses, comparator_for}
+use Rattle.bound.proofs.Laws.{covers_larger, without_bound, bound_is_formula}
 use Rattle.lrat_log.proofs.Laws.{numbered_right, open_rebased, learned_rebased}
 use Rattle.cdcl.specs.Solving.{given_to}
 use Rattle.improve.specs.Improving.{AreFalling, first_subset, weaker_among}
@@ -92,9 +93,9 @@ module _ (profile : Profile) (p : Problem) (h : IsInstance p) (before : List ℕ
       let cs = comparator_for profile p d in
       let a = all_right (IsFormulaClause (bound_as profile p d).variables) fixed cs formula in
       let b =
-      recursion_from_All (IsCovered last) cs (covers_larger_over (addition_as profile p) c d
+      recursion_from_All (IsCovered last) cs (covers_larger (adders_as profile p).outputs c d
       (omega arith)) in
-      let e = compared_some (addition_as profile p) d (omega arith) in
+      let e = compared_some (adders_as profile p).outputs d (omega arith) in
       all_weaker (λ x. IsFormulaClause (bound_as profile p d).variables x
       × (IsCovered last x × (is_empty_clause x ≡ false))) Fits cs (λ x y. (y.0, y.1.0, y.1.1))
       (all_both (IsFormulaClause (bound_as profile p d).variables) (λ x. IsCovered last x

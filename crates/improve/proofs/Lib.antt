@@ -12,8 +12,6 @@ mod AtZero
 mod SearchEnds
 mod HardEnds
 mod Lowering
-mod StageEnds
 mod Standings
 mod Shown
-mod CoreEnds
 pub mod Laws

@@ -27,7 +27,7 @@ cost_small p c h k =
 
 pub on_work_weaker : (r : Result Found ImproveFault) (P Q : Work → Type 0)
     → ((w : Work) → P w → Q w) → OnWork r P → OnWork r Q
-on_work_weaker (Ok (Optimum c bits log clauses cores)) P Q f h = tt
+on_work_weaker (Ok (Optimum c bits log clauses)) P Q f h = tt
 on_work_weaker (Ok (Unsat log clauses)) P Q f h = tt
 on_work_weaker (Ok (Best c bits work)) P Q f h = f work h
 on_work_weaker (Ok (Nothing work)) P Q f h = f work h

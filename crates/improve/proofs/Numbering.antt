@@ -14,9 +14,8 @@ use Rattle.lrat_log.specs.declared.lines.Name.{Name}
 use Rattle.lrat_log.specs.declared.lines.Name.TheVariants.{Formula}
 use Rattle.lrat_log.specs.Log.{LogLine, Given, given_at, is_learned, clauses_in}
 use Rattle.lrat_log.specs.Steps.{IsLogOver, LearnsNew, is_later, learned_count, given_of}
-use Rattle.lrat_log.proofs.Laws.{clauses_given, given_at-given_of}
+use Rattle.lrat_log.proofs.Laws.{given_on, clauses_given, given_at-given_of}
 use Rattle.cdcl.specs.Solving.{given_to, GivesMore, lines_since}
-use Rattle.improve_cores.proofs.Laws.{given_pushed}
 use Rattle.improve.specs.Bounds.{LogSolver, IsUsable, GivesAll}
 use Rattle.lrat_log.proofs.Laws.{none_new}
 use Rattle.lrat_log.proofs.Laws.{new_more}
@@ -32,6 +31,15 @@ fresh_name given n e l =
       ap (λ g. given_at g n) e ∙ given_at-given_of (clauses_in given) n
           ∙ numbered_past (clauses_in given) n few,
     )
+
+given_last : (n : ℕ) (cs : List (List Literal)) (c : List Literal) (m : ℕ) → m ≡ n + length cs
+    → given_on n (cs ++ c ∷ []) ≡ given_on n cs ++ (Formula m, c) ∷ []
+given_last n [] c m e = let same : n ≡ m = omega arith in ap (λ k. (Formula k, c) ∷ []) same
+given_last n (d ∷ cs) c m e = ap (λ x. (Formula n, d) ∷ x) (given_last (n + 1) cs c m (omega arith))
+
+given_pushed : (cs : List (List Literal)) (c : List Literal) (m : ℕ) → m ≡ length cs + 1
+    → given_of (cs ++ c ∷ []) ≡ given_of cs ++ (Formula m, c) ∷ []
+given_pushed cs c m e = given_last 1 cs c m (omega arith)
 
 learned_on : (a b : List LogLine) → learned_count b ≡ 0 → learned_count (a ++ b) ≡ learned_count a
 learned_on a b h =

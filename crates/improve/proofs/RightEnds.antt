@@ -13,7 +13,6 @@ use Rattle.cnf.specs.Instance.{IsInstance}
 use Rattle.cnf.proofs.Laws.{certificate_sound}
 use Rattle.lrat_log.specs.Log.{LogLine, numbered_lines}
 use Rattle.lrat_log.specs.Steps.{IsAcceptedLog, AddsNoEmptyClause, LearnsNew, is_later, given_of}
-use Rattle.lrat_log.specs.Steps.{learned_count}
 use Rattle.lrat_log.specs.Rebase.{weaker_line, moved_line, rebased}
 use Rattle.lrat_log.proofs.Laws.{accepts_of_log, steps_of_log}
 use Rattle.adder.specs.declared.profiles.Profile.{Profile}
@@ -21,16 +20,13 @@ use Rattle.bound.specs.Bound.{bound_as, fixed_clauses, comparator_for}
 use Rattle.bound.proofs.Laws.{says_cheaper}
 use Rattle.bound.proofs.Laws.{clauses_few}
 use Rattle.cdcl.specs.Solving.{given_to}
-use Rattle.improve.specs.Improving.{IsSolution, EndsWith, AreFalling, IsAcceptedOver}
-use Rattle.improve.specs.Improving.{IsRefutation, work_count}
-use Rattle.improve.specs.Standing.{IsEarlyWork, with_bound}
-use Rattle.improve.specs.declared.found.Work.{Work}
-use Rattle.cores.specs.Cores.{Core}
+use Rattle.improve.specs.Improving.{IsSolution, EndsWith, AreFalling, IsAcceptedOver, IsHardLog}
 use Rattle.improve.specs.Improving.{IsRightFound, BeginsWithWeaker, but_last, first_subset}
 use Rattle.improve.specs.Improving.{weaker_for, weaker_among}
 use Rattle.improve.specs.Bounds.{IsOver, BoundLog}
 use Rattle.improve.specs.declared.bounds.Bounds.{Bounds}
 use Rattle.improve.specs.declared.found.Found.TheVariants.{Optimum, Best}
+use Rattle.improve.specs.declared.found.Work.{Work}
 
 but_last-end : (before : List ℕ) (c : ℕ) → but_last (before ++ c ∷ []) ≡ before
 but_last-end [] c = refl
@@ -88,14 +84,13 @@ optimal profile p h bits c log s accepted t x = record {
 }
 
 pub right_optimum : (p : Problem) (b : Bounds) (cost : ℕ) (bits : Vec Bool Global)
-    (log : List LogLine) (count : ℕ) (cores : Vec Core Global) → cores.items ≡ []
-    → IsOver p b → BoundLog p b log
+    (log : List LogLine) (count : ℕ) → IsOver p b → BoundLog p b log
     → IsAcceptedLog (given_to b.solver) (b.solver).sink
     → IsSolution p bits.items cost → EndsWith (b.costs).items cost → AreFalling (b.costs).items
     → ((before : List ℕ) (c : ℕ) → (b.costs).items ≡ before ++ c ∷ []
     → count ≡ length (bound_as b.profile p c).clauses)
-    → IsRightFound b.profile p (b.costs).items (Optimum cost bits log count cores)
-right_optimum p b cost bits log count cores none over is refuted s ends falling counts =
+    → IsRightFound b.profile p (b.costs).items (Optimum cost bits log count)
+right_optimum p b cost bits log count over is refuted s ends falling counts =
     let accepted =
     accepts_of_log (bound_as b.profile p cost).clauses log
     (is.accepted ends.0 cost ends.1 falling refuted) in
@@ -104,39 +99,29 @@ right_optimum p b cost bits log count cores none over is refuted s ends falling 
       solution = s;
       told = ends;
       optimal = optimal b.profile p over.instance bits.items cost log s accepted;
-      refutation =
-          subst (λ x. IsRefutation b.profile p (b.costs).items cost x log count) (sym none)
-          (record {
-            accepted = accepted;
-            begins =
-                begins b.profile p (b.costs).items ends.0 cost (b.solver).sink log ends.1
-                (is.lines ends.0 cost ends.1);
-            counted = (same, omega (arith, same, clauses_few b.profile p cost over.instance));
-          });
+      refutation = record {
+        accepted = accepted;
+        begins =
+            begins b.profile p (b.costs).items ends.0 cost (b.solver).sink log ends.1
+            (is.lines ends.0 cost ends.1);
+        counted = (same, omega (arith, same, clauses_few b.profile p cost over.instance));
+      };
     }
 
--- the lines for the bounds come to what was learned before
-pub bound_count : (early : Work) (log : List LogLine) → early.bound ≡ []
-    → work_count (with_bound log early) ≡ work_count early + learned_count log
-bound_count early log none =
-    let empty : learned_count early.bound ≡ 0 = ap learned_count none in
-    omega (arith, empty)
-
 pub right_best : (p : Problem) (b : Bounds) (cost : ℕ) (bits : Vec Bool Global)
-    (early : Work) (log : List LogLine) → IsOver p b → BoundLog p b log
+    (work : Work) → IsOver p b → BoundLog p b work.bound
     → AddsNoEmptyClause (b.solver).sink
     → IsSolution p bits.items cost → 0 < cost → EndsWith (b.costs).items cost
-    → AreFalling (b.costs).items → IsEarlyWork p early
-    → IsRightFound b.profile p (b.costs).items (Best cost bits (with_bound log early))
-right_best p b cost bits early log over is free s above ends falling work =
+    → AreFalling (b.costs).items → IsHardLog p work.hard
+    → IsRightFound b.profile p (b.costs).items (Best cost bits work)
+right_best p b cost bits work over is free s above ends falling hard =
+    let log = work.bound in
     let cs = (bound_as b.profile p cost).clauses in
     record {
       solution = s;
       told = ends;
       above_zero = above;
-      hard = work.hard;
-      search = work.search;
-      tried = work.tried;
+      hard = hard;
       bound = record {
         work = record {
           steps = steps_of_log cs log (is.is_log ends.0 cost ends.1 falling);

@@ -1,30 +1,23 @@
 -- From one standing to the next, and how a search ends that came to one.
-use Rattle.std.proofs.Common.{◌≡◌, ℕ, ◌+◌, ◌<◌, List}
-use Rattle.std.proofs.Common.{[], ◌∷◌, ◌++◌, Bool}
-use Rattle.std.proofs.Common.{Result, Ok, Err, length, append_assoc}
-use Rattle.std.proofs.Common.{length-append, refl, sym, ◌∙◌, ap}
-use Rattle.std.proofs.Common.{subst, arith, false}
-use Rattle.std.specs.Prelude.{All, IfOk, IfErr, is_ok, is_err, if◌then◌else◌}
-use Rattle.std.proofs.lemmas.Bool.{false≢true}
-use Rattle.std.proofs.lemmas.List.Elements.{All-push}
+use Rattle.std.proofs.Common.{◌≡◌, ℕ, ◌+◌, ◌<◌, List, [], ◌∷◌, ◌++◌, Bool, Result, Err, length}
+use Rattle.std.proofs.Common.{append_assoc, length-append, refl, sym, ◌∙◌, ap, subst, arith}
+use Rattle.std.specs.Prelude.{All, IfOk, IfErr}
+use Rattle.std.proofs.lemmas.List.Elements.{All-nil, All-push}
 use Rattle.std.specs.declared.vec.Vec.{Vec}
 use Rattle.std.specs.declared.alloc.Global.{Global}
-use Rattle.cnf.specs.Literal.{Assignment}
-use Rattle.cnf.specs.Problem.{Problem, IsFeasible}
-use Rattle.lrat_log.specs.Log.{LogLine}
+use Rattle.cnf.specs.Problem.{Problem}
 use Rattle.lrat_log.specs.Steps.{learned_count}
 use Rattle.adder.specs.declared.profiles.Profile.{Profile}
 use Rattle.cdcl_order.specs.Budgets.{BudgetState, left_of}
-use Rattle.improve_cores.specs.CoreWork.{CoreWork, CountsLearned, IsSearchFor, KeepsFormula}
 use Rattle.improve.specs.declared.found.Found.{Found}
 use Rattle.improve.specs.declared.found.ImproveFault.{ImproveFault}
 use Rattle.improve.specs.declared.found.ImproveFault.TheVariants.{Memory, Progress}
-use Rattle.improve.specs.declared.standing.Standing.{Standing}
 use Rattle.improve.specs.Progress.{Telling, with_told, with_failed}
-use Rattle.improve.specs.Improving.{IsSolution, IsCostOfSome, AreFalling, IsRightFound, Improves}
-use Rattle.improve.specs.Improving.{OnWork, work_count}
-use Rattle.improve.specs.Standing.{costs_of, IsStanding, GoesOn, Descends, Ends, Fails}
-use Rattle.improve.specs.Bounds.{HasLast}
+use Rattle.improve.specs.Improving.{IsSolution, IsCostOfSome, AreFalling, IsRightFound, OnWork}
+use Rattle.improve.specs.Improving.{work_count}
+use Rattle.improve.specs.Standing.{Standing, starting_with, costs_of, IsStanding, GoesOn, Descends}
+use Rattle.improve.specs.Standing.{Ends, Fails}
+use Rattle.improve.specs.Bounds.{HasLast, HasNoBound}
 use Rattle.improve.specs.declared.bounds.Bounds.{Bounds}
 use Rattle.improve.specs.declared.solutions.Solution.{Solution}
 use Rattle.improve.proofs.SearchEnds.{memory_end, progress_end, found_end}
@@ -34,41 +27,15 @@ use Rattle.improve.proofs.Lowering.{on_work_weaker}
 -- the costs told, with the best one, are costs of solutions
 pub honest_costs : (p : Problem) (s : Standing) → IsStanding p s → All (IsCostOfSome p) (costs_of s)
 honest_costs p s h =
-    All-push (IsCostOfSome p) (s.earlier).items (s.best).cost h.honest
+    All-push (IsCostOfSome p) s.earlier (s.best).cost h.honest
     (cost_of_solution p ((s.best).bits).items (s.best).cost h.solution)
 
--- the best solution satisfies the hard clauses
-pub best_feasible : (p : Problem) (s : Standing) → IsStanding p s
-    → (t : Assignment) × IsFeasible p t
-best_feasible p s h =
-    let c = cost_of_solution p ((s.best).bits).items (s.best).cost h.solution in (c.0, c.1)
+pub first_standing : (p : Problem) (first : Solution) → IsSolution p (first.bits).items first.cost
+    → IsStanding p (starting_with first)
+first_standing p first solution =
+    record { solution = solution; falling = tt; honest = All-nil (IsCostOfSome p) }
 
--- nothing was told or spent
-pub goes_nowhere : (p : Problem) (now : Telling) (had : BudgetState) (s : Standing) (n : ℕ)
-    → IsStanding p s → GoesOn p now now had had s s n n
-goes_nowhere p now had s n h = record {
-  standing = h;
-  told = λ earlier x. x;
-  failures = refl;
-  limit = refl;
-  answers = refl;
-  learned = refl;
-}
-
--- lines were learned
-pub goes_learned : (p : Problem) (now : Telling) (had left : BudgetState) (s : Standing)
-    (was more : List LogLine) → IsStanding p s → CountsLearned was more had left
-    → GoesOn p now now had left s s (learned_count was) (learned_count more)
-goes_learned p now had left s was more h c = record {
-  standing = h;
-  told = λ earlier x. x;
-  failures = refl;
-  limit = c.limit;
-  answers = ap (λ n. n + length (costs_of s)) c.answers;
-  learned = c.learned;
-}
-
--- the same, where it is told otherwise
+-- nothing was told
 pub goes_spent : (p : Problem) (now : Telling) (had left : BudgetState) (s : Standing) (x y : ℕ)
     → IsStanding p s → left.limit ≡ had.limit → left.answers ≡ had.answers
     → left.learned + x ≡ had.learned + y → GoesOn p now now had left s s x y
@@ -86,18 +53,6 @@ module _ (p : Problem) (old mid new : Telling) (had between left : BudgetState) 
     pub goes_further : (x y z : ℕ) → GoesOn p old mid had between s t x y
         → GoesOn p mid new between left t u y z → GoesOn p old new had left s u x z
     goes_further x y z a b = record {
-      standing = b.standing;
-      told = λ earlier h. b.told earlier (a.told earlier h);
-      failures = b.failures ∙ a.failures;
-      limit = b.limit ∙ a.limit;
-      answers = omega (arith, a.answers, b.answers);
-      learned = omega (arith, a.learned, b.learned);
-    }
-
-    -- where nothing was learned in the second part
-    pub goes_told : (x y : ℕ) → GoesOn p old mid had between s t x y
-        → GoesOn p mid new between left t u 0 0 → GoesOn p old new had left s u x y
-    goes_told x y a b = record {
       standing = b.standing;
       told = λ earlier h. b.told earlier (a.told earlier h);
       failures = b.failures ∙ a.failures;
@@ -124,21 +79,20 @@ module _ (p : Problem) (old mid new : Telling) (had between left : BudgetState) 
         learned = omega (arith, a.learned, spent.learned, e);
       })
 
-pub goes_same : (p : Problem) (old new : Telling) (had left : BudgetState) (s t : Standing)
-    (x y v w : ℕ) → GoesOn p old new had left s t x y → left.learned + v ≡ had.learned + w
-    → GoesOn p old new had left s t v w
-goes_same p old new had left s t x y v w a e = record {
-  standing = a.standing;
-  told = a.told;
-  failures = a.failures;
-  limit = a.limit;
-  answers = a.answers;
-  learned = e;
-}
+-- before the first bound
+pub goes_first : (p : Problem) (now : Telling) (had : BudgetState) (first : Solution) (b : Bounds)
+    → IsSolution p (first.bits).items first.cost → HasNoBound b
+    → GoesOn p now now had had (starting_with first)
+    (record { best = first; earlier = (b.costs).items }) 0 (learned_count (b.solver).sink)
+goes_first p now had first b solution none =
+    subst (λ cs. GoesOn p now now had had (starting_with first)
+    (record { best = first; earlier = cs }) 0 (learned_count (b.solver).sink)) (sym none.none)
+    (goes_spent p now had had (starting_with first) 0 (learned_count (b.solver).sink)
+    (first_standing p first solution) refl refl (omega (arith, none.learned)))
 
 -- a cheaper solution was told
 pub goes_cheaper : (p : Problem) (old new : Telling) (had left : BudgetState) (s t : Standing)
-    → IsStanding p s → (t.earlier).items ≡ costs_of s → (t.best).cost < (s.best).cost
+    → IsStanding p s → t.earlier ≡ costs_of s → (t.best).cost < (s.best).cost
     → IsSolution p ((t.best).bits).items (t.best).cost → new ≡ with_told (t.best).cost old
     → left.answers ≡ had.answers + 1 → left.limit ≡ had.limit → (x y : ℕ)
     → left.learned + x ≡ had.learned + y → GoesOn p old new had left s t x y
@@ -146,7 +100,7 @@ goes_cheaper p old new had left s t h more less solution tells answers limit x y
   standing = record {
     solution = solution;
     falling = subst (λ cs. AreFalling (cs ++ (t.best).cost ∷ [])) (sym more)
-        (falling_more (s.earlier).items (s.best).cost (t.best).cost h.falling less);
+        (falling_more s.earlier (s.best).cost (t.best).cost h.falling less);
     honest = subst (All (IsCostOfSome p)) (sym more) (honest_costs p s h);
   };
   told = λ earlier z. record {
@@ -162,7 +116,7 @@ goes_cheaper p old new had left s t h more less solution tells answers limit x y
         arith,
         answers,
         ap length more,
-        length-append (t.earlier).items ((t.best).cost ∷ []),
+        length-append t.earlier ((t.best).cost ∷ []),
       );
   learned = learned;
 }
@@ -182,7 +136,7 @@ module _ (p : Problem) (old new : Telling) (had left : BudgetState) (s : Standin
   fails_progress c bits solution less e =
       λ profile earlier before told limit. progress_end profile p earlier new before left
       (same ∙ limit) (costs_of s) (ap (λ n. n.told) e ∙ told.told) c
-      (falling_more (s.earlier).items (s.best).cost c h.falling less)
+      (falling_more s.earlier (s.best).cost c h.falling less)
       (All-push (IsCostOfSome p) (costs_of s) c (honest_costs p s h)
       (cost_of_solution p bits c solution)) (ap (λ n. n.failed) e)
       (ap (λ n. n.failures) e ∙ ap (λ n. n + 1) told.failures)
@@ -214,9 +168,9 @@ ends_found profile used p result now had left s costs n x y h limit answers lear
 
 -- the solver answered that nothing is below the best solution, or that the budget is spent
 pub descends_last : (p : Problem) (old now : Telling) (had between left : BudgetState)
-    (s : Standing) (best : Solution) (costs : Vec ℕ Global) (was : ℕ) (given b : Bounds)
+    (s : Standing) (best : Solution) (costs : List ℕ) (was : ℕ) (given b : Bounds)
     → GoesOn p old now had between s (record { best = best; earlier = costs }) 0 was
-    → HasLast given costs.items best.cost → learned_count (given.solver).sink ≡ was
+    → HasLast given costs best.cost → learned_count (given.solver).sink ≡ was
     → b.costs ≡ given.costs → left.limit ≡ between.limit → left.answers ≡ between.answers
     → left.learned + learned_count (given.solver).sink
     ≡ between.learned + learned_count (b.solver).sink
@@ -250,46 +204,3 @@ ends_descended profile used p result old now had left s best b lines d fault sam
     d.goes_on.standing refl refl refl fault same d.last right
     (on_work_weaker result (λ w. work_count w ≡ lines + more)
     (λ w. work_count w + more ≡ lines + more + more) (λ w e. omega (arith, e)) work) spent)
-
--- what was pushed
-pub if_ok_at : {T F : Type 0} (r : Result T F) → false ≡ is_err r → (xs ys zs : List ℕ)
-    → zs ≡ (if is_ok r then ys else xs) → zs ≡ ys
-if_ok_at (Ok x) e xs ys zs h = h
-if_ok_at (Err d) e xs ys zs h = absurd (false≢true e)
-
--- the same standing, told otherwise
-pub same_standing : (p : Problem) (s : Standing) (costs : Vec ℕ Global)
-    → costs.items ≡ (s.earlier).items → IsStanding p s
-    → IsStanding p (record { best = s.best; earlier = costs })
-same_standing p s costs e h = record {
-  solution = h.solution;
-  falling = subst (λ cs. AreFalling (cs ++ (s.best).cost ∷ [])) (sym e) h.falling;
-  honest = subst (All (IsCostOfSome p)) (sym e) h.honest;
-}
-
-pub ends_same : (profile used : Profile) (p : Problem) (result : Result Found ImproveFault)
-    (old new : Telling) (had left : BudgetState) (s t : Standing) (n : ℕ) → used ≡ profile
-    → costs_of t ≡ costs_of s → Ends used p result old new had left t n
-    → Ends profile p result old new had left s n
-ends_same profile used p result old new had left s t n same costs e =
-    λ earlier before tells paid.
-    subst (λ q. Improves q p result earlier new before left) same
-    (e earlier before
-    (record {
-      told = tells.told ∙ ap (λ cs. earlier.told ++ cs) (sym costs);
-      failures = tells.failures;
-    })
-    (record {
-      limit = paid.limit;
-      answers = omega (arith, paid.answers, ap length costs);
-      learned = paid.learned;
-    }))
-
--- it goes on as a search for cores of the same instance
-pub search_kept : (p : Problem) (old new : CoreWork) → IsSearchFor p old → KeepsFormula old new
-    → IsSearchFor p new
-search_kept p old new h k = record {
-  clauses = ap (λ f. f.clauses) k.0 ∙ h.clauses;
-  last = k.1 ∙ h.last;
-  room = omega (arith, h.room, k.1, ap (λ f. f.variables) k.0);
-}

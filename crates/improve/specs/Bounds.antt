@@ -9,10 +9,10 @@ use Rattle.lrat_log.specs.Steps.{IsLogOver, IsAcceptedLog, AddsNoEmptyClause, Le
 use Rattle.lrat_log.specs.Steps.{is_later, learned_count, given_of}
 use Rattle.lrat_log.specs.Rebase.{rebased}
 use Rattle.adder.specs.declared.profiles.Profile.{Profile}
-use Rattle.bound.specs.Bound.{hard_cnf, bound_as, addition_as, fixed_clauses, comparator_for}
-use Rattle.cdcl.specs.Solving.{given_to}
-pub use Rattle.improve_cores.specs.Counting.{LogSolver}
-use Rattle.improve.specs.Frozen.{IsFrozenFor}
+use Rattle.adder.specs.Network.{adders_as}
+use Rattle.bound.specs.Bound.{hard_cnf, bound_as, fixed_clauses, comparator_for}
+use Rattle.cdcl.specs.Solving.{SolverState, given_to}
+use Rattle.improve.specs.Frozen.{AreFrozen}
 use Rattle.improve.specs.Improving.{AreFalling, IsSolution, IsNewOver}
 use Rattle.improve.specs.Improving.{comparators_for, weaker_before}
 use Rattle.improve.specs.declared.bounds.Bounds.{Bounds}
@@ -22,6 +22,9 @@ use Rattle.improve.specs.declared.bounds.BoundsEnd.{BoundsEnd}
 use Rattle.improve.specs.declared.bounds.BoundsEnd.TheVariants.{Refuted as EndRefuted}
 use Rattle.improve.specs.declared.bounds.BoundsEnd.TheVariants.{Spent as EndSpent}
 use Rattle.cdcl_order.specs.Budgets.{BudgetState, left_of}
+
+abbrev pub LogSolver : Type 0
+LogSolver = SolverState (List LogLine)
 
 -- a solver that works, whose clauses are numbered in the order in which they were given
 pub record IsUsable (s : LogSolver) : Type 0 where
@@ -54,8 +57,8 @@ pub record IsOver (p : Problem) (b : Bounds) : Type 0 where
   pub formula : (b.solver).formula ≡ bound_as b.profile p NUMBER_LIMIT
   pub clauses : clauses_in (given_to b.solver)
       ≡ fixed_clauses b.profile p ++ comparators_for b.profile p (b.costs).items
-  pub addition : b.addition ≡ addition_as b.profile p
-  pub frozen : IsFrozenFor (b.solver).frozen p (addition_as b.profile p)
+  pub network : b.network ≡ adders_as b.profile p
+  pub frozen : AreFrozen (b.solver).frozen (adders_as b.profile p).outputs
   pub fixed : b.fixed ≡ length (fixed_clauses b.profile p)
   pub last : (before : List ℕ) (c : ℕ) → HasLast b before c
       → b.last ≡ length (comparator_for b.profile p c)
@@ -68,11 +71,10 @@ pub record IsOverFixed (profile : Profile) (p : Problem) (s : LogSolver) : Type 
   pub none_added : s.added ≡ []
   pub log : IsLogOver (given_to s) s.sink
   pub learned : learned_count s.sink ≡ 0
-  pub frozen : IsFrozenFor s.frozen p (addition_as profile p)
+  pub frozen : AreFrozen s.frozen (adders_as profile p).outputs
 
 -- no bound was given yet, and nothing learned
-pub record HasNoBound (profile : Profile) (b : Bounds) : Type 0 where
-  pub profile_is : b.profile ≡ profile
+pub record HasNoBound (b : Bounds) : Type 0 where
   pub none : (b.costs).items ≡ []
   pub learned : learned_count (b.solver).sink ≡ 0
 

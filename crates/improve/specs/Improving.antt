@@ -1,13 +1,14 @@
 -- What the improving search finds.
 use Rattle.std.specs.Prelude.{◌≡◌, ◌+◌, ◌<◌, [], ◌∷◌, ◌++◌, ⊤}
-use Rattle.std.specs.Prelude.{ℕ, Bool, List, length, map, drop, All}
-use Rattle.std.specs.Prelude.{Option, Some, None, Result, Ok, Err, IfOk, IfSome, OnOk}
+use Rattle.std.specs.Prelude.{ℕ, Bool, List, length, map, All}
+use Rattle.std.specs.Prelude.{Option, Some, Result, Ok, Err, IfOk, OnOk}
 use Rattle.std.specs.List.{flat_map}
 use Rattle.cnf.specs.Literal.{Literal, Assignment}
 use Rattle.cnf.specs.Bits.{Extends}
 use Rattle.cnf.specs.Problem.{Problem, IsFeasible, cost_under, IsOptimal, IsInconsistent}
 use Rattle.cnf.specs.Refute.{IsRefutedByHints}
-use Rattle.cnf.specs.Lrat.{start_of}
+use Rattle.cnf.specs.Lrat.{start_of, Accepts}
+use Rattle.cnf.specs.declared.limits.TheConstants.{CLAUSE_LIMIT}
 use Rattle.lrat_log.specs.declared.lines.Name.TheVariants.{Formula}
 use Rattle.lrat_log.specs.declared.lines.Hint.TheVariants.{Plain}
 use Rattle.lrat_log.specs.declared.lines.Kind.TheVariants.{Empty}
@@ -16,24 +17,15 @@ use Rattle.lrat_log.specs.Steps.{AreSteps, AddsNoEmptyClause, LearnsNew}
 use Rattle.lrat_log.specs.Steps.{nothing_exempt, is_later, given_of, learned_count}
 use Rattle.lrat_log.specs.Rebase.{WeakerList, weaker_line}
 use Rattle.adder.specs.declared.profiles.Profile.{Profile}
-use Rattle.cores.specs.Cores.{Core}
 use Rattle.bound.specs.Bound.{hard_cnf, bound_as, fixed_clauses, comparator_for}
 use Rattle.cdcl_order.specs.Budgets.{BudgetState, left_of}
 use Rattle.improve.specs.Progress.{Telling}
 pub use Rattle.improve_weaker.specs.Weaker.{first_subset, weaker_among}
-pub use Rattle.improve_cores.specs.CoreWork.{IsAcceptedOver}
-pub use Rattle.improve_cores.specs.Work.{IsSearchWork}
-use Rattle.improve_cores.specs.declared.work.SearchWork.{SearchWork}
-pub use Rattle.improve_trials.specs.Trials.{IsClauseCount, IsByCores, IsCoreRefutation, tried_count}
 use Rattle.improve.specs.declared.found.Work.{Work}
 use Rattle.improve.specs.declared.found.Found.{Found}
 use Rattle.improve.specs.declared.found.Found.TheVariants.{Optimum, Unsat, Best, Nothing}
 use Rattle.improve.specs.declared.found.ImproveFault.{ImproveFault}
 use Rattle.improve.specs.declared.found.ImproveFault.TheVariants.{Memory, Progress}
-
--- the costs told since then, or tried
-abbrev pub told_since : List ℕ → List ℕ → List ℕ
-told_since old new = drop (length old) new
 
 abbrev pub AreFalling : List ℕ → Type 0
 AreFalling [] = Unit {0}
@@ -82,6 +74,14 @@ abbrev pub repeats_empty : ℕ → List LogLine
 repeats_empty number =
     record { kind = Empty; clause = []; hints = Plain (Formula number) ∷ [] } ∷ []
 
+-- the log is accepted over these clauses
+abbrev pub IsAcceptedOver : List (List Literal) → List LogLine → Type 0
+IsAcceptedOver cs ls = Accepts cs (numbered_lines (length cs) ls)
+
+-- the number of these clauses, which are few
+abbrev pub IsClauseCount : ℕ → List (List Literal) → Type 0
+IsClauseCount n cs = (n ≡ length cs) × (n < CLAUSE_LIMIT)
+
 -- steps from these clauses that don't reach the empty one
 pub record IsWorkOver (cs : List (List Literal)) (ls : List LogLine) : Type 0 where
   pub steps : AreSteps (start_of cs) (numbered_lines (length cs) ls)
@@ -123,23 +123,18 @@ pub record IsBoundWork (profile : Profile) (p : Problem) (costs : List ℕ) (c :
 -- What was found is right, where these costs were told.
 
 -- the log refutes the formula for the last bound, which has so many clauses
-pub record IsByBounds (profile : Profile) (p : Problem) (costs : List ℕ) (c : ℕ)
+pub record IsRefutation (profile : Profile) (p : Problem) (costs : List ℕ) (c : ℕ)
     (log : List LogLine) (clauses : ℕ) : Type 0 where
   pub accepted : IsAcceptedOver (bound_as profile p c).clauses log
   pub begins : BeginsWithWeaker profile p costs c log
   pub counted : IsClauseCount clauses (bound_as profile p c).clauses
 
--- by these cores, or without cores by bounds
-abbrev pub IsRefutation : Profile → Problem → List ℕ → ℕ → List Core → List LogLine → ℕ → Type 0
-IsRefutation profile p costs c [] log clauses = IsByBounds profile p costs c log clauses
-IsRefutation profile p costs c (k ∷ ks) log clauses = IsByCores profile p c (k ∷ ks) log clauses
-
 pub record IsRightOptimum (profile : Profile) (p : Problem) (costs : List ℕ) (c : ℕ)
-    (bits : List Bool) (log : List LogLine) (clauses : ℕ) (cores : List Core) : Type 0 where
+    (bits : List Bool) (log : List LogLine) (clauses : ℕ) : Type 0 where
   pub solution : IsSolution p bits c
   pub told : EndsWith costs c
   pub optimal : (t : Assignment) → Extends bits t → IsOptimal p t c
-  pub refutation : IsRefutation profile p costs c cores log clauses
+  pub refutation : IsRefutation profile p costs c log clauses
 
 pub record IsRightUnsat (p : Problem) (costs : List ℕ) (log : List LogLine) (clauses : ℕ)
     : Type 0 where
@@ -155,8 +150,6 @@ pub record IsRightBest (profile : Profile) (p : Problem) (costs : List ℕ) (c :
   pub above_zero : 0 < c
   pub hard : IsHardWork p work
   pub bound : IsBoundWork profile p costs c work
-  pub search : IfSome work.search (IsSearchWork p)
-  pub tried : All (IsCoreRefutation p) (work.tried).items
 
 pub record IsRightNothing (p : Problem) (costs : List ℕ) (work : Work) : Type 0 where
   pub none_told : costs ≡ []
@@ -164,12 +157,10 @@ pub record IsRightNothing (p : Problem) (costs : List ℕ) (work : Work) : Type 
   pub not_refuted : IsRefutedByHints (hard_cnf p).clauses → ⊥
   pub hard : IsHardWork p work
   pub no_bound : work.bound ≡ []
-  pub no_search : work.search ≡ None
-  pub none_tried : (work.tried).items ≡ []
 
 abbrev pub IsRightFound : Profile → Problem → List ℕ → Found → Type 0
-IsRightFound profile p costs (Optimum c bits log clauses cores) =
-    IsRightOptimum profile p costs c bits.items log clauses cores.items
+IsRightFound profile p costs (Optimum c bits log clauses) =
+    IsRightOptimum profile p costs c bits.items log clauses
 IsRightFound profile p costs (Unsat log clauses) = IsRightUnsat p costs log clauses
 IsRightFound profile p costs (Best c bits work) = IsRightBest profile p costs c bits.items work
 IsRightFound profile p costs (Nothing work) = IsRightNothing p costs work
@@ -190,19 +181,13 @@ TellsOf (Err Progress) tried told failed = TellsAllButLast tried told failed
 abbrev pub OnWork : Result Found ImproveFault → (Work → Type 0) → Type 0
 OnWork (Ok (Best c bits work)) P = P work
 OnWork (Ok (Nothing work)) P = P work
-OnWork (Ok (Optimum c bits log clauses cores)) P = ⊤
+OnWork (Ok (Optimum c bits log clauses)) P = ⊤
 OnWork (Ok (Unsat log clauses)) P = ⊤
 OnWork (Err e) P = ⊤
 
--- the learned lines of a search for cores, where there was one
-abbrev pub search_count : Option SearchWork → ℕ
-search_count None = 0
-search_count (Some w) = learned_count w.log
-
+-- the learned lines of both logs
 abbrev pub work_count : Work → ℕ
-work_count w =
-    learned_count w.hard + learned_count w.bound + search_count w.search
-    + tried_count (w.tried).items
+work_count w = learned_count w.hard + learned_count w.bound
 
 -- the budget before the search over the hard clauses, of which this is left: its one solution and
 -- its learned lines were counted

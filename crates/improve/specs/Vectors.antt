@@ -3,7 +3,7 @@ use Rattle.std.specs.Prelude.{◌≡◌, [], ◌∷◌, refl, length}
 use Rattle.cnf.specs.Literal.{positive as p, negative as n}
 use Rattle.cnf.specs.Problem.{Problem}
 use Rattle.adder.specs.declared.profiles.Profile.TheVariants.{One}
-use Rattle.bound.specs.Bound.{addition_as, fixed_clauses}
+use Rattle.bound.specs.Bound.{fixed_clauses}
 use Rattle.improve.specs.Improving.{weaker_for}
 
 abbrev three : Problem
@@ -16,9 +16,7 @@ three = record {
 }
 
 fixed : length (fixed_clauses One three) ≡ 17
-unfolding addition_as
 fixed = refl
 
 weaker : weaker_for One three (3 ∷ 2 ∷ []) 2 ≡ (n 7 ∷ n 8 ∷ [], 18) ∷ []
-unfolding addition_as
 weaker = refl

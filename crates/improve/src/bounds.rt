@@ -10,19 +10,21 @@ ghost use Rattle.cnf.specs.Clause.{has_repeat, is_tautology};
 ghost use Rattle.lrat_log.specs.Log.{clauses_in};
 ghost use Rattle.lrat_log.specs.Steps.{learned_count};
 ghost use Rattle.lrat_log.specs.Rebase.{weaker_list};
-ghost use Rattle.bound.specs.Bound.{addition_as, bound_as};
+ghost use Rattle.adder.specs.Network.{adders_as};
+ghost use Rattle.bound.specs.Bound.{bound_as};
 ghost use Rattle.cdcl.specs.Solving.{IsFrozen};
 ghost use Rattle.improve.specs.Bounds.{IsUsable, Gives, GivesAll};
 ghost use Rattle.improve.specs.Bounds.{IsOver, IsOverFixed, HasNoBound, IsNext, BoundLog};
 ghost use Rattle.improve.specs.Improving.{AreFalling, EndsWith, weaker_among};
 ghost use Rattle.cdcl_order.specs.Budgets.{WaivesAs};
 
-use crate::frozen::freeze_compared;
+use crate::frozen::freeze_outputs;
 use crate::solutions::{Solution, price};
+use adder::building::network_as;
+use adder::networks::Network;
 use adder::profiles::Profile;
 use adder::relaxations::{Relaxation, Relaxations};
-use bound::additions::Addition;
-use bound::formulas::{comparator_as, formula_as};
+use bound::formulas::{comparator, formula_as};
 use cdcl::budget::Budget;
 use cdcl::given::GivenClauses;
 use cdcl::outcome::Outcome;
@@ -47,8 +49,8 @@ pub struct Bounds {
     /// It was given the formula without a bound, then the comparator clauses of each bound, all
     /// under the numbers from 1 on.
     pub solver: Solver<Log>,
-    /// What adds up the weights. The variables of which its comparators speak are frozen.
-    pub addition: Addition,
+    /// What adds up the weights. The variables of its outputs are frozen: comparators speak of them.
+    pub network: Network,
     /// How soft clauses are relaxed.
     pub profile: Profile,
     /// The bounds in the order in which they were given, each at most 2^62.
@@ -83,18 +85,19 @@ impl Bounds {
     /// A solver that was given no bound.
     pub fn new(instance: &Instance, profile: Profile) -> Result<Self, AllocError>
         ensures over { IfOk result (λ b. IsOver instance.now b) }
-        ensures none { IfOk result (HasNoBound profile) }
+        ensures profile { IfOk result (λ b. b.profile ≡ profile) }
+        ensures none { IfOk result HasNoBound }
     {
         instance.limits();
         let relaxations = Relaxations::of(instance, profile)?;
-        let addition = Addition::of(instance, profile)?;
+        let network = network_as(instance, profile)?;
         // The solver comes last of what may fail, so no exit has to drop it.
-        let mut solver = make_solver(instance, profile, &addition)?;
+        let mut solver = make_solver(instance, profile, &network)?;
         weigh(&mut solver, &relaxations.each);
         let fixed = solver.given().len();
         Ok(Bounds {
             solver,
-            addition,
+            network,
             profile,
             costs: Vec::new(instance.allocator()),
             fixed,
@@ -113,27 +116,10 @@ impl Bounds {
             (learned_count self.new.solver.sink ≡ learned_count self.old.solver.sink) }
     {
         instance.limits();
-        let clauses = comparator_as(&self.addition, cost)?;
+        let clauses = comparator(&self.network, cost)?;
         give_all(&mut self.solver, &clauses)?;
         self.last = clauses.len();
         self.costs.push(cost)?;
-        Ok(())
-    }
-
-    /// Gives the clauses of bounds for these costs, in their order.
-    pub fn add_all(&mut self, instance: &Instance, costs: &[u64]) -> Result<(), AllocError>
-        requires over { IsOver instance.now self.old }
-        requires small { All (λ c. c ≤ NUMBER_LIMIT) costs.now }
-        ensures over { OnOk result (IsOver instance.now self.new) }
-        ensures costs { OnOk result
-            (self.new.costs.items ≡ self.old.costs.items ++ costs.now) }
-        ensures profile { OnOk result (self.new.profile ≡ self.old.profile) }
-        ensures learned { OnOk result
-            (learned_count self.new.solver.sink ≡ learned_count self.old.solver.sink) }
-    {
-        for cost in costs {
-            self.add(instance, *cost)?;
-        }
         Ok(())
     }
 
@@ -210,15 +196,15 @@ impl Bounds {
 fn make_solver(
     instance: &Instance,
     profile: Profile,
-    addition: &Addition,
+    network: &Network,
 ) -> Result<Solver<Log>, AllocError>
-    requires { addition.now ≡ addition_as profile instance.now }
+    requires { network.now ≡ adders_as profile instance.now }
     ensures { IfOk result (IsOverFixed profile instance.now) }
 {
     instance.limits();
     let formula = formula_as(instance, NO_BOUND, profile)?;
     let alloc = instance.allocator();
-    let frozen = freeze_compared(alloc, instance, addition, formula.vars())?;
+    let frozen = freeze_outputs(alloc, network.outputs(), formula.vars())?;
     Solver::of(formula, frozen, Log::new(alloc))
 }
 

@@ -1,11 +1,8 @@
 // What the search finds.
-use cores::types::Core;
-use improve_cores::work::SearchWork;
-use improve_trials::found::CoreRefutation;
 use lrat_log::log::Log;
 
 /// What the budget was spent on. Each line that was learned cost a unit, and none adds the empty
-/// clause but those of refutations by cores.
+/// clause.
 #[derive(Drop)]
 pub struct Work {
     /// The log over the hard clauses.
@@ -13,10 +10,6 @@ pub struct Work {
     /// The log over the formula for 'cheaper than the best solution'; without lines where none was
     /// met.
     pub bound: Log,
-    /// What the search for cores was given and learned, where there was one.
-    pub search: Option<SearchWork>,
-    /// Searches for a refutation by cores. Those that have ended show a lower bound.
-    pub tried: Vec<CoreRefutation>,
 }
 
 /// The end of a search. A cost is the sum of the weights of the soft clauses that the bits falsify,
@@ -31,7 +24,6 @@ pub enum Found {
         bits: Vec<bool>,
         log: Log,
         clauses: u64,
-        cores: Vec<Core>,
     },
     /// There is no solution. The log refutes the formula of the hard clauses, which has so many
     /// clauses, fewer than 2^28.

@@ -1,35 +1,18 @@
-// Which variables are frozen: those that the clauses of a bound may name. With sums, all beyond
-// those of the instance: clauses learned about a part of the tree are over them.
-ghost use Rattle.std.specs.Prelude.{◌≡◌, ◌<◌, true, length, Some, slice_get, All};
-ghost use Rattle.std.specs.Prelude.{IfOk};
-ghost use Rattle.improve.specs.Frozen.{AreFrozen, IsFrozenFor, IsOutputWithin, IsWithin};
-ghost use Rattle.improve.specs.Frozen.{KeepsFrozen};
+// Which variables are frozen: those of the outputs of a network, as the clauses of a bound may name
+// them.
+ghost use Rattle.std.specs.Prelude.{◌≡◌, ◌<◌, true, false, length, replicate, Some, slice_get};
+ghost use Rattle.std.specs.Prelude.{All, IfOk};
+ghost use Rattle.improve.specs.Frozen.{AreFrozen, IsOutputWithin, KeepsFrozen};
 
-use bound::additions::Addition;
-use cnf::types::{Instance, Lit};
-use improve_cores::frozen::{freeze_after, freeze_none};
+use cnf::types::Lit;
 use std::alloc::{AllocError, Global};
 
-/// For each variable from 1, whether a comparator may speak of it: with a network those of its
-/// outputs, with sums all that are not of the instance.
-pub fn freeze_compared(
-    alloc: Global,
-    instance: &Instance,
-    addition: &Addition,
-    vars: u32,
-) -> Result<Vec<bool>, AllocError>
-    requires { IsWithin vars addition.now }
-    ensures len { IfOk result (λ frozen. length frozen.items ≡ vars) }
-    ensures frozen { IfOk result (λ frozen. IsFrozenFor frozen.items instance.now addition.now) }
-{
-    match addition {
-        Addition::Network(network) => freeze_outputs(alloc, network.outputs(), vars),
-        Addition::Sums(_) => freeze_after(alloc, instance.vars(), vars),
-    }
-}
-
-/// For each variable from 1, whether an output has it.
-fn freeze_outputs(
+/// For each variable from 1 to the last one, whether an output has it.
+///
+/// # Errors
+///
+/// `AllocError` where memory was refused.
+pub fn freeze_outputs(
     alloc: Global,
     outputs: &[Option<Lit>],
     vars: u32,
@@ -45,6 +28,20 @@ fn freeze_outputs(
             None => {}
         }
     }
+    Ok(frozen)
+}
+
+/// So many values, all of them false: no variable is frozen.
+///
+/// # Errors
+///
+/// `AllocError` where memory was refused.
+pub fn freeze_none(alloc: Global, count: usize) -> Result<Vec<bool>, AllocError>
+    ensures len { IfOk result (λ frozen. length frozen.items ≡ count) }
+    ensures items { IfOk result (λ frozen. frozen.items ≡ replicate count false) }
+{
+    let mut frozen = Vec::new(alloc);
+    frozen.resize(count, false)?;
     Ok(frozen)
 }
 

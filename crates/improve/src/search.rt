@@ -1,7 +1,7 @@
 //! The improving search: each solution bounds the cost of the next (Handbook of Satisfiability,
 //! chapter MaxSAT, linear search from satisfiable to unsatisfiable).
 ghost use Rattle.std.specs.Prelude.{◌≡◌, ◌+◌, ◌<◌, [], ◌∷◌};
-ghost use Rattle.std.specs.Prelude.{ℕ, List, All, Ok, IfOk, IfErr, OnOk, OnErr};
+ghost use Rattle.std.specs.Prelude.{Ok, IfOk, IfErr, OnOk, OnErr};
 ghost use Rattle.cnf.specs.Refute.{IsRefutedByHints};
 ghost use Rattle.lrat_log.specs.Steps.{IsAcceptedLog, AddsNoEmptyClause, learned_count};
 ghost use Rattle.bound.specs.Bound.{hard_cnf};
@@ -9,21 +9,17 @@ ghost use Rattle.cdcl_order.specs.Budgets.{BudgetState, WaivesAs};
 ghost use Rattle.cdcl_order.specs.Watch.{Better, with_seen};
 ghost use Rattle.cdcl.specs.Solving.{given_to};
 ghost use Rattle.improve.specs.Improving.{Improves, IsHardLog, IsRightFound, IsSolution, OnWork};
-ghost use Rattle.improve.specs.Improving.{PaysForHard, EndsWith, AreFalling, IsCostOfSome};
-ghost use Rattle.improve.specs.Improving.{work_count};
+ghost use Rattle.improve.specs.Improving.{PaysForHard, EndsWith, AreFalling, work_count};
 ghost use Rattle.improve.specs.Progress.{CanFail, with_told, with_failed};
-ghost use Rattle.improve.specs.Bounds.{IsOver, IsOverHard, IsBoundsEnd};
-ghost use Rattle.improve.specs.Standing.{IsStanding, IsEarlyWork, HasNoCores, Ends, Fails};
-ghost use Rattle.improve.specs.Standing.{Descends};
-ghost use Rattle.improve.specs.Standing.{IsCoreProof, AreFeasible, IsOnlyHard};
+ghost use Rattle.improve.specs.Bounds.{IsOver, IsOverHard, HasNoBound, IsBoundsEnd};
+ghost use Rattle.improve.specs.Standing.{AreFeasible, Descends, Ends, Fails, starting_with};
 ghost use Rattle.improve.specs.Watch.{AreShown};
 
 use crate::bounds::{Bounds, BoundsEnd, Next};
-use crate::by_cores::refute_by_cores;
 use crate::found::{Found, ImproveFault, Work};
+use crate::frozen::freeze_none;
 use crate::progress::{Progress, ProgressFault};
 use crate::solutions::{Solution, price_polished};
-use crate::standing::Standing;
 use crate::watch::Watch;
 use crate::zero::refute_zero;
 use adder::profiles::Profile;
@@ -33,8 +29,6 @@ use cdcl::outcome::Outcome;
 use cdcl::solver::Solver;
 use cdcl::watch::Unwatched;
 use cnf::types::Instance;
-use improve_cores::frozen::freeze_none;
-use improve_trials::found::ByCores;
 use lrat_log::log::Log;
 use std::alloc::AllocError;
 
@@ -166,18 +160,6 @@ pub fn improve_from<T: Progress, W: Watch>(
     )
 }
 
-/// The work of a search that has met no bound yet. The log is that of the hard clauses.
-fn begin_work(instance: &Instance, hard: Log) -> Work
-    ensures { IsOnlyHard hard result }
-{
-    Work {
-        hard,
-        bound: Log::new(instance.allocator()),
-        search: None,
-        tried: Vec::new(instance.allocator()),
-    }
-}
-
 /// A solver of the hard clauses alone.
 fn make_hard_solver(instance: &Instance) -> Result<Solver<Log>, AllocError>
     ensures { IfOk result (IsOverHard instance.now) }
@@ -229,161 +211,88 @@ fn lower<T: Progress, W: Watch>(
         drop(hard);
         return conclude_zero(instance, profile, first.bits);
     }
-    let standing = Standing {
-        best: first,
-        earlier: Vec::new(instance.allocator()),
-    };
-    let work = begin_work(instance, hard);
-    go_on(
-        instance, budget, progress, profile, watch, standing, work, is_given,
+    lower_by_bounds(
+        instance, budget, progress, profile, watch, hard, first, is_given,
     )
 }
 
-/// Goes on from a solution that was told: by cores, in `Profile::Five` and where lower bounds are
-/// wanted, and by bounds where these do not show an optimum.
-fn go_on<T: Progress, W: Watch>(
-    instance: &Instance,
-    budget: &mut Budget,
-    progress: &mut T,
-    profile: Profile,
-    watch: &mut W,
-    standing: Standing,
-    work: Work,
-    is_given: bool,
-) -> Result<Found, ImproveFault>
-    requires failures { CanFail (T.state progress.old) }
-    requires standing { IsStanding instance.now standing }
-    requires work { IsEarlyWork instance.now work }
-    requires none { HasNoCores work }
-    ensures follows { (first : T) → T.follows first progress.old → T.follows first progress.new }
-    ensures shown { AreShown instance.now (T.state progress.old) (T.state progress.new)
-        (W.seen watch.old) (W.seen watch.new) }
-    ensures waives { WaivesAs budget.old budget.new (W.waived watch.old) (W.waived watch.new) }
-    ensures ends { Ends profile instance.now result
-        (T.state progress.old) (T.state progress.new)
-        budget.old budget.new standing (work_count work) }
-{
-    let mut standing = standing;
-    let mut work = work;
-    let best = &mut standing;
-    let rest = &mut work;
-    match refute_by_cores(instance, budget, progress, profile, watch, best, rest) {
-        Ok(Some(by_cores)) => {
-            drop(work);
-            Ok(conclude_cores(instance, standing.best, by_cores))
-        }
-        Ok(None) => lower_by_bounds(
-            instance, budget, progress, profile, watch, standing, work, is_given,
-        ),
-        Err(fault) => {
-            drop(work);
-            drop(standing);
-            Err(fault)
-        }
-    }
-}
-
-/// Goes on by bounds. They are given all costs that were told so far, in their order, as if they
-/// had been met below bounds. Where the search was given a solution, the values of the best one so
-/// far are tried first.
+/// Goes on by bounds from a solution that was told. Where the search was given a solution, the
+/// values of this one are tried first. The log is that of the hard clauses.
 fn lower_by_bounds<T: Progress, W: Watch>(
     instance: &Instance,
     budget: &mut Budget,
     progress: &mut T,
     profile: Profile,
     watch: &mut W,
-    standing: Standing,
-    work: Work,
+    hard: Log,
+    first: Solution,
     is_given: bool,
 ) -> Result<Found, ImproveFault>
     requires failures { CanFail (T.state progress.old) }
-    requires standing { IsStanding instance.now standing }
-    requires work { IsEarlyWork instance.now work }
+    requires solution { IsSolution instance.now first.bits.items first.cost }
+    requires hard { IsHardLog instance.now hard }
     ensures follows { (first : T) → T.follows first progress.old → T.follows first progress.new }
     ensures shown { AreShown instance.now (T.state progress.old) (T.state progress.new)
         (W.seen watch.old) (W.seen watch.new) }
     ensures waives { WaivesAs budget.old budget.new (W.waived watch.old) (W.waived watch.new) }
     ensures ends { Ends profile instance.now result
         (T.state progress.old) (T.state progress.new)
-        budget.old budget.new standing (work_count work) }
+        budget.old budget.new (starting_with first) (learned_count hard) }
 {
-    let Ok(mut bounds) = make_bounds(instance, profile, &standing.earlier) else {
-        drop(work);
-        drop(standing);
+    let Ok(mut bounds) = Bounds::new(instance, profile) else {
+        drop(hard);
+        drop(first);
         return Err(ImproveFault::Memory);
     };
-    suggest_given(&mut bounds, &standing.best, is_given);
-    let best = standing.best;
-    let bound = &mut bounds;
-    let found = tighten(instance, budget, progress, watch, bound, best, work);
+    suggest_given(&mut bounds, &first, is_given);
+    let found = tighten(instance, budget, progress, watch, &mut bounds, hard, first);
     drop(bounds);
     found
 }
 
-/// The values of the best solution are tried first, where the search was given a solution.
-fn suggest_given(bounds: &mut Bounds, best: &Solution, is_given: bool)
+/// The values of a solution are tried first, where the search was given one.
+fn suggest_given(bounds: &mut Bounds, first: &Solution, is_given: bool)
     ensures { bounds.new ≡ bounds.old }
 {
     if is_given {
-        bounds.suggest(&best.bits);
+        bounds.suggest(&first.bits);
     }
 }
 
-/// The bounds for these costs.
-fn make_bounds(instance: &Instance, profile: Profile, costs: &[u64]) -> Result<Bounds, AllocError>
-    requires { All (IsCostOfSome instance.now) costs.now }
-    ensures over { IfOk result (IsOver instance.now) }
-    ensures profile { IfOk result (λ b. b.profile ≡ profile) }
-    ensures costs { IfOk result (λ b. b.costs.items ≡ costs.now) }
-    ensures learned { IfOk result (λ b. learned_count b.solver.sink ≡ 0) }
-{
-    let mut bounds = Bounds::new(instance, profile)?;
-    match bounds.add_all(instance, costs) {
-        Ok(()) => Ok(bounds),
-        Err(AllocError) => {
-            // Its own crate drops the solver, so that no exit here has to.
-            bounds.solver.into_sink();
-            Err(AllocError)
-        }
-    }
-}
-
-/// Goes from a solution that was told to the end of the bounds below it. The bounds are those of
-/// the costs told before. The solver of the bounds is its caller's, so that no exit here has to
-/// give it back.
+/// Goes from a solution that was told to the end of the bounds below it. The log is that of the
+/// hard clauses. The solver of the bounds is its caller's, so that no exit here has to give it
+/// back.
 fn tighten<T: Progress, W: Watch>(
     instance: &Instance,
     budget: &mut Budget,
     progress: &mut T,
     watch: &mut W,
     bounds: &mut Bounds,
+    hard: Log,
     first: Solution,
-    work: Work,
 ) -> Result<Found, ImproveFault>
     requires failures { CanFail (T.state progress.old) }
-    requires standing { IsStanding instance.now
-        (record { best = first; earlier = bounds.old.costs }) }
-    requires work { IsEarlyWork instance.now work }
+    requires solution { IsSolution instance.now first.bits.items first.cost }
+    requires hard { IsHardLog instance.now hard }
     requires over { IsOver instance.now bounds.old }
-    requires learned { learned_count bounds.old.solver.sink ≡ 0 }
+    requires none { HasNoBound bounds.old }
     ensures follows { (first : T) → T.follows first progress.old → T.follows first progress.new }
     ensures shown { AreShown instance.now (T.state progress.old) (T.state progress.new)
         (W.seen watch.old) (W.seen watch.new) }
     ensures waives { WaivesAs budget.old budget.new (W.waived watch.old) (W.waived watch.new) }
     ensures ends { Ends bounds.old.profile instance.now result
         (T.state progress.old) (T.state progress.new)
-        budget.old budget.new
-        (record { best = first; earlier = bounds.old.costs }) (work_count work) }
+        budget.old budget.new (starting_with first) (learned_count hard) }
 {
     let mut best = first;
     match descend(instance, budget, progress, watch, bounds, &mut best) {
         Ok(BoundsEnd::Refuted) => {
-            drop(work);
+            drop(hard);
             conclude_optimum(instance, bounds, best)
         }
-        Ok(BoundsEnd::Spent) => conclude_spent(instance, bounds, best, work),
+        Ok(BoundsEnd::Spent) => conclude_spent(instance, bounds, hard, best),
         Err(fault) => {
-            drop(work);
+            drop(hard);
             drop(best);
             Err(fault)
         }
@@ -402,10 +311,9 @@ fn descend<T: Progress, W: Watch>(
     best: &mut Solution,
 ) -> Result<BoundsEnd, ImproveFault>
     requires failures { CanFail (T.state progress.old) }
-    requires standing { IsStanding instance.now
-        (record { best = best.old; earlier = bounds.old.costs }) }
+    requires solution { IsSolution instance.now best.old.bits.items best.old.cost }
     requires over { IsOver instance.now bounds.old }
-    requires learned { learned_count bounds.old.solver.sink ≡ 0 }
+    requires none { HasNoBound bounds.old }
     ensures follows { (first : T) → T.follows first progress.old → T.follows first progress.new }
     ensures shown { AreShown instance.now (T.state progress.old) (T.state progress.new)
         (W.seen watch.old) (W.seen watch.new) }
@@ -414,13 +322,11 @@ fn descend<T: Progress, W: Watch>(
     ensures profile { OnOk result (bounds.new.profile ≡ bounds.old.profile) }
     ensures descends { OnOk result (Descends instance.now
         (T.state progress.old) (T.state progress.new)
-        budget.old budget.new
-        (record { best = best.old; earlier = bounds.old.costs }) best.new bounds.new) }
+        budget.old budget.new (starting_with best.old) best.new bounds.new) }
     ensures end { IfOk result (IsBoundsEnd bounds.new budget.new best.new.cost) }
     ensures fails { IfErr result (λ fault. Fails instance.now fault
         (T.state progress.old) (T.state progress.new)
-        budget.old budget.new
-        (record { best = best.old; earlier = bounds.old.costs })) }
+        budget.old budget.new (starting_with best.old)) }
 {
     loop {
         if bounds.add(instance, best.cost).is_err() {
@@ -481,7 +387,6 @@ fn conclude_zero(
             bits,
             log: refutation.log,
             clauses: refutation.clauses,
-            cores: Vec::new(instance.allocator()),
         }),
         Err(AllocError) => Err(ImproveFault::Memory),
     }
@@ -510,28 +415,8 @@ fn conclude_optimum(
             bits: best.bits,
             log,
             clauses,
-            cores: Vec::new(instance.allocator()),
         }),
         Err(AllocError) => Err(ImproveFault::Memory),
-    }
-}
-
-/// The end where the cores are worth as much as the solution costs, and this refutes what is
-/// cheaper.
-fn conclude_cores(instance: &Instance, best: Solution, by_cores: ByCores) -> Found
-    requires solution { IsSolution instance.now best.bits.items best.cost }
-    requires proof { IsCoreProof instance.now best.cost by_cores }
-    ensures found { (costs : List ℕ) → EndsWith costs best.cost
-        → IsRightFound Profile.Five instance.now costs result }
-    ensures work { OnWork (Ok result) (λ _. ⊥) }
-{
-    instance.limits();
-    Found::Optimum {
-        cost: best.cost,
-        bits: best.bits,
-        log: by_cores.log,
-        clauses: by_cores.clauses,
-        cores: by_cores.cores,
     }
 }
 
@@ -543,16 +428,19 @@ fn conclude_nothing(instance: &Instance, hard: Log) -> Found
     ensures work { OnWork (Ok result) (λ w. work_count w ≡ learned_count hard) }
 {
     Found::Nothing {
-        work: begin_work(instance, hard),
+        work: Work {
+            hard,
+            bound: Log::new(instance.allocator()),
+        },
     }
 }
 
-/// The end where the budget is spent.
+/// The end where the budget is spent. The log is that of the hard clauses.
 fn conclude_spent(
     instance: &Instance,
     bounds: &mut Bounds,
+    hard: Log,
     best: Solution,
-    work: Work,
 ) -> Result<Found, ImproveFault>
     requires over { IsOver instance.now bounds.old }
     requires open { AddsNoEmptyClause bounds.old.solver.sink }
@@ -560,29 +448,21 @@ fn conclude_spent(
     requires above { 0 < best.cost }
     requires last { EndsWith bounds.old.costs.items best.cost }
     requires falling { AreFalling bounds.old.costs.items }
-    requires work { IsEarlyWork instance.now work }
+    requires hard { IsHardLog instance.now hard }
     ensures found { IfOk result
         (IsRightFound bounds.old.profile instance.now bounds.old.costs.items) }
     ensures work { OnWork result (λ w. work_count w
-        ≡ work_count work + learned_count bounds.old.solver.sink) }
+        ≡ learned_count hard + learned_count bounds.old.solver.sink) }
     ensures fault { IfErr result (λ e. e ≡ ImproveFault.Memory) }
 {
     match bounds.rebase_log(instance) {
-        Ok(bound) => {
-            drop(work.bound);
-            Ok(Found::Best {
-                cost: best.cost,
-                bits: best.bits,
-                work: Work {
-                    hard: work.hard,
-                    bound,
-                    search: work.search,
-                    tried: work.tried,
-                },
-            })
-        }
+        Ok(bound) => Ok(Found::Best {
+            cost: best.cost,
+            bits: best.bits,
+            work: Work { hard, bound },
+        }),
         Err(AllocError) => {
-            drop(work);
+            drop(hard);
             drop(best);
             Err(ImproveFault::Memory)
         }

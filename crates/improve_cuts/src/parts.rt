@@ -30,6 +30,8 @@ pub fn last_output(forms: &Forms, number: u64) -> Option<Lit> {
 /// Spends units, as if for clauses that are learned, until at most so many are left.
 pub fn spend_to(budget: &mut Budget, most: u64)
     ensures left { left_of budget.new ≤ most }
+    ensures just { most ≤ left_of budget.old → left_of budget.new ≡ most }
+    ensures none { left_of budget.old ≤ most → budget.new ≡ budget.old }
     ensures paid { budget.new ≡ record budget.old { learned = budget.new.learned } }
 {
     while budget.left() > most {

@@ -175,6 +175,10 @@ impl<'i, 's, 'b, 'p, 'k, 'm, 'w, W: Write + Drop, T: Progress, K: Watch> Desk
         self.budget.learned()
     }
 
+    fn propagations(&self) -> u64 {
+        self.solver.propagations()
+    }
+
     fn is_refuted(&self) -> bool {
         self.solver.is_refuted()
     }
@@ -322,7 +326,11 @@ impl<'i, 's, 'b, 'p, 'k, 'm, 'w, W: Write + Drop, T: Progress, K: Watch> Desk
             return Err(fault);
         }
         match self.solver.bound(lower) {
-            Ok(taken) => Ok(taken),
+            Ok(true) => {
+                self.watch.raised(lower);
+                Ok(true)
+            }
+            Ok(false) => Ok(false),
             Err(AllocError) => Err(self.fail()),
         }
     }

@@ -1,9 +1,9 @@
 // The first of some clauses that is a subset of another one, found by its literals. The clauses
 // stand in rows, each in that of one of its literals: of one that the fewest of them have. So a
 // clause is compared only with those in the rows of its own literals. Of a comparator's clauses
-// each has a literal that no other one has, a sum above the bound or a digit that is 0 in it: then
-// all rows are of one clause, and no literal leads to more. To compare one with a clause takes as
-// many steps as it has literals. Memory is linear in the clauses and the variables.
+// each has a literal that no other one has, that of a digit that is 0 in the bound: then all rows
+// are of one clause, and no literal leads to more. To compare one with a clause takes as many steps
+// as it has literals. Memory is linear in the clauses and the variables.
 ghost use Rattle.std.specs.Prelude.{◌≡◌, ◌+◌, ◌*◌, ◌<◌, ◌≤◌, ◌^◌, ℕ, true, List, length, drop};
 ghost use Rattle.std.specs.Prelude.{All, IfOk};
 ghost use Rattle.cnf.specs.declared.limits.TheConstants.{NUMBER_LIMIT, VARIABLE_LIMIT};

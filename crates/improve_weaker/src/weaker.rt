@@ -1,6 +1,5 @@
 // The clauses of the bounds before the last one, each with a clause of the last one that is a
-// subset of it: it follows from that clause. A comparator has at most 62 clauses over a network's
-// outputs, and up to 2^17 + 64 over sums.
+// subset of it: it follows from that clause. A comparator has at most 62 clauses.
 ghost use Rattle.std.specs.Prelude.{◌≡◌, ◌+◌, ◌*◌, ◌-◌, ◌<◌, ◌≤◌, length, drop};
 ghost use Rattle.std.specs.Prelude.{take, All, IfOk};
 ghost use Rattle.cnf.specs.declared.limits.TheConstants.{NUMBER_LIMIT, VARIABLE_LIMIT};

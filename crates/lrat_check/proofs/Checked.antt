@@ -12,8 +12,8 @@ use Rattle.cnf.specs.Bits.{assignment_of}
 use Rattle.wcnf.specs.declared.faults.FaultKind.{FaultKind}
 use Rattle.wcnf.specs.Reading.{reading_of, ReadingIsRight}
 use Rattle.adder.specs.declared.profiles.Profile.{Profile}
-use Rattle.bound.specs.Bound.{hard_cnf}
-use Rattle.bound.proofs.Laws.{kept_once}
+use Rattle.bound.specs.Bound.{hard_cnf, bound_as}
+use Rattle.bound.proofs.Laws.{bound_once, kept_once}
 use Rattle.lrat_result.specs.Result.{Said, OptimumFound, Unsatisfiable, Satisfiable, Unknown}
 use Rattle.lrat_result.specs.Result.{Report, report_of}
 use Rattle.lrat_check.specs.Checks.{ChecksSaid, ChecksAs}
@@ -23,10 +23,8 @@ use Rattle.lrat_machine.specs.declared.verdicts.Cause.TheVariants.{NotFeasible, 
 use Rattle.lrat_machine.specs.declared.verdicts.Cause.TheVariants.{StatusWithoutProof}
 use Rattle.lrat_machine.specs.declared.verdicts.Verdict.{Verdict}
 use Rattle.lrat_machine.specs.declared.verdicts.Verdict.TheVariants.{Yes, No}
-use Rattle.lrat_check.specs.Verdict.{bound_verdict, proof_verdict, bits_fault, said_verdict}
-use Rattle.lrat_check.specs.Verdict.{verdict_as}
+use Rattle.lrat_check.specs.Verdict.{proof_verdict, bits_fault, said_verdict, verdict_as}
 use Rattle.lrat_check.specs.Verdict.{CheckVerdictIsRight}
-use Rattle.lrat_check.proofs.HeadVerdicts.{bound_verdict-Yes}
 use Rattle.lrat_machine.proofs.Laws.{proof_verdict-Yes}
 use Rattle.lrat_result.proofs.Laws.{says_from_report, report_from_says}
 
@@ -85,7 +83,7 @@ bits_answer p r c bits =
 module _ (profile : Profile) (p : Problem) (r : Report) (proof : List ℕ) where
   pub optimum_goes : (c : ℕ) (bits : List Bool) → r.said ≡ OptimumFound c bits
       → bits_fault p r c bits ≡ None
-      → said_verdict profile p r proof ≡ bound_verdict profile p c proof
+      → said_verdict profile p r proof ≡ proof_verdict (bound_as profile p c).clauses proof
   optimum_goes c bits u v = rw (u, v) refl
 
   optimum_fault : (c : ℕ) (bits : List Bool) (f : Verdict) → r.said ≡ OptimumFound c bits
@@ -117,7 +115,8 @@ module _ (profile : Profile) (p : Problem) (r : Report) (proof : List ℕ) where
           h.1.0,
           h.1.1,
           h.1.2,
-          (bound_verdict-Yes profile p c proof).0 (sym (optimum_goes c bits u h.0) ∙ e),
+          (proof_verdict-Yes (bound_as profile p c).clauses (bound_once profile p c) proof).0
+              (sym (optimum_goes c bits u h.0) ∙ e),
         )
         | inr h ↦ let z = optimum_fault c bits (No h.0 h.1) u h.2 in absurd (cc)
       ]
@@ -135,7 +134,8 @@ module _ (profile : Profile) (p : Problem) (r : Report) (proof : List ℕ) where
   said_from (OptimumFound c bits) u h =
       elim (bits_answer p r c bits) [
         | inl k ↦ optimum_goes c bits u k.0
-            ∙ (bound_verdict-Yes profile p c proof).1 h.3
+            ∙ (proof_verdict-Yes (bound_as profile p c).clauses (bound_once profile p c) proof).1
+            h.3
         | inr k ↦ absurd (k.3 (h.0, h.1, h.2))
       ]
   said_from (Satisfiable c bits) u h = absurd h

@@ -1,5 +1,5 @@
 -- The verdict on what was said, by the claim of an answer.
-use Rattle.std.proofs.Common.{◌≡◌, ℕ, true, false, List, None, refl, sym, ◌∙◌, ap, subst}
+use Rattle.std.proofs.Common.{◌≡◌, ℕ, List, None, refl, sym, ◌∙◌, ap, subst}
 use Rattle.std.specs.Prelude.{IfOk, Result, Ok, Err, ◌↔◌, All}
 use Rattle.std.proofs.lemmas.Result.{IfOk-weaker}
 use Rattle.cnf.specs.Literal.{Assignment}
@@ -18,9 +18,9 @@ use Rattle.lrat_machine.specs.declared.verdicts.Verdict.TheVariants.{Yes, No}
 use Rattle.lrat_machine.specs.declared.verdicts.Cause.TheVariants.{ResultForm}
 use Rattle.lrat_result.specs.Result.{Report, OptimumFound, report_of}
 use Rattle.lrat_result.specs.Report.{reported}
-use Rattle.lrat_check.specs.Checks.{CostsAtLeast, HasCost, IsTrueOf, IsTrueResult, takes_cores}
-use Rattle.lrat_check.specs.Verdict.{bound_verdict, headed_verdict, proof_verdict, said_verdict}
-use Rattle.lrat_check.specs.Verdict.{bits_fault, verdict_as, verdict_read}
+use Rattle.lrat_check.specs.Checks.{CostsAtLeast, HasCost, IsTrueOf, IsTrueResult}
+use Rattle.lrat_check.specs.Verdict.{bits_fault, proof_verdict, said_verdict, verdict_as}
+use Rattle.lrat_check.specs.Verdict.{verdict_read}
 use Rattle.lrat_check.proofs.Checked.{optimum_goes, on_report}
 use Rattle.lrat_check.proofs.TrueResults.{optimal_by, optimal_least, inconsistent_by, true_by}
 
@@ -28,7 +28,8 @@ module _ (profile : Profile) (p : Problem) (a : ReadReport) (proof : List ℕ) w
   said_optimum : (s : ClaimedSolution) → a.said ≡ Optimum s
       → ((r : Report) → r.bits_line ≡ s.bits_line → r.cost_line ≡ s.cost.line
       → None ≡ bits_fault p r s.cost.cost s.bits.items)
-      → said_verdict profile p (reported a) proof ≡ bound_verdict profile p s.cost.cost proof
+      → said_verdict profile p (reported a) proof
+      ≡ proof_verdict (bound_as profile p s.cost.cost).clauses proof
   said_optimum s e f =
       let line : (reported a).bits_line ≡ s.bits_line = rw e refl in
       let cost : (reported a).cost_line ≡ s.cost.line = rw e refl in
@@ -36,33 +37,15 @@ module _ (profile : Profile) (p : Problem) (a : ReadReport) (proof : List ℕ) w
       optimum_goes profile p (reported a) proof s.cost.cost s.bits.items said
       (sym (f (reported a) line cost))
 
-  pub headed_optimum : (s : ClaimedSolution) → a.said ≡ Optimum s
-      → ((r : Report) → r.bits_line ≡ s.bits_line → r.cost_line ≡ s.cost.line
-      → None ≡ bits_fault p r s.cost.cost s.bits.items)
-      → takes_cores profile s.cost.cost ≡ true
-      → headed_verdict p s.cost.cost proof ≡ said_verdict profile p (reported a) proof
-  headed_optimum s e none takes =
-      let same : bound_verdict profile p s.cost.cost proof ≡ headed_verdict p s.cost.cost proof =
-      rw takes refl in
-      sym (said_optimum s e none ∙ same)
-
-  pub headed_is_true : (s : ClaimedSolution) → a.said ≡ Optimum s
-      → HasCost p s.bits.items s.cost.cost
-      → CostsAtLeast p s.cost.cost → IsTrueOf p (reported a).said
-  headed_is_true s e has least = rw e (optimal_least p s.cost.cost s.bits.items least has)
-
   pub optimum_verdict : (s : ClaimedSolution) → a.said ≡ Optimum s
       → ((r : Report) → r.bits_line ≡ s.bits_line → r.cost_line ≡ s.cost.line
       → None ≡ bits_fault p r s.cost.cost s.bits.items)
-      → takes_cores profile s.cost.cost ≡ false
       → (f : Cnf) → f ≡ bound_as profile p s.cost.cost → {E : Type 0} (result : Result Verdict E)
       → IfOk result (λ v. v ≡ proof_verdict f.clauses proof)
       → IfOk result (λ v. v ≡ said_verdict profile p (reported a) proof)
-  optimum_verdict s e none takes f is {E} result h =
-      let same : bound_verdict profile p s.cost.cost proof
-      ≡ proof_verdict (bound_as profile p s.cost.cost).clauses proof = rw takes refl in
+  optimum_verdict s e none f is {E} result h =
       IfOk-weaker result _ _ (λ v w. w ∙ ap (λ g. proof_verdict g.clauses proof) is
-      ∙ sym (said_optimum s e none ∙ same)) h
+      ∙ sym (said_optimum s e none)) h
 
   pub optimum_sound : (s : ClaimedSolution) → a.said ≡ Optimum s
       → HasCost p s.bits.items s.cost.cost
@@ -93,6 +76,10 @@ module _ (profile : Profile) (p : Problem) (a : ReadReport) (proof : List ℕ) w
       IfOk-weaker result _ _
       (λ v w yes. rw e (inconsistent_by p same
       (subst (λ g. IsUnsatisfiable g.clauses) is (w yes)))) h
+
+pub optimum_by_least : (p : Problem) (a : ReadReport) (s : ClaimedSolution) → a.said ≡ Optimum s
+    → HasCost p s.bits.items s.cost.cost → CostsAtLeast p s.cost.cost → IsTrueOf p (reported a).said
+optimum_by_least p a s e has least = rw e (optimal_least p s.cost.cost s.bits.items least has)
 
 pub form_verdict : (text answer : List ℕ) (p : Problem) → Reads text p → (line : ℕ)
     → report_of answer ≡ Err line → (said : Problem → Report → Verdict)

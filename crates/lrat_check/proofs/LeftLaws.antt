@@ -3,18 +3,14 @@ use Rattle.std.proofs.Common.{◌≡◌, ℕ, List, Option, Some, None, subst}
 use Rattle.std.specs.Prelude.{IfSome}
 use Rattle.cnf.specs.Formula.{Cnf, IsUnsatisfiable}
 use Rattle.lrat_check.specs.declared.checking.Left.{Left}
-use Rattle.lrat_check.specs.declared.checking.Left.TheVariants.{Nothing, Proof, Headed}
+use Rattle.lrat_check.specs.declared.checking.Left.TheVariants.{Nothing, Proof}
 use Rattle.lrat_machine.specs.declared.verdicts.Verdict.{Verdict}
 use Rattle.lrat_check.specs.Left.{verdict_left, Shows}
-use Rattle.lrat_check.specs.Checks.{CostsAtLeast}
-use Rattle.lrat_check.specs.Verdict.{headed_verdict, proof_verdict}
-use Rattle.lrat_result.specs.declared.report.Cost.{Cost}
-use Rattle.cnf.specs.Problem.{Problem}
+use Rattle.lrat_check.specs.Verdict.{proof_verdict}
 
 pub shows_more : (left : Left) (P Q : Type 0) → (P → Q) → Shows left P → Shows left Q
 shows_more (Nothing v) P Q f h = λ y. f (h y)
 shows_more (Proof g) P Q f h = λ u. f (h u)
-shows_more (Headed p c) P Q f h = λ u. f (h u)
 
 abbrev pub Gives : Left → (List ℕ → Verdict) → Type 0
 Gives left f = (proof : List ℕ) → verdict_left left proof ≡ f proof
@@ -30,14 +26,6 @@ proof_gives left g f e h proof = subst (λ l. verdict_left l proof ≡ f proof) 
 pub proof_shows : (left : Left) (g : Cnf) (P : Type 0) → left ≡ Proof g → Shows left P
     → IsUnsatisfiable g.clauses → P
 proof_shows left g P e h = subst (λ l. Shows l P) e h
-
-pub headed_gives : (left : Left) (p : Problem) (c : Cost) (f : List ℕ → Verdict)
-    → left ≡ Headed p c → Gives left f → (proof : List ℕ) → headed_verdict p c.cost proof ≡ f proof
-headed_gives left p c f e h proof = subst (λ l. verdict_left l proof ≡ f proof) e (h proof)
-
-pub headed_shows : (left : Left) (p : Problem) (c : Cost) (P : Type 0) → left ≡ Headed p c
-    → Shows left P → CostsAtLeast p c.cost → P
-headed_shows left p c P e h = subst (λ l. Shows l P) e h
 
 -- the bytes of a reader, where they are known
 pub if_some_all : (o : Option (List ℕ)) (P : List ℕ → Type 0) → ((bytes : List ℕ) → P bytes)

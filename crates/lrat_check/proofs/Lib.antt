@@ -1,15 +1,10 @@
-pub mod EndLaws
-pub mod HeadVerdicts
 pub mod Checked
 pub mod TrueResults
 pub mod BitsFaults
 pub mod Judging
 pub mod PieceLaws
 pub mod ReadingLaws
-pub mod HeadLaws
-pub mod BehindLaws
 pub mod LeftLaws
 pub mod Stops
-pub mod LowerLaws
 pub mod CutsLaws
-pub mod LowerCutsLaws
+pub mod LowerLaws

@@ -1,14 +1,11 @@
 -- A certificate in pieces: what holds after a line more, after a piece, and at the end.
-use Rattle.std.proofs.Common.{◌≡◌, ℕ, zero, suc, ◌+◌, ◌<◌, ◌≤◌, Bool, true, false, List, [], ◌∷◌}
-use Rattle.std.proofs.Common.{◌++◌, map}
-use Rattle.std.proofs.Common.{take, drop, Option, Some, None, refl, sym, ◌∙◌, ap, subst}
-use Rattle.std.proofs.Common.{length, replicate, rules, arith, append_assoc, append-nil}
-use Rattle.cnf.specs.Lrat.{Live, start_of}
-use Rattle.std.specs.Prelude.{◌-◌, ◌==◌, not, is_some}
+use Rattle.std.proofs.Common.{◌≡◌, ℕ, ◌+◌, ◌<◌, ◌≤◌, Bool, true, false, List, [], ◌∷◌}
+use Rattle.std.proofs.Common.{◌++◌, length, take, drop, Option, Some, None, refl, sym, ◌∙◌, ap}
+use Rattle.std.proofs.Common.{subst, arith, append_assoc, append-nil}
+use Rattle.std.specs.Prelude.{◌-◌, ◌==◌, not, is_some, IfSome}
 use Rattle.std.specs.Str.Lines.{strip_carriage_return}
 use Rattle.std.proofs.lemmas.List.{length-drop, take_rest, take-append-drop}
 use Rattle.std.proofs.lemmas.List.Elements.{All-append}
-use Rattle.std.specs.Prelude.{IfSome}
 use Rattle.std.specs.Io.KnownBytes.{Consumes, IsAtEnd}
 use Rattle.cnf.specs.Literal.{Literal}
 use Rattle.text.specs.Text.{tokens_of, token_lines, IsNoFeed}
@@ -16,7 +13,7 @@ use Rattle.text.specs.Pieces.{EndsInFeed, IsCut, HasTaken}
 use Rattle.text.proofs.Laws.{cut-ended, cut-kept, cut-nothing, line_tokens-first, line_tokens-last}
 use Rattle.text.proofs.Laws.{taken-on, taken-whole}
 use Rattle.lrat_machine.specs.declared.verdicts.Verdict.{Verdict}
-use Rattle.lrat_machine.specs.Machine.{MachineState, after_lines, listed_from, verdict_after}
+use Rattle.lrat_machine.specs.Machine.{MachineState, listed_from, verdict_after}
 use Rattle.lrat_check.specs.Verdict.{verdict_on, proof_verdict}
 use Rattle.lrat_machine.proofs.Laws.{live_of-start, state_of}
 use Rattle.lrat_check.specs.Pieces.{ReadingState, IsOpen, IsRefused, Holds, Judges}
@@ -220,41 +217,16 @@ some_from_test o b e h none = let t : false ≡ true = sym (ap is_some none) ∙
 pub some_from_true : (o : Option Verdict) → is_some o ≡ true → o ≡ None → ⊥
 some_from_true o e none = let t : false ≡ true = sym (ap is_some none) ∙ e in cc
 
--- the start, behind line feeds
-pub lines_passed_on : (l : Live) (k n : ℕ) (more : List ℕ)
-    → verdict_on l false k (token_lines (replicate n 10 ++ more))
-    ≡ verdict_on l false (k + n) (token_lines more)
-lines_passed_on l k zero more =
-    let same : k ≡ k + 0 = omega arith in ap (λ j. verdict_on l false j (token_lines more)) same
-lines_passed_on l k (suc n) more =
-    ap (verdict_on l false k) (line_tokens-first [] (replicate n 10 ++ more) none)
-    ∙ lines_passed_on l (k + 1) n more
-    ∙ (let same : (k + 1) + n ≡ k + suc n = omega arith in
-    ap (λ j. verdict_on l false j (token_lines more)) same)
-  where
-    none : IsNoFeed []
-    none = search rules
-
-feeds_cut : (n : ℕ) → IsCut (replicate n 10) (replicate n 10) []
-feeds_cut zero = cut-nothing
-feeds_cut (suc n) = cut-ended [] (replicate (suc n) 10) (feeds n)
-  where
-    feeds : (m : ℕ) → EndsInFeed (replicate (suc m) 10)
-    feeds zero = ([], refl)
-    feeds (suc m) = let e = feeds m in (10 ∷ e.0, ap (λ x. 10 ∷ x) e.1)
-
-pub starts : (r : ReadingState) (formula : List (List Literal)) (n : ℕ)
-    → r.machine ≡ after_lines (state_of (listed_from 1 formula) (length formula) false 0) n
-    → r.rest ≡ [] → r.refused ≡ None → Holds r formula (replicate n 10)
-starts r formula n e empty none = record {
+-- the start
+pub starts : (r : ReadingState) (formula : List (List Literal))
+    → r.machine ≡ state_of (listed_from 1 formula) (length formula) false 0
+    → r.rest ≡ [] → r.refused ≡ None → Holds r formula []
+starts r formula e empty none = record {
   open_end = λ _. record {
-    done = replicate n 10;
-    cut = subst (IsCut (replicate n 10) (replicate n 10)) (sym empty) (feeds_cut n);
+    done = [];
+    cut = subst (IsCut [] []) (sym empty) cut-nothing;
     resumes = λ more. ap (λ (x : MachineState). verdict_after x (token_lines more)) e
-        ∙ ap (λ l. verdict_on l false (0 + n + 1) (token_lines more)) (live_of-start formula)
-        ∙ (let same : 0 + n + 1 ≡ 1 + n = omega arith in
-        ap (λ k. verdict_on (start_of formula) false k (token_lines more)) same)
-        ∙ sym (lines_passed_on (start_of formula) 1 n more);
+        ∙ ap (λ l. verdict_on l false 1 (token_lines more)) (live_of-start formula);
   };
   refused = λ v s. absurd (let two : None ≡ Some v = sym none ∙ s in cc);
 }
@@ -333,14 +305,6 @@ over_all None n fed v f p h = tt
 over_all (Some x) None fed v f p h = absurd p
 over_all (Some x) (Some y) fed v f p h = h y ∙ ap f (sym p)
 
--- where another function gives the verdict on the rest
-pub over_rest : {A : Type 0} (o n : Option (List ℕ)) (fed : List ℕ) (v : A) (f g : List ℕ → A)
-    → Consumes o n fed → ((more : List ℕ) → f (fed ++ more) ≡ g more)
-    → IfSome n (λ bytes. v ≡ g bytes) → IfSome o (λ bytes. v ≡ f bytes)
-over_rest None n fed v f g p same h = tt
-over_rest (Some x) None fed v f g p same h = absurd p
-over_rest (Some x) (Some y) fed v f g p same h = h ∙ sym (same y) ∙ ap f (sym p)
-
 pub over_ended : {A : Type 0} (o n : Option (List ℕ)) (fed : List ℕ) (v : A) (f : List ℕ → A)
     → Consumes o n fed → IsAtEnd n → v ≡ f fed → IfSome o (λ bytes. v ≡ f bytes)
 over_ended None n fed v f p e h = tt
@@ -350,22 +314,20 @@ over_ended (Some x) (Some y) fed v f p e h =
 
 -- where the checker has judged what was read: all, or up to a fault
 over_state : (c : CheckerState) (r : Option Verdict) → r ≡ (c.reading).refused
-    → (formula : List (List Literal)) (before fed : List ℕ) (o n : Option (List ℕ)) (v : Verdict)
-    → HasJudged c formula (before ++ fed) → Consumes o n fed
-    → ((c.reading).refused ≡ None → IsAtEnd n) → v ≡ proof_verdict formula (before ++ fed)
-    → IfSome o (λ bytes. v ≡ proof_verdict formula (before ++ bytes))
-over_state c None e formula before fed o n v j p end h =
-    over_ended o n fed v (λ x. proof_verdict formula (before ++ x)) p (end (sym e)) h
-over_state c (Some w) e formula before fed o n v j p end h =
-    let stays : (more : List ℕ) → w ≡ proof_verdict formula ((before ++ fed) ++ more) =
-    λ more. refused_stays c.reading (Some w) e formula (before ++ fed) more j.holds in
-    let same : v ≡ w =
-    h ∙ ap (proof_verdict formula) (sym (append-nil (before ++ fed))) ∙ sym (stays []) in
-    over_all o n fed v (λ x. proof_verdict formula (before ++ x)) p
-    (λ more. same ∙ stays more ∙ ap (proof_verdict formula) (append_assoc before fed more))
+    → (formula : List (List Literal)) (fed : List ℕ) (o n : Option (List ℕ)) (v : Verdict)
+    → HasJudged c formula fed → Consumes o n fed
+    → ((c.reading).refused ≡ None → IsAtEnd n) → v ≡ proof_verdict formula fed
+    → IfSome o (λ bytes. v ≡ proof_verdict formula bytes)
+over_state c None e formula fed o n v j p end h =
+    over_ended o n fed v (proof_verdict formula) p (end (sym e)) h
+over_state c (Some w) e formula fed o n v j p end h =
+    let stays : (more : List ℕ) → w ≡ proof_verdict formula (fed ++ more) =
+    λ more. refused_stays c.reading (Some w) e formula fed more j.holds in
+    let same : v ≡ w = h ∙ ap (proof_verdict formula) (sym (append-nil fed)) ∙ sym (stays []) in
+    over_all o n fed v (proof_verdict formula) p (λ more. same ∙ stays more)
 
-pub over_judged : (c : CheckerState) (formula : List (List Literal)) (before fed : List ℕ)
-    (o n : Option (List ℕ)) (v : Verdict) → HasJudged c formula (before ++ fed) → Consumes o n fed
-    → ((c.reading).refused ≡ None → IsAtEnd n) → v ≡ proof_verdict formula (before ++ fed)
-    → IfSome o (λ bytes. v ≡ proof_verdict formula (before ++ bytes))
+pub over_judged : (c : CheckerState) (formula : List (List Literal)) (fed : List ℕ)
+    (o n : Option (List ℕ)) (v : Verdict) → HasJudged c formula fed → Consumes o n fed
+    → ((c.reading).refused ≡ None → IsAtEnd n) → v ≡ proof_verdict formula fed
+    → IfSome o (λ bytes. v ≡ proof_verdict formula bytes)
 over_judged c = over_state c (c.reading).refused refl

@@ -35,7 +35,8 @@ ShowsByCuts (Nothing v) P = v ≡ Yes → P
 ShowsByCuts (Bound p c) P = CostsAtLeast p c.cost → P
 ShowsByCuts (NoSolution p) P = CostsAtLeast p NUMBER_LIMIT → P
 
--- the verdict is that on some bytes that a reader gave, and on all of its bytes, where they are known
+-- the verdict is that on some bytes that a reader gave, and on all of its bytes, where they are
+-- known
 pub record IsJudgedByCuts (old new : Option (List ℕ)) (cost : Option ℕ) (p : Problem)
     (v : Verdict) : Type 0 where
   pub bytes : List ℕ

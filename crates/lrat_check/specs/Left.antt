@@ -8,11 +8,10 @@ use Rattle.lrat_result.specs.Report.{reported}
 use Rattle.lrat_check.specs.declared.checking.Texts.{Texts}
 use Rattle.lrat_check.specs.declared.checking.Texts.TheVariants.{Refused, Read}
 use Rattle.lrat_check.specs.declared.checking.Left.{Left}
-use Rattle.lrat_check.specs.declared.checking.Left.TheVariants.{Nothing, Proof, Headed}
+use Rattle.lrat_check.specs.declared.checking.Left.TheVariants.{Nothing, Proof}
 use Rattle.lrat_machine.specs.declared.verdicts.Verdict.{Verdict}
 use Rattle.lrat_machine.specs.declared.verdicts.Verdict.TheVariants.{Yes}
-use Rattle.lrat_check.specs.Checks.{CostsAtLeast}
-use Rattle.lrat_check.specs.Verdict.{headed_verdict, proof_verdict, verdict_read}
+use Rattle.lrat_check.specs.Verdict.{proof_verdict, verdict_read}
 
 -- the texts read as this instance and this report; or this is the verdict, whatever is said of them
 abbrev pub AreRead : List ℕ → List ℕ → Texts → Type 0
@@ -24,10 +23,8 @@ AreRead text answer (Read p r) = Reads text p × (report_of answer ≡ Ok (repor
 abbrev pub verdict_left : Left → List ℕ → Verdict
 verdict_left (Nothing v) proof = v
 verdict_left (Proof f) proof = proof_verdict f.clauses proof
-verdict_left (Headed p c) proof = headed_verdict p c.cost proof
 
--- a yes, or a refutation, or that nothing costs less, shows it
+-- a yes, or a refutation, shows it
 abbrev pub Shows : Left → Type 0 → Type 0
 Shows (Nothing v) P = v ≡ Yes → P
 Shows (Proof f) P = IsUnsatisfiable f.clauses → P
-Shows (Headed p c) P = CostsAtLeast p c.cost → P

@@ -1,13 +1,8 @@
 pub mod Checks
-pub mod Ends
 pub mod Verdict
 pub mod Vectors
 pub mod Pieces
-pub mod CoreLines
-pub mod Heads
-pub mod CoreFormula
 pub mod Left
 pub mod Stopping
 pub mod Lower
 pub mod Cuts
-pub mod LowerCuts

@@ -86,22 +86,22 @@ pub record HasJudged (c : CheckerState) (formula : List (List Literal)) (bytes :
   pub fed : c.fed ≡ length bytes
   pub holds : Holds c.reading formula bytes
 
--- the verdict is that on some bytes after those before, which were read no further than it takes;
--- and on those of the reader, where they are known
-pub record IsJudged (before : List ℕ) (old new : Option (List ℕ)) (formula : List (List Literal))
-    (v : Verdict) : Type 0 where
+-- the verdict is that on some bytes that a reader gave, which was read no further than it takes, and
+-- on all of its bytes, where they are known
+pub record IsJudged (old new : Option (List ℕ)) (formula : List (List Literal)) (v : Verdict) :
+    Type 0 where
   pub bytes : List ℕ
   pub read : Consumes old new bytes
-  pub in_time : (bytes ≡ []) ⊎ ReadsOn (proof_verdict formula) before bytes
-  pub verdict : v ≡ proof_verdict formula (before ++ bytes)
-  pub all : IfSome old (λ all. v ≡ proof_verdict formula (before ++ all))
+  pub in_time : (bytes ≡ []) ⊎ ReadsOn (proof_verdict formula) bytes
+  pub verdict : v ≡ proof_verdict formula bytes
+  pub all : IfSome old (λ all. v ≡ proof_verdict formula all)
 
--- from one state to the other, the checker has judged bytes that the reader gave, which was read no
--- further than the verdict takes
-pub record JudgesMore (old new : CheckerState) (had left : Option (List ℕ)) : Type 0 where
+-- from one state, where nothing was judged, to the other the checker has judged bytes that the
+-- reader gave, which was read no further than the verdict takes
+pub record JudgesGiven (old new : CheckerState) (had left : Option (List ℕ)) : Type 0 where
   pub bytes : List ℕ
   pub read : Consumes had left bytes
-  pub judged : (formula : List (List Literal)) (before : List ℕ) → HasJudged old formula before
-      → HasJudged new formula (before ++ bytes)
-  pub in_time : (formula : List (List Literal)) (before : List ℕ) → HasJudged old formula before
-      → (bytes ≡ []) ⊎ ReadsOn (proof_verdict formula) before bytes
+  pub judged : (formula : List (List Literal)) → HasJudged old formula []
+      → HasJudged new formula bytes
+  pub in_time : (formula : List (List Literal)) → HasJudged old formula []
+      → (bytes ≡ []) ⊎ ReadsOn (proof_verdict formula) bytes

@@ -31,22 +31,14 @@ pub record StopsInTime (verdict : List ℕ → Verdict) (old new : Option (List 
   pub read : Consumes old new bytes
   pub in_time : (bytes ≡ []) ⊎ GoesOnFor (2 ^ 17) verdict bytes
 
--- the same behind bytes that the reader gave before
-pub record StopsBehind (verdict : List ℕ → Verdict) (before : List ℕ) (old new : Option (List ℕ)) :
-    Type 0 where
-  pub bytes : List ℕ
-  pub read : Consumes old new bytes
-  pub in_time : GoesOnFor (2 ^ 17) verdict (before ++ bytes)
-
--- the bytes were read behind others, the last piece where the lines that had ended left the verdict
--- open
-pub record ReadsOn (verdict : List ℕ → Verdict) (before bytes : List ℕ) : Type 0 where
+-- the last piece of the bytes was read where the lines that had ended left the verdict open
+pub record ReadsOn (verdict : List ℕ → Verdict) (bytes : List ℕ) : Type 0 where
   pub front : List ℕ
   pub piece : List ℕ
   pub split : bytes ≡ front ++ piece
   pub small : length piece ≤ READ_SIZE
   pub done : List ℕ
   pub rest : List ℕ
-  pub cut : before ++ front ≡ done ++ rest
+  pub cut : front ≡ done ++ rest
   pub unfinished : IsNoFeed rest
   pub is_open : Settles verdict done → ⊥

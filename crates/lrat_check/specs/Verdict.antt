@@ -1,75 +1,24 @@
--- The verdict on a certificate that may begin with cores, and on a text with its result and
--- certificate. The first fault decides.
-use Rattle.std.specs.Prelude.{◌≡◌, ℕ, Bool, true, false, not, List, length}
-use Rattle.std.specs.Prelude.{Option, Some, None, Result, Ok, Err, nat_le, ◌==◌, if◌then◌else◌}
-use Rattle.std.specs.Prelude.{◌↔◌}
+-- The verdict on a text with its result and certificate. The first fault decides.
+use Rattle.std.specs.Prelude.{◌≡◌, ℕ, Bool, not, List, length}
+use Rattle.std.specs.Prelude.{Option, Some, None, Result, Ok, Err, ◌==◌, ◌↔◌, if◌then◌else◌}
 use Rattle.std.specs.List.{list_all}
 use Rattle.cnf.specs.Clause.{clause_value}
-use Rattle.cnf.specs.Formula.{Cnf}
 use Rattle.cnf.specs.Problem.{Problem, cost_under}
 use Rattle.wcnf.specs.declared.faults.FaultKind.{FaultKind}
 use Rattle.wcnf.specs.Reading.{reading_of}
 use Rattle.cnf.specs.Bits.{assignment_of}
-use Rattle.cnf.specs.Lrat.{start_of}
 use Rattle.adder.specs.declared.profiles.Profile.{Profile}
-use Rattle.adder.specs.declared.profiles.Profile.TheVariants.{One, Five}
-use Rattle.cores.specs.Cores.{Counted}
-use Rattle.bound.specs.Bound.{hard_cnf, bound_as, core_cnf}
+use Rattle.adder.specs.declared.profiles.Profile.TheVariants.{One}
+use Rattle.bound.specs.Bound.{hard_cnf, bound_as}
 use Rattle.lrat_result.specs.Result.{Said, OptimumFound, Unsatisfiable, Satisfiable, Unknown}
 use Rattle.lrat_result.specs.Result.{Report, report_of}
-use Rattle.lrat_check.specs.Checks.{ChecksAs, takes_cores}
-use Rattle.lrat_check.specs.Ends.{HeadEnd, Behind, Faulty, end_of_head}
-use Rattle.lrat_machine.specs.declared.verdicts.Cause.{Cause}
+use Rattle.lrat_check.specs.Checks.{ChecksAs}
 use Rattle.lrat_machine.specs.declared.verdicts.Cause.TheVariants.{Text, ResultForm, BitsLength}
 use Rattle.lrat_machine.specs.declared.verdicts.Cause.TheVariants.{NotFeasible, CostWrong}
 use Rattle.lrat_machine.specs.declared.verdicts.Cause.TheVariants.{StatusWithoutProof}
-use Rattle.lrat_machine.specs.declared.verdicts.Cause.TheVariants.{CoreSum}
 use Rattle.lrat_machine.specs.declared.verdicts.Verdict.{Verdict}
 use Rattle.lrat_machine.specs.declared.verdicts.Verdict.TheVariants.{Yes, No}
 pub use Rattle.lrat_machine.specs.Verdict.{verdict_on, proof_verdict}
-
--- the formula that the lines behind the cores refute. Where the cores are worth too little, the
--- fault is at line first: the first of them with a token, or 0
-abbrev pub formula_behind : Problem → ℕ → Bool → Counted → (first : ℕ) → Result Cnf (Cause × ℕ)
-formula_behind p cost false s first = Ok (bound_as Five p cost)
-formula_behind p cost true s first =
-    if nat_le cost s.weight then Ok (core_cnf p s) else Err (CoreSum, first)
-
-abbrev pub formula_at : Problem → ℕ → HeadEnd → Result Cnf (Cause × ℕ)
-formula_at p cost (Behind some s first n lines) = formula_behind p cost some s first
-formula_at p cost (Faulty cause line) = Err (cause, line)
-
--- the formula that a certificate refutes, which may begin with cores
-abbrev pub headed_formula : Problem → ℕ → List ℕ → Result Cnf (Cause × ℕ)
-headed_formula p cost proof = formula_at p cost (end_of_head p proof)
-
--- the verdict on the lines behind the cores, which are those from line n on
-abbrev pub verdict_behind : Problem → ℕ → Bool → Counted → (first n : ℕ) → List (List (List ℕ))
-    → Verdict
-verdict_behind p cost some s first n lines = by (formula_behind p cost some s first)
-  where
-    by : Result Cnf (Cause × ℕ) → Verdict
-    by (Ok f) = verdict_on (start_of f.clauses) false n lines
-    by (Err e) = No e.0 e.1
-
-abbrev pub verdict_at : Problem → ℕ → HeadEnd → Verdict
-verdict_at p cost (Behind some s first n lines) = verdict_behind p cost some s first n lines
-verdict_at p cost (Faulty cause line) = No cause line
-
--- the verdict on a certificate that may begin with cores
-abbrev pub headed_verdict : Problem → ℕ → List ℕ → Verdict
-headed_verdict p cost proof = verdict_at p cost (end_of_head p proof)
-
--- the verdict on a certificate that nothing costs less
-abbrev pub bound_verdict : Profile → Problem → ℕ → List ℕ → Verdict
-bound_verdict profile p cost proof =
-    if takes_cores profile cost then headed_verdict p cost proof
-    else proof_verdict (bound_as profile p cost).clauses proof
-
--- in the profile of cores: the formula that a certificate refutes that nothing costs less
-abbrev pub refuted_formula : Problem → ℕ → List ℕ → Result Cnf (Cause × ℕ)
-refuted_formula p cost proof =
-    if takes_cores Five cost then headed_formula p cost proof else Ok (bound_as Five p cost)
 
 -- the bits of a result: their number, whether they satisfy the hard clauses, and their cost
 abbrev pub bits_fault : Problem → Report → ℕ → List Bool → Option Verdict
@@ -109,7 +58,7 @@ verdict_read text result said = read (reading_of text)
 
 abbrev pub said_verdict : Profile → Problem → Report → List ℕ → Verdict
 said_verdict profile p r proof =
-    verdict_said p r (λ cost. bound_verdict profile p cost proof)
+    verdict_said p r (λ cost. proof_verdict (bound_as profile p cost).clauses proof)
     (proof_verdict (hard_cnf p).clauses proof)
 
 abbrev pub verdict_as : Profile → List ℕ → List ℕ → List ℕ → Verdict

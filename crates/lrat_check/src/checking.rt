@@ -4,18 +4,17 @@
 ghost use Rattle.std.specs.Prelude.{◌≡◌, ℕ, List, IfOk, IfSome, OnOk, ◌↔◌, None};
 ghost use Rattle.lrat_result.specs.Result.{Report as Reported};
 ghost use Rattle.lrat_result.specs.Report.{reported};
-ghost use Rattle.lrat_check.specs.Checks.{ChecksAs, IsTrueResult, IsTrueOf, HasCost, takes_cores};
+ghost use Rattle.lrat_check.specs.Checks.{ChecksAs, IsTrueResult, IsTrueOf, HasCost};
 ghost use Rattle.lrat_check.specs.Verdict.{verdict_as, said_verdict, bits_fault};
 ghost use Rattle.lrat_check.specs.Left.{AreRead, verdict_left, Shows};
 ghost use Rattle.lrat_check.specs.Stopping.{StopsInTime};
 
-use crate::headed::check_headed_stream;
 use crate::streams::check_stream;
 use crate::verdicts::{Cause, CheckFault, Verdict};
 use adder::profiles::Profile;
 use bound::formulas::{formula_as, hard_formula};
 use cnf::types::{Formula, Instance};
-use lrat_result::report::{ClaimedSolution, Cost, Report, ReportFault, Said};
+use lrat_result::report::{ClaimedSolution, Report, ReportFault, Said};
 use lrat_result::result::read_report;
 use std::alloc::{AllocError, Global};
 use std::io::Read;
@@ -38,8 +37,6 @@ enum Left {
     Nothing(Verdict),
     // A proof over this formula.
     Proof(Formula),
-    // A proof that nothing costs less, which may begin with core lines.
-    Headed(Instance, Cost),
 }
 
 /// Checks what a solver answered on an instance, with its proof: `text` is the instance in the WCNF
@@ -73,17 +70,6 @@ pub fn check(alloc: Global, text: &[u8], answer: &[u8], proof: &[u8]) -> Result<
 }
 
 /// As `check`, where the formula for a cost below the told one is that of `profile`.
-///
-/// In `Profile::Five`, the certificate of an optimum above 0 may begin with core lines,
-/// `core W H x1 .. xm 0`: the weight, the number of outputs and the inputs of a core (Morgado,
-/// Dodaro and Marques-Silva 2014). The LRAT lines behind them have to refute the formula that the
-/// cores make, and the cores have to be worth the told cost together. Further faults are:
-/// - `CoreForm`: a line whose first word is `core` and that does not have the form, or with whose
-/// core there are more than 2^22 clauses of cores; that line.
-/// - `CoreWeight`: a core that is worth nothing, has no output or more outputs than inputs, or has
-/// an input twice, or one that does not have so much left; its line.
-/// - `CoreSum`: the cores are worth less together than the told cost; the first line behind them
-/// that has a token, or 0 where there is none.
 pub fn check_as(
     alloc: Global,
     text: &[u8],
@@ -129,7 +115,7 @@ pub fn check_from<R: Read>(
     check_from_as(alloc, text, answer, proof, Profile::One)
 }
 
-/// As `check_from`, in any profile: core lines may come first where `check_as` takes them.
+/// As `check_from`, where the formula for a cost below the told one is that of `profile`.
 pub fn check_from_as<R: Read>(
     alloc: Global,
     text: &[u8],
@@ -151,7 +137,6 @@ pub fn check_from_as<R: Read>(
     match left {
         Left::Nothing(verdict) => Ok(verdict),
         Left::Proof(formula) => check_stream(formula, proof),
-        Left::Headed(instance, cost) => check_headed_stream(&instance, cost.cost, proof),
     }
 }
 
@@ -201,9 +186,6 @@ fn read_claim(instance: Instance, report: &Report, profile: Profile) -> Result<L
         Said::Optimum(solution) => match solution_fault(&instance, solution) {
             Some(refused) => Ok(Left::Nothing(refused)),
             None => {
-                if takes_cores(profile, solution.cost.cost) {
-                    return Ok(Left::Headed(instance, solution.cost));
-                }
                 let formula = formula_as(&instance, solution.cost.cost, profile)?;
                 Ok(Left::Proof(formula))
             }
@@ -217,16 +199,6 @@ fn read_claim(instance: Instance, report: &Report, profile: Profile) -> Result<L
             Ok(Left::Proof(formula))
         }
         Said::Limit => Ok(Left::Nothing(refuse_status(report))),
-    }
-}
-
-// Whether core lines may come first, where a certificate shows that nothing costs less.
-fn takes_cores(profile: Profile, cost: u64) -> bool
-    ensures { result ≡ takes_cores profile cost }
-{
-    match profile {
-        Profile::Five => cost > 0,
-        _ => false,
     }
 }
 

@@ -5,7 +5,7 @@
 //! in turn, up to the first fault: this takes a tenth off the time of a whole check. A line that
 //! cannot be read with others is read by itself, and lines without a token are skipped.
 ghost use Rattle.std.specs.Prelude.{◌≡◌, ℕ, ◌+◌, ◌<◌, ◌≤◌, ◌^◌, true, false, List, [], ◌∷◌, ◌++◌};
-ghost use Rattle.std.specs.Prelude.{length, take, replicate, None, Err, IfOk, OnOk, IfSome, IsErr};
+ghost use Rattle.std.specs.Prelude.{length, take, None, Err, IfOk, OnOk, IfSome, IsErr};
 ghost use Rattle.std.specs.Prelude.{IsOk, IsSome, ◌↔◌};
 ghost use Rattle.cnf.specs.Literal.{Literal};
 ghost use Rattle.text.specs.Text.{IsNoFeed};
@@ -76,23 +76,13 @@ impl Checker {
         ensures judged { IfOk result (λ c. HasJudged c formula.clauses []) }
         ensures works { IfOk result (λ c. c.failed ≡ false) }
     {
-        Checker::behind(formula, 0)
-    }
-
-    /// As `over`, where so many line feeds came in before.
-    pub(crate) fn behind(formula: Formula, lines: u64) -> Result<Self, AllocError>
-        ensures judged { IfOk result (λ c. HasJudged c formula.clauses (replicate lines 10)) }
-        ensures works { IfOk result (λ c. c.failed ≡ false) }
-    {
         let alloc = formula.allocator();
-        let mut machine = Machine::new(formula)?;
-        machine.pass_over(lines);
         Ok(Checker {
-            machine,
+            machine: Machine::new(formula)?,
             rest: LineBuffer::new(alloc),
             refused: None,
             batch: Batch::new(alloc),
-            fed: lines,
+            fed: 0,
             failed: false,
         })
     }

@@ -1,9 +1,9 @@
 // A certificate that a reader gives.
-ghost use Rattle.std.specs.Prelude.{◌≡◌, ℕ, List, IfOk, IfSome, OnOk, None};
+ghost use Rattle.std.specs.Prelude.{◌≡◌, List, [], IfOk, IfSome, OnOk, None};
 ghost use Rattle.std.specs.Io.KnownBytes.{IsAtEnd};
 ghost use Rattle.cnf.specs.Literal.{Literal};
 ghost use Rattle.cnf.specs.Formula.{IsUnsatisfiable};
-ghost use Rattle.lrat_check.specs.Pieces.{HasJudged, IsJudged, JudgesMore};
+ghost use Rattle.lrat_check.specs.Pieces.{HasJudged, IsJudged, JudgesGiven};
 ghost use Rattle.lrat_check.specs.Stopping.{StopsInTime};
 ghost use Rattle.lrat_check.specs.Verdict.{proof_verdict};
 
@@ -25,12 +25,11 @@ pub(crate) fn check_stream<R: Read>(formula: Formula, proof: &mut R) -> Result<V
     judge_stream(Checker::over(formula)?, proof)
 }
 
-/// The verdict on what the checker has judged and the bytes of the reader, which is read up to the
-/// first faulty line. A certificate of 2^64 bytes or more counts as a failed read.
+/// The verdict on the bytes of the reader, where nothing was read before. The reader is read up to
+/// the first faulty line. A certificate of 2^64 bytes or more counts as a failed read.
 pub(crate) fn judge_stream<R: Read>(checker: Checker, proof: &mut R) -> Result<Verdict, CheckFault>
-    ensures { IfOk result (λ v. (formula : List (List Literal)) (before : List ℕ)
-        → HasJudged checker formula before
-        → IsJudged before (R.remaining proof.old) (R.remaining proof.new) formula v) }
+    ensures { IfOk result (λ v. (formula : List (List Literal)) → HasJudged checker formula []
+        → IsJudged (R.remaining proof.old) (R.remaining proof.new) formula v) }
 {
     let mut checker = checker;
     match judge_pieces(&mut checker, proof) {
@@ -46,7 +45,7 @@ pub(crate) fn judge_stream<R: Read>(checker: Checker, proof: &mut R) -> Result<V
 /// Hands the checker what the reader gives, up to the first faulty line. It borrows the checker, so
 /// that none of its exits has to drop it.
 fn judge_pieces<R: Read>(checker: &mut Checker, proof: &mut R) -> Result<(), CheckFault>
-    ensures judges { OnOk result (JudgesMore checker.old checker.new
+    ensures judges { OnOk result (JudgesGiven checker.old checker.new
         (R.remaining proof.old) (R.remaining proof.new)) }
     ensures whole { OnOk result ((checker.new.reading).refused ≡ None
         → IsAtEnd (R.remaining proof.new)) }

@@ -37,13 +37,6 @@ pub enum Cause {
     TrailingLine,
     /// A literal stands twice in the clause or with its negation, or its variable is 2^27 or more.
     ClauseForm,
-    /// A core line does not have the form of one, or with it the clauses of cores are too many.
-    CoreForm,
-    /// A core is worth nothing, or has no output or too many, or an input stands twice or does not
-    /// have so much left.
-    CoreWeight,
-    /// The cores are worth less together than the cost.
-    CoreSum,
     /// A line names a variable, clause, count, group or form that is not there, a variable twice,
     /// or more outputs than a count has literals.
     LineName,

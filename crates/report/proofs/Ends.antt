@@ -1,27 +1,20 @@
 -- What a run ends with, or leaves.
-use Rattle.std.proofs.Common.{◌≡◌, ℕ, zero, suc, ◌+◌, ◌<◌, ◌^◌, Bool, List, [], ◌∷◌, ◌++◌, length}
-use Rattle.std.proofs.Common.{Option}
+use Rattle.std.proofs.Common.{◌≡◌, ℕ, ◌+◌, ◌<◌, Bool, List, [], ◌∷◌, ◌++◌, length, Option}
 use Rattle.std.proofs.Common.{Some, None, Ok, Err, refl, sym, ◌∙◌, ap, subst, arith, append_assoc}
-use Rattle.std.proofs.Common.{append-nil, length-append}
+use Rattle.std.proofs.Common.{append-nil}
 use Rattle.std.specs.Prelude.{All, IfSome}
 use Rattle.std.specs.Io.KnownBytes.{Appends}
 use Rattle.std.proofs.KnownBytes.{Appends-nil, Appends-trans, Keeps-refl}
 use lib.Chars.{codes}
 use Rattle.cnf.specs.Literal.{Literal}
 use Rattle.cnf.specs.Bits.{assignment_of}
-use Rattle.std.proofs.lemmas.List.Elements.{All-nil}
 use Rattle.cnf.specs.Problem.{Problem}
-use Rattle.cnf.specs.Instance.{IsInstance}
-use Rattle.cores.specs.Cores.{Core}
-use Rattle.cores.specs.Spelling.{HasCoreNumbers}
-use Rattle.cores.proofs.Laws.{counted_numbers}
 use Rattle.wcnf.specs.Wcnf.{Reads}
 use Rattle.text.specs.Writing.{AppendsPart, Begins}
 use Rattle.text.specs.LratText.{IsTextOf}
-use Rattle.cnf.specs.Lrat.{Accepts, ProofLine}
+use Rattle.cnf.specs.Lrat.{Accepts}
 use Rattle.adder.specs.declared.profiles.Profile.{Profile}
-use Rattle.adder.specs.declared.profiles.Profile.TheVariants.{One, Two, Four, Five}
-use Rattle.bound.specs.Bound.{hard_cnf, bound_as, core_cnf}
+use Rattle.bound.specs.Bound.{hard_cnf, bound_as}
 use Rattle.cdcl_order.specs.Budgets.{BudgetState}
 use Rattle.lrat_log.specs.Log.{LogLine, HasSmallIds, numbered_lines, text_of}
 use Rattle.lrat_log.proofs.Laws.{accepted_ids}
@@ -29,19 +22,16 @@ use Rattle.lrat_result.specs.Result.{Said, OptimumFound as SaysOptimum}
 use Rattle.lrat_result.specs.Result.{Unsatisfiable as SaysUnsatisfiable}
 use Rattle.lrat_result.specs.Result.{Satisfiable as SaysSatisfiable, Unknown as SaysUnknown}
 use Rattle.lrat_result.specs.Result.{FallsTo, Says}
-use Rattle.lrat_check.specs.Checks.{IsProofOver, IsHeadedText, AcceptsAfter, IsBoundProof}
-use Rattle.lrat_check.specs.Checks.{ChecksAs}
+use Rattle.lrat_check.specs.Checks.{IsProofOver, ChecksAs}
 use Rattle.improve.specs.declared.found.Found.{Found}
 use Rattle.improve.specs.declared.found.Found.TheVariants.{Optimum, Unsat, Best, Nothing}
 use Rattle.improve.specs.Improving.{AreFalling, IsCostOfSome, IsSolution, IsAcceptedOver}
-use Rattle.improve.specs.Improving.{IsClauseCount, IsBoundWork, IsRefutation}
+use Rattle.improve.specs.Improving.{IsClauseCount, IsBoundWork}
 use Rattle.cnf.proofs.Laws.{extends_own}
 use Rattle.report.specs.declared.status.Status.{Status}
 use Rattle.report.specs.declared.fault.RunFault.{RunFault}
 use Rattle.report.specs.declared.fault.RunFault.TheVariants.{Read, Memory, Output, ProofOutput}
 use Rattle.report.specs.Told.{cost_lines}
-use Rattle.report.specs.Heading.{head_text}
-use Rattle.report.proofs.HeadedTexts.{no_head}
 use Rattle.report.specs.Answering.{status_of, end_text, proof_text, HasRoom, HasProofRoom}
 use Rattle.report.specs.Answering.{IsSpelledProof, HasProof, LeavesAnswer, Answers}
 use Rattle.report.specs.Running.{result_text, told_in, AreHonest, AreChecked, IsTrueAnswer}
@@ -53,76 +43,30 @@ use Rattle.report.proofs.ResultTexts.{begun, not_past}
 -- the accepted log, spelled with the ids from the formula's number of clauses on
 module _ (cs : List (List Literal)) (n : ℕ) (log : List LogLine) (a : IsAcceptedOver cs log)
     (k : IsClauseCount n cs) where
-  pub accepted_at : Accepts cs (numbered_lines n log)
+  accepted_at : Accepts cs (numbered_lines n log)
   accepted_at = subst (λ m. Accepts cs (numbered_lines m log)) (sym k.0) a
 
   proof_over : IsTextOf (text_of n log) (numbered_lines n log) → IsProofOver cs (text_of n log)
   proof_over s = (numbered_lines n log, s, accepted_at)
 
-  pub room : HasRoom n log
+  room : HasRoom n log
   room = (
     k.1,
     λ lt. subst (λ m. HasSmallIds m log) (sym k.0)
         (accepted_ids cs log a (omega (arith, k.0, lt))),
   )
 
--- a refutation of an instance's cheaper solutions can be written
-refutation_room : (profile : Profile) (p : Problem) (costs : List ℕ) (c : ℕ) (cores : List Core)
-    (log : List LogLine) (n : ℕ) → IsInstance p → IsRefutation profile p costs c cores log n
-    → HasRoom n log × All HasCoreNumbers cores
-refutation_room profile p costs c [] log n i r =
-    (room (bound_as profile p c).clauses n log r.accepted r.counted, All-nil HasCoreNumbers)
-refutation_room profile p costs c (k ∷ ks) log n i r = (
-  room (core_cnf p r.leaves).clauses n log r.accepted r.counted,
-  counted_numbers p i (k ∷ ks) r.leaves r.are_counted,
-)
-
--- and is what a checker wants
-
-bounds_proof : (profile : Profile) (p : Problem) (c : ℕ) (text : List ℕ) (ls : List ProofLine)
-    → IsHeadedText text [] ls → Accepts (bound_as profile p c).clauses ls
-    → IsBoundProof profile p c text
-bounds_proof One p c text ls h a = (ls, no_head text ls h, a)
-bounds_proof Two p c text ls h a = (ls, no_head text ls h, a)
-bounds_proof Four p c text ls h a = (ls, no_head text ls h, a)
-bounds_proof Five p zero text ls h a = (ls, no_head text ls h, a)
-bounds_proof Five p (suc c) text ls h a = ([], ls, h, a)
-
-cores_proof : (profile : Profile) (p : Problem) (c : ℕ) (cores : List Core) (text : List ℕ)
-    (ls : List ProofLine) → profile ≡ Five → 0 < c → IsHeadedText text cores ls
-    → AcceptsAfter p c cores ls → IsBoundProof profile p c text
-cores_proof One p c cores text ls e lt h a = absurd (cc)
-cores_proof Two p c cores text ls e lt h a = absurd (cc)
-cores_proof Four p c cores text ls e lt h a = absurd (cc)
-cores_proof Five p zero cores text ls e lt h a = absurd (omega arith)
-cores_proof Five p (suc c) cores text ls e lt h a = (cores, ls, h, a)
-
-refutation_proof : (profile : Profile) (p : Problem) (costs : List ℕ) (c : ℕ) (cores : List Core)
-    (log : List LogLine) (n : ℕ) → IsRefutation profile p costs c cores log n
-    → IsHeadedText (head_text cores ++ text_of n log) cores (numbered_lines n log)
-    → IsBoundProof profile p c (head_text cores ++ text_of n log)
-refutation_proof profile p costs c [] log n r h =
-    bounds_proof profile p c (text_of n log) (numbered_lines n log) h
-    (accepted_at (bound_as profile p c).clauses n log r.accepted r.counted)
-refutation_proof profile p costs c (k ∷ ks) log n r h =
-    cores_proof profile p c (k ∷ ks) (head_text (k ∷ ks) ++ text_of n log) (numbered_lines n log)
-    r.profile_is r.above_zero h (
-      r.leaves,
-      r.are_counted,
-      r.worth,
-      accepted_at (core_cnf p r.leaves).clauses n log r.accepted r.counted,
-    )
-
 -- what was found can be written
 pub proof_room : (profile : Profile) (p : Problem) (out out' : Option (List ℕ))
-    (old new : BudgetState) (found : Found) → IsInstance p
+    (old new : BudgetState) (found : Found)
     → Searches profile p (Ok found) out out' old new → HasProofRoom found
-proof_room profile p out out' old new (Optimum c bits log clauses cores) i s =
-    refutation_room profile p s.tried c cores.items log clauses i (s.found).refutation
-proof_room profile p out out' old new (Unsat log clauses) i s = let f = s.found in
+proof_room profile p out out' old new (Optimum c bits log clauses) s =
+    let r = (s.found).refutation in
+    room (bound_as profile p c).clauses clauses log r.accepted r.counted
+proof_room profile p out out' old new (Unsat log clauses) s = let f = s.found in
     room (hard_cnf p).clauses clauses log f.accepted f.counted
-proof_room profile p out out' old new (Best c bits work) i s = tt
-proof_room profile p out out' old new (Nothing work) i s = tt
+proof_room profile p out out' old new (Best c bits work) s = tt
+proof_room profile p out out' old new (Nothing work) s = tt
 
 -- a result that says what was found, where these costs were told
 record Spells (profile : Profile) (text : Option (List ℕ)) (p : Problem) (tried : List ℕ)
@@ -163,7 +107,7 @@ module _ (profile : Profile) (text : Option (List ℕ)) (p : Problem)
   optimum_checks : (known : Option (List ℕ)) → IfSome known (λ bytes. Reads bytes p)
       → (c : ℕ) (bits : List Bool) (written proved : List ℕ) → Says written (SaysOptimum c bits)
       → IsSolution p bits c
-      → IsBoundProof profile p c proved
+      → IsProofOver (bound_as profile p c).clauses proved
       → IfSome known (λ bytes. ChecksAs profile bytes written proved)
   optimum_checks None r c bits written proved says s over = tt
   optimum_checks (Some bytes) r c bits written proved says s over =
@@ -181,7 +125,7 @@ module _ (profile : Profile) (text : Option (List ℕ)) (p : Problem)
   module _ (old new : BudgetState) (out out' : Option (List ℕ)) where
     spells : (found : Found) (s : Searches profile p (Ok found) out out' old new)
         → Spells profile text p s.tried found old new
-    spells (Optimum c bits log clauses cores) s =
+    spells (Optimum c bits log clauses) s =
         let f = s.found in
         let before = f.told.0 in
         let falls = falls_in s.tried before c f.told.1 s.falling s.small in
@@ -190,7 +134,7 @@ module _ (profile : Profile) (text : Option (List ℕ)) (p : Problem)
           said = SaysOptimum c bits.items;
           told = sym f.told.1;
           spelled = optimum_text before c bits.items
-              ∙ ap (λ z. cost_lines z ++ end_text (Optimum c bits log clauses cores))
+              ∙ ap (λ z. cost_lines z ++ end_text (Optimum c bits log clauses))
               (sym f.told.1);
           falls = falls;
           true_answer = f.optimal;
@@ -198,10 +142,10 @@ module _ (profile : Profile) (text : Option (List ℕ)) (p : Problem)
           no_proof = λ n. absurd (n tt);
           checked =
               λ n spelled. optimum_checks text reads c bits.items
-              (result_text before (SaysOptimum c bits.items))
-              (head_text cores.items ++ text_of clauses log)
+              (result_text before (SaysOptimum c bits.items)) (text_of clauses log)
               (text_says before (SaysOptimum c bits.items) falls) f.solution
-              (refutation_proof profile p s.tried c cores.items log clauses f.refutation spelled);
+              (proof_over (bound_as profile p c).clauses clauses log (f.refutation).accepted
+              (f.refutation).counted spelled);
           limit = tt;
         }
     spells (Unsat log clauses) s =
@@ -234,8 +178,6 @@ module _ (profile : Profile) (text : Option (List ℕ)) (p : Problem)
             spent =
                 record { no_proof = refl; none_left = s.spent; hard = f.hard; learned = s.learned };
             bound = subst (λ z. IsBoundWork profile p z c work) f.told.1 f.bound;
-            search = f.search;
-            tried = f.tried;
           };
           needed = λ n. absurd n;
           no_proof = λ n. refl;
@@ -254,8 +196,6 @@ module _ (profile : Profile) (text : Option (List ℕ)) (p : Problem)
             spent =
                 record { no_proof = refl; none_left = s.spent; hard = f.hard; learned = s.learned };
             no_bound = f.no_bound;
-            no_search = f.no_search;
-            none_tried = f.none_tried;
           };
           needed = λ n. absurd n;
           no_proof = λ n. refl;

@@ -1,6 +1,4 @@
 pub mod NoLine
-pub mod CoreLines
-pub mod HeadedTexts
 pub mod CostLines
 pub mod Searched
 pub mod ResultTexts
@@ -10,4 +8,3 @@ pub mod SeenAs
 pub mod SearchedByCuts
 pub mod CutsEnds
 mod BestTexts
-mod LowerTexts

@@ -23,7 +23,7 @@ use Rattle.report.proofs.ResultTexts.{optimum_text, satisfiable_text}
 -- what was found is so
 pub found_so : (profile : Profile) (p : Problem) (costs : List ℕ) (found : Found)
     → IsRightFound profile p costs found → IsTrueOf p (said_of found)
-found_so profile p costs (Optimum c bits log clauses cores) f = (f.solution, f.optimal)
+found_so profile p costs (Optimum c bits log clauses) f = (f.solution, f.optimal)
 found_so profile p costs (Unsat log clauses) f = f.inconsistent
 found_so profile p costs (Best c bits work) f = f.solution
 found_so profile p costs (Nothing work) f = tt
@@ -36,11 +36,11 @@ record IsSpelled (found : Found) (costs : List ℕ) : Type 0 where
 
 is_spelled : (profile : Profile) (p : Problem) (costs : List ℕ) (found : Found)
     → IsRightFound profile p costs found → IsSpelled found costs
-is_spelled profile p costs (Optimum c bits log clauses cores) f = record {
+is_spelled profile p costs (Optimum c bits log clauses) f = record {
   earlier = f.told.0;
   told = sym f.told.1;
   text = optimum_text f.told.0 c bits.items
-      ∙ ap (λ z. cost_lines z ++ end_text (Optimum c bits log clauses cores)) (sym f.told.1);
+      ∙ ap (λ z. cost_lines z ++ end_text (Optimum c bits log clauses)) (sym f.told.1);
 }
 is_spelled profile p costs (Unsat log clauses) f = record {
   earlier = [];

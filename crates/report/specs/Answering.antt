@@ -1,19 +1,15 @@
 -- What a run writes of what was found: the certificate, and the end of the result.
 use Rattle.std.specs.Prelude.{ℕ, ◌+◌, ◌<◌, Bool, List, [], ◌∷◌, ◌++◌, length, Option, ⊤}
-use Rattle.std.specs.Prelude.{All}
 use Rattle.std.specs.List.{flat_map}
 use Rattle.std.specs.Io.KnownBytes.{Appends}
 use lib.Chars.{codes}
 use Rattle.cnf.specs.declared.limits.TheConstants.{CLAUSE_LIMIT, NUMBER_LIMIT}
 use Rattle.text.specs.Writing.{AppendsPart}
 use Rattle.text.specs.LratText.{IsTextOf}
-use Rattle.cores.specs.Spelling.{HasCoreNumbers}
 use Rattle.lrat_log.specs.Log.{LogLine, HasSmallIds, numbered_lines, text_of}
 use Rattle.lrat_result.specs.Result.{digit_of}
-use Rattle.lrat_check.specs.Checks.{IsHeadedText}
 use Rattle.improve.specs.declared.found.Found.{Found}
 use Rattle.improve.specs.declared.found.Found.TheVariants.{Optimum, Unsat, Best, Nothing}
-use Rattle.report.specs.Heading.{head_text}
 use Rattle.report.specs.declared.status.Status.{Status}
 use Rattle.report.specs.declared.status.Status.TheVariants.{OptimumFound, Unsatisfiable}
 use Rattle.report.specs.declared.status.Status.TheVariants.{Satisfiable, Unknown}
@@ -21,7 +17,7 @@ use Rattle.report.specs.declared.fault.RunFault.{RunFault}
 use Rattle.report.specs.declared.fault.RunFault.TheVariants.{Read, Memory, Output, ProofOutput}
 
 abbrev pub status_of : Found → Status
-status_of (Optimum c bits log clauses cores) = OptimumFound
+status_of (Optimum c bits log clauses) = OptimumFound
 status_of (Unsat log clauses) = Unsatisfiable
 status_of (Best c bits work) = Satisfiable work
 status_of (Nothing work) = Unknown work
@@ -40,7 +36,7 @@ words_text words bits = words ++ (digits_text bits ++ codes "\n")
 
 -- the line of the status, and that of the bits
 abbrev pub end_text : Found → List ℕ
-end_text (Optimum c bits log clauses cores) =
+end_text (Optimum c bits log clauses) =
     words_text (codes "s OPTIMUM FOUND\n" ++ bits_word bits.items) bits.items
 end_text (Unsat log clauses) = words_text (codes "s UNSATISFIABLE") []
 end_text (Best c bits work) =
@@ -49,7 +45,7 @@ end_text (Nothing work) = words_text (codes "s UNKNOWN") []
 
 -- what is written as certificate
 abbrev pub proof_text : Found → List ℕ
-proof_text (Optimum c bits log clauses cores) = head_text cores.items ++ text_of clauses log
+proof_text (Optimum c bits log clauses) = text_of clauses log
 proof_text (Unsat log clauses) = text_of clauses log
 proof_text (Best c bits work) = []
 proof_text (Nothing work) = []
@@ -59,23 +55,21 @@ abbrev pub HasRoom : ℕ → List LogLine → Type 0
 HasRoom n ls = (n < CLAUSE_LIMIT) × (n + length ls < NUMBER_LIMIT → HasSmallIds n ls)
 
 abbrev pub HasProofRoom : Found → Type 0
-HasProofRoom (Optimum c bits log clauses cores) =
-    HasRoom clauses log × All HasCoreNumbers cores.items
+HasProofRoom (Optimum c bits log clauses) = HasRoom clauses log
 HasProofRoom (Unsat log clauses) = HasRoom clauses log
 HasProofRoom (Best c bits work) = ⊤
 HasProofRoom (Nothing work) = ⊤
 
--- the certificate's text has the core lines, and the lines of the log
+-- the certificate's text has the lines of the log
 abbrev pub IsSpelledProof : Found → Type 0
-IsSpelledProof (Optimum c bits log clauses cores) =
-    IsHeadedText (head_text cores.items ++ text_of clauses log) cores.items
-    (numbered_lines clauses log)
+IsSpelledProof (Optimum c bits log clauses) =
+    IsTextOf (text_of clauses log) (numbered_lines clauses log)
 IsSpelledProof (Unsat log clauses) = IsTextOf (text_of clauses log) (numbered_lines clauses log)
 IsSpelledProof (Best c bits work) = ⊤
 IsSpelledProof (Nothing work) = ⊤
 
 abbrev pub HasProof : Found → Type 0
-HasProof (Optimum c bits log clauses cores) = ⊤
+HasProof (Optimum c bits log clauses) = ⊤
 HasProof (Unsat log clauses) = ⊤
 HasProof (Best c bits work) = ⊥
 HasProof (Nothing work) = ⊥

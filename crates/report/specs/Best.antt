@@ -21,7 +21,7 @@ best_text said = result_text [] said
 
 -- what was found, as a result says it
 abbrev pub said_of : Found → Said
-said_of (Optimum c bits log clauses cores) = OptimumFound c bits.items
+said_of (Optimum c bits log clauses) = OptimumFound c bits.items
 said_of (Unsat log clauses) = Unsatisfiable
 said_of (Best c bits work) = Satisfiable c bits.items
 said_of (Nothing work) = Unknown

@@ -3,10 +3,8 @@ pub mod Profiles
 pub mod Codes
 pub mod Faults
 pub mod Told
-pub mod Heading
 pub mod Answering
 pub mod Running
 pub mod Best
 pub mod Seen
 pub mod ByCuts
-pub mod Lower

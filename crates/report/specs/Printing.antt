@@ -10,7 +10,6 @@ use Rattle.lrat_check.specs.declared.verdicts.Cause.TheVariants.{IdOrder, DeadId
 use Rattle.lrat_check.specs.declared.verdicts.Cause.TheVariants.{HintAfterConflict, NoConflict}
 use Rattle.lrat_check.specs.declared.verdicts.Cause.TheVariants.{Candidates, NoEmptyClause}
 use Rattle.lrat_check.specs.declared.verdicts.Cause.TheVariants.{TrailingLine, ClauseForm}
-use Rattle.lrat_check.specs.declared.verdicts.Cause.TheVariants.{CoreForm, CoreWeight, CoreSum}
 use Rattle.lrat_check.specs.declared.verdicts.Cause.TheVariants.{LineName, LineLimit, CutWorth}
 use Rattle.lrat_check.specs.declared.lower.LowerVerdict.{LowerVerdict}
 use Rattle.lrat_check.specs.declared.lower.LowerVerdict.TheVariants.{AtLeast, NoSolution}
@@ -36,9 +35,6 @@ cause_name Candidates = codes "Candidates"
 cause_name NoEmptyClause = codes "NoEmptyClause"
 cause_name TrailingLine = codes "TrailingLine"
 cause_name ClauseForm = codes "ClauseForm"
-cause_name CoreForm = codes "CoreForm"
-cause_name CoreWeight = codes "CoreWeight"
-cause_name CoreSum = codes "CoreSum"
 cause_name LineName = codes "LineName"
 cause_name LineLimit = codes "LineLimit"
 cause_name CutWorth = codes "CutWorth"

@@ -1,15 +1,13 @@
 -- Which profile a name means.
 use Rattle.std.specs.Prelude.{ℕ, List, [], ◌∷◌, Option, Some, None, ◌==◌, if◌then◌else◌}
 use Rattle.adder.specs.declared.profiles.Profile.{Profile}
-use Rattle.adder.specs.declared.profiles.Profile.TheVariants.{One, Two, Four, Five}
+use Rattle.adder.specs.declared.profiles.Profile.TheVariants.{One, Two}
 
--- a digit from 1 to 5 but not 3
+-- 1 or 2
 abbrev pub profile_named : List ℕ → Option Profile
 profile_named (b ∷ []) =
     if b == 49 then Some One
     else if b == 50 then Some Two
-    else if b == 52 then Some Four
-    else if b == 53 then Some Five
     else None
 profile_named [] = None
 profile_named (b ∷ c ∷ bs) = None

@@ -2,7 +2,7 @@
 -- those over memory do.
 use Rattle.std.specs.Prelude.{◌≡◌, ◌+◌, ◌<◌, [], ◌∷◌, ◌++◌, ⊤, ◌⊎◌}
 use Rattle.std.specs.Prelude.{ℕ, Bool, List, length, All}
-use Rattle.std.specs.Prelude.{Option, None, IfSome, Result, Ok, Err, IfOk, OnOk}
+use Rattle.std.specs.Prelude.{Option, IfSome, Result, Ok, Err, IfOk, OnOk}
 use Rattle.std.specs.List.{flat_map}
 use Rattle.std.specs.Io.KnownBytes.{Keeps, Appends}
 use Rattle.cnf.specs.Literal.{Assignment}
@@ -29,7 +29,6 @@ use Rattle.improve.specs.declared.found.ImproveFault.{ImproveFault}
 use Rattle.improve.specs.declared.found.ImproveFault.TheVariants.{Memory as SearchMemory, Progress}
 use Rattle.improve.specs.Improving.{AreFalling, EndsWith, IsCostOfSome, IsSolution}
 use Rattle.improve.specs.Improving.{IsHardWork, IsBoundWork, IsRightFound, OnWork, work_count}
-use Rattle.improve.specs.Improving.{IsCoreRefutation, IsSearchWork}
 use Rattle.report.specs.Told.{cost_lines}
 use Rattle.report.specs.declared.status.Status.{Status}
 use Rattle.report.specs.declared.status.Status.TheVariants.{OptimumFound, Unsatisfiable}
@@ -74,8 +73,6 @@ pub record IsTrueSatisfiable (profile : Profile) (p : Problem) (costs : List ℕ
   pub above_zero : 0 < c
   pub spent : IsSpentOn p proved work old new
   pub bound : IsBoundWork profile p costs c work
-  pub search : IfSome work.search (IsSearchWork p)
-  pub tried : All (IsCoreRefutation p) (work.tried).items
 
 -- no solution was met
 pub record IsTrueUnknown (p : Problem) (proved : List ℕ) (work : Work) (old new : BudgetState)
@@ -84,8 +81,6 @@ pub record IsTrueUnknown (p : Problem) (proved : List ℕ) (work : Work) (old ne
   pub not_refuted : IsRefutedByHints (hard_cnf p).clauses → ⊥
   pub spent : IsSpentOn p proved work old new
   pub no_bound : work.bound ≡ []
-  pub no_search : work.search ≡ None
-  pub none_tried : (work.tried).items ≡ []
 
 -- what the status and the result say is so
 abbrev pub IsTrueAnswer : Profile → Problem → List ℕ → Status → Said → List ℕ

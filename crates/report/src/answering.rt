@@ -1,22 +1,17 @@
 // What was found, on its way to the writers: the certificate first, whole and flushed, then the
 // lines of the status and the bits.
 ghost use Rattle.std.specs.Prelude.{◌≡◌, ◌+◌, ◌<◌, ◌++◌, ◌∷◌, []};
-ghost use Rattle.std.specs.Prelude.{length, codes, OnOk, IfErr, All};
+ghost use Rattle.std.specs.Prelude.{length, codes, OnOk, IfErr};
 ghost use Rattle.cnf.specs.declared.limits.TheConstants.{CLAUSE_LIMIT, NUMBER_LIMIT};
 ghost use Rattle.text.specs.LratText.{IsTextOf};
 ghost use Rattle.text.specs.Writing.{Puts, Writes};
 ghost use Rattle.lrat_log.specs.Log.{HasSmallIds, numbered_lines, text_of};
 ghost use Rattle.lrat_result.specs.Result.{digit_of};
-ghost use Rattle.cores.specs.Spelling.{HasCoreNumbers};
-ghost use Rattle.lrat_check.specs.Checks.{IsHeadedText};
-ghost use Rattle.report.specs.Heading.{head_text};
 ghost use Rattle.report.specs.Answering.{Answers, LeavesAnswer, HasProofRoom};
 ghost use Rattle.report.specs.Answering.{bits_word, digits_text, words_text};
 
 use crate::fault::RunFault;
-use crate::heading::write_head;
 use crate::printing::deliver;
-use cores::types::Core;
 use improve::found::Found;
 use lrat_log::log::{Log, write_to};
 use lrat_log::sink::Sink;
@@ -45,10 +40,9 @@ pub fn write_answer<O: Write, P: Write>(
             bits,
             log,
             clauses,
-            cores,
             ..
         } => {
-            deliver_headed(cores, log, *clauses, proof)?;
+            deliver_proof(log, *clauses, proof)?;
             deliver_end(spell_optimum(bits), bits, out)
         }
         Found::Unsat { log, clauses } => {
@@ -58,39 +52,6 @@ pub fn write_answer<O: Write, P: Write>(
         Found::Best { bits, .. } => deliver_end(spell_satisfiable(bits), bits, out),
         Found::Nothing { .. } => deliver_end(b"s UNKNOWN", &[], out),
     }
-}
-
-/// Writes the cores and then the log as a certificate whose formula has so many clauses, and
-/// flushes.
-pub(crate) fn deliver_headed<P: Write>(
-    cores: &[Core],
-    log: &Log,
-    clauses: u64,
-    proof: &mut P,
-) -> Result<(), RunFault>
-    requires few { clauses < CLAUSE_LIMIT }
-    requires ids { clauses + length log.now < NUMBER_LIMIT → HasSmallIds clauses log.now }
-    requires numbers { All HasCoreNumbers cores.now }
-    ensures writes { Writes result (P.contents proof.old)
-        (head_text cores.now ++ text_of clauses log.now) (P.contents proof.new) }
-    ensures fault { IfErr result (λ fault. fault ≡ RunFault.ProofOutput) }
-    ensures lines { IsHeadedText (head_text cores.now ++ text_of clauses log.now) cores.now
-        (numbered_lines clauses log.now) }
-{
-    is_spelled(log, clauses);
-    write_head(cores, proof).map_err(|_| RunFault::ProofOutput)?;
-    deliver_proof(log, clauses, proof)
-}
-
-/// Says how a log is spelled; of no interest is what `write_to` does on a writer without room.
-fn is_spelled(log: &Log, clauses: u64)
-    requires few { clauses < CLAUSE_LIMIT }
-    requires ids { clauses + length log.now < NUMBER_LIMIT → HasSmallIds clauses log.now }
-    ensures { IsTextOf (text_of clauses log.now) (numbered_lines clauses log.now) }
-{
-    log.is_short();
-    let mut nowhere: &mut [u8] = &mut [];
-    let _ = write_to(log, clauses, &mut nowhere);
 }
 
 /// Writes the log as a certificate whose formula has so many clauses, and flushes.

@@ -34,6 +34,12 @@ use wcnf::reading::read_from;
 /// There are at most so many variables to count with.
 const MOST_COUNT_ROOM: usize = 1 << 20;
 
+/// Beside two thousand, there are so many for each soft clause of a small instance,
+const ROOM_EACH_FEW: usize = 8;
+
+/// and beside ten thousand so many for each one of a large instance.
+const ROOM_EACH_MANY: usize = 2;
+
 /// What a run by forms and cuts leaves.
 #[derive(Drop)]
 pub struct CutsRun<P: Write> {
@@ -141,14 +147,13 @@ fn run_cuts_on<O: Write, P: Write + Drop, K: RunWatch>(
     }
 }
 
-/// How many variables there are to count with: the engine has tables of that length, so that a
-/// small instance gets fewer.
+/// How many variables there are to count with. Each solution decides all of them, so that there are
+/// few where there is little to count.
 fn count_room(instance: &Instance) -> u32 {
     let softs = instance.soft().len();
-    softs
-        .saturating_mul(6)
-        .saturating_add(10_000)
-        .min(MOST_COUNT_ROOM) as u32
+    let few = softs.saturating_mul(ROOM_EACH_FEW).saturating_add(2000);
+    let many = softs.saturating_mul(ROOM_EACH_MANY).saturating_add(10_000);
+    few.min(many).min(MOST_COUNT_ROOM) as u32
 }
 
 /// Looks for an optimum, and tells the cost of each better solution.

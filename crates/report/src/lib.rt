@@ -7,8 +7,6 @@ pub mod best;
 pub mod by_cuts;
 pub mod fault;
 pub mod finding;
-mod heading;
-pub mod lower;
 pub mod options;
 pub mod printing;
 pub mod running;

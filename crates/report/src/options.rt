@@ -44,11 +44,11 @@ It is written before the 's' line. The other statuses have none. Without
 --proof it is dropped. In profile 3 it is written during the search: if that
 ends before, the certificate still proves a lower bound (wmax lower).
 
---profile 5 finds the most optima. check needs the profile that the certificate
+--profile 3 finds the most optima. check needs the profile that the certificate
 was made in. The environment variable WMAX_PROFILE is the profile of solve,
 check and encode if --profile is not given:
 
-  export WMAX_PROFILE=5
+  export WMAX_PROFILE=3
 
 With --best PATH a run can be stopped at any moment. The same command then goes
 on from the solution in PATH, which it never makes worse. --progress shows how
@@ -57,7 +57,7 @@ far the run is. In a script that stops at errors, write
   wmax solve a.wcnf > a.result || [ $? = 30 ]
 
 Example:
-  wmax solve --profile 5 --proof a.lrat --best a.best a.wcnf > a.result
+  wmax solve --profile 3 --proof a.lrat --best a.best a.wcnf > a.result
 
 Faults:
   error: line N: FirstToken  line N begins with neither 'h', a weight nor 'c'
@@ -74,10 +74,10 @@ docs/FAULTS.md and the manual page list the others.";
 
 const CHECK_NOTES: &str = "\
 Prints YES, or NO with the first fault and its line. For OPTIMUM FOUND, PROOF
-has to refute the formula for 'cheaper than the last o line' or, if it begins
-with core lines, the formula of these cores. For UNSATISFIABLE it has to refute
-the hard clauses. SATISFIABLE and UNKNOWN claim nothing that a certificate could
-show, so the answer is NO.
+has to refute the formula for 'cheaper than the last o line' or, in profile 3,
+to derive by forms and cuts that nothing is cheaper. For UNSATISFIABLE it has to
+refute the hard clauses. SATISFIABLE and UNKNOWN claim nothing that a
+certificate could show, so the answer is NO.
 
 Statuses:
    0  YES: the result is true
@@ -90,7 +90,7 @@ In any other profile it is usually refused, for example with NO DeadId 1, NO
 IdOrder 1 or NO LineForm 1. --profile any tries them all.
 
 Example:
-  wmax check --profile 5 a.wcnf a.result a.lrat
+  wmax check --profile 3 a.wcnf a.result a.lrat
 
 Faults:
   NO Text N                 line N of FILE is faulty: wmax explain says how
@@ -103,20 +103,18 @@ Faults:
   NO HintNotUnit N          a clause that line N of PROOF names is not unit
   NO NoConflict N           the clauses named on line N of PROOF do not suffice
   NO NoEmptyClause 0        PROOF ends too soon
-  NO CoreForm N             line N of PROOF: bad core line, or too many clauses
-  NO CoreWeight N           the core on line N is worth 0, or more than is left
-  NO CoreSum N              the cores before line N are worth less than the cost
+  NO LineForm N             line N of PROOF is no line of a certificate
+  NO CutWorth N             the form does not give the cut or bound on line N
 docs/FAULTS.md and the manual page list the others.";
 
 const LOWER_NOTES: &str = "\
-Prints 'at least L' if PROOF begins with core lines and is correct: no solution
-of FILE costs less than L, which is what the cores are worth together. So the
-certificate of an optimum proved by cores gives that optimum. Prints 'no
-solution' if PROOF has no core lines and refutes the hard clauses, like the
-certificate of an UNSATISFIABLE result. If it is neither and PROOF is a file
-and no pipe, it is read again as one of profile 3: each beginning of that proves
-a bound, which may be 0. Any other certificate proves nothing without its
-RESULT: then NO, the first fault and its line are printed.
+PROOF is read as a certificate of profile 3, or the beginning of one. Prints 'at
+least L' if it is correct: no solution of FILE costs less than L, the greatest
+bound that its lines prove, or 0 if they prove none. So the certificate of an
+optimum gives that optimum. Prints 'no solution' if it proves that there is
+none, like the certificate of an UNSATISFIABLE result. Else NO, the first fault
+and its line are printed. A certificate of profile 1 or 2 is usually refused so:
+what it proves depends on its RESULT.
 
 Statuses:
    0  at least L, or no solution
@@ -125,16 +123,15 @@ Statuses:
    3  a file cannot be read, the answer cannot be written, or memory ran out
 
 Example:
-  wmax solve --lower a.bound --best a.best a.wcnf
-  wmax lower a.wcnf a.bound
+  wmax solve --profile 3 --proof a.lrat --best a.best a.wcnf
+  wmax lower a.wcnf a.lrat
 
 Faults:
-  NO Text N           line N of FILE is faulty: wmax explain says how
-  NO DeadId N         line N of PROOF names a clause that is not there
-  NO NoConflict N     the clauses named on line N of PROOF do not suffice
-  NO NoEmptyClause 0  PROOF ends too soon
-  NO CoreForm N       line N of PROOF: bad core line, or too many clauses
-  NO CoreWeight N     the core on line N is worth 0, or more than is left
+  NO Text N        line N of FILE is faulty: wmax explain says how
+  NO DeadId N      line N of PROOF names a clause that is not there
+  NO NoConflict N  the clauses named on line N of PROOF do not suffice
+  NO LineForm N    line N of PROOF is no line of a certificate
+  NO CutWorth N    the form does not give the cut or bound on line N
 docs/FAULTS.md and the manual page list the others.";
 
 const EXPLAIN_NOTES: &str = "\
@@ -149,10 +146,10 @@ Without RESULT: prints how many variables, hard clauses and soft clauses FILE
 has, and the sum of the weights. If FILE is faulty: prints the faulty line and
 word, and how to correct it. With PROOF, if RESULT is correct: also prints what
 wmax lower prints, and the gap, which is the cost minus that bound. If PROOF is
-of profile 3 and a regular file: also says why, by the form that it ends with:
-which clauses, counts and groups that form takes off the cost, and how often. Of
-more than ten it prints those that it takes off most often. A character that
-would command a terminal is shown as question marks.
+a regular file: also says why, by the form that it ends with: which clauses,
+counts and groups that form takes off the cost, and how often. Of more than ten
+it prints those that it takes off most often. A character that would command a
+terminal is shown as question marks.
 
 Statuses:
    0  the bits are a solution of the cost that RESULT states, or it has no bits
@@ -163,7 +160,7 @@ Statuses:
 
 Example:
   wmax explain a.wcnf a.result
-  wmax explain a.wcnf a.best a.bound
+  wmax explain a.wcnf a.best a.lrat
   wmax explain a.wcnf
 
 Faults:
@@ -176,29 +173,30 @@ Faults:
 docs/FAULTS.md and the manual page list all.";
 
 const ENCODE_NOTES: &str = "\
-The formula is satisfiable exactly when some solution costs less than COST. So a
-certificate of the optimum COST refutes it. If the certificate has core lines,
-its other lines refute the formula that --proof prints instead. Other LRAT
+In profiles 1 and 2 the formula is satisfiable exactly when some solution costs
+less than COST. So a certificate of the optimum COST refutes it. Other LRAT
 checkers can check a certificate against the formula, and any SAT solver that
-writes LRAT can make one.
+writes LRAT can make one. In profile 3 the formula has the hard clauses, and the
+soft ones of several literals, each of these with a fresh variable, whatever
+COST is. With --proof it also has the clauses that the lines of CERTIFICATE
+make, and --lrat writes the lines that refute it, as plain LRAT.
 
 Statuses:
    0  the formula is written
-   2  FILE, a core line of CERTIFICATE or the command line is faulty
+   2  FILE, CERTIFICATE or the command line is faulty
    3  a file cannot be read, the formula cannot be written, or memory ran out
 
 Example:
-  wmax encode --profile 5 --proof a.lrat a.wcnf 3 > a.cnf
-  grep -v '^core' a.lrat > b.lrat  # refutes a.cnf
+  wmax encode --profile 1 a.wcnf 3 > a.cnf
+  wmax encode --profile 3 --proof a.lrat --lrat b.lrat a.wcnf 3 > b.cnf
 
 Faults:
-  error: line N: NoZero      the clause on line N of FILE has no 0 at its end
-  error: line N: CoreForm    line N: bad core line, or too many clauses
-  error: line N: CoreWeight  the core on line N is worth 0, or more than is left
-  error: line N: CoreSum     the cores before line N are worth less than COST
-  error: Read NAME           the file NAME cannot be opened or read
-  error: Memory              memory ran out
-  error: Output              standard output cannot be written
+  error: line N: NoZero    the clause on line N of FILE has no 0 at its end
+  error: line N: LineForm  line N of CERTIFICATE is no line of a certificate
+  error: line N: CutWorth  the form does not give the cut or bound on line N
+  error: Read NAME         the file NAME cannot be opened or read
+  error: Memory            memory ran out
+  error: Output            standard output cannot be written
 'wmax solve --help' lists more faults of FILE.
 docs/FAULTS.md and the manual page list all.";
 
@@ -211,8 +209,8 @@ WMAX_PROFILE is the profile of solve, check and encode if --profile is not
 given.
 
 Example:
-  wmax solve --profile 5 --proof a.lrat a.wcnf > a.result
-  wmax check --profile 5 a.wcnf a.result a.lrat
+  wmax solve --profile 3 --proof a.lrat a.wcnf > a.result
+  wmax check --profile 3 a.wcnf a.result a.lrat
   wmax explain a.wcnf a.result";
 
 /// What `--version` prints after the name.
@@ -225,17 +223,15 @@ How 'cheaper' is encoded. The default is WMAX_PROFILE if set, else 1.
 1: adders add all weights column by column;
 2: as 1, without variables for soft clauses of one literal;
 3: forms and cuts: lower bounds and what follows from them stand in the
-certificate, which is written during the search;
-4: generalized totalizers along a tree that follows the hard clauses;
-5: cores first, by core-guided search, and then as 4. The cores begin
-the certificate. Profile 5 finds the most optima.
-check and encode need the profile that the certificate was made in";
+certificate, which is written during the search.
+Profile 3 finds the most optima. check and encode need the profile that
+the certificate was made in";
 
 const PROFILE_OR_ANY_HELP: &str = "\
 The profile that the certificate was made in. The default is
-WMAX_PROFILE if set, else 1. any tries 5, 4, 3, 2 and 1 until one says
-YES. If none does, it prints NO with the fault on the latest line of
-PROOF. PROOF is read again for each profile, so it cannot be a pipe";
+WMAX_PROFILE if set, else 1. any tries 3, 2 and 1 until one says YES.
+If none does, it prints NO with the fault on the latest line of PROOF.
+PROOF is read again for each profile, so it cannot be a pipe";
 
 const CONFLICTS_HELP: &str = "\
 The effort: at most N learned clauses and solutions in all. Time and
@@ -259,19 +255,8 @@ a cheaper one replaces it, or a proof of this run that none is. So an
 OPTIMUM FOUND that another run wrote stays as it is, byte for byte, and
 this run does not vouch for it. A result without a solution stays until
 there is a solution or a proof. Anything else in PATH is refused, and
-so is a PATH that cannot be written, or is FILE or the certificate";
-
-const LOWER_HELP: &str = "\
-Keeps in PATH the best lower bound that cores prove, as a certificate
-for wmax lower that is complete at every moment. PATH is created with
-the first bound. There is no bound if the optimum is 0, or if there is
-no solution. With --lower every profile looks for cores, and looks for
-longer. Only profile 5 ends as soon as a bound meets the cost. Profile
-3 takes no --lower: wmax lower reads what --proof writes. If PATH
-already has a bound for FILE, only a better one replaces it. An empty
-file is removed. Anything else in PATH is refused, and so is a PATH
-that cannot be written, or that the run uses otherwise. Files are
-first written to PATH.part, here and for --best";
+so is a PATH that cannot be written, or is FILE or the certificate. The
+result is first written to PATH.part";
 
 const FROM_HELP: &str = "\
 Begins with the solution in RESULT, which may be from another solver.
@@ -287,21 +272,19 @@ const PROGRESS_HELP: &str = "\
 Shows on standard error how far the search is: a line at each better
 solution and at the end, and at most one a second in between: the
 seconds so far, the least cost, how many solutions led to it, and how
-many conflicts there were. 'at least L' is what the cores found so far
-are worth (profile 5, or with --lower). L may not be proved yet: see
---lower. The gap is the cost minus L, as a share of the cost. The
-effort is that of --conflicts. A terminal shows only the last line, and
-as much of it as it has columns";
+many conflicts there were. 'at least L' is what the certificate proves
+so far (profile 3). The gap is the cost minus L, as a share of the cost.
+The effort is that of --conflicts. A terminal shows only the last line,
+and as much of it as it has columns";
 
 const CERTIFICATE_HELP: &str = "\
-With --profile 5: prints the formula that the lines of CERTIFICATE
-after its core lines refute, if they show that nothing costs less than
-COST. With --profile 3: prints the formula with all clauses that the
+Only with --profile 3: prints the formula with all clauses that the
 lines of CERTIFICATE make, where each is right for COST";
 
 const LRAT_HELP: &str = "\
-With --profile 3 and --proof: also writes the additions and deletions
-of CERTIFICATE to OUT, as plain LRAT over the formula that is printed";
+Only with --profile 3 and --proof: also writes the additions and
+deletions of CERTIFICATE to OUT, as plain LRAT over the formula that is
+printed";
 
 const RESULT_HELP: &str = "The result, as a solver printed it: o, s and v lines";
 
@@ -344,9 +327,6 @@ pub const PROOF_OPTION: &str = "proof";
 /// The file that keeps the best solution so far, from which the next run goes on.
 pub const BEST_OPTION: &str = "best";
 
-/// The file that keeps what the cores proved so far.
-pub const LOWER_OPTION: &str = "lower";
-
 /// The file that the plain certificate is written to.
 pub const LRAT_OPTION: &str = "lrat";
 
@@ -360,24 +340,21 @@ pub const PROGRESS_OPTION: &str = "progress";
 pub const PROFILE_OPTION: &str = "profile";
 
 /// The names of the profiles.
-const PROFILES: [&str; 5] = ["1", "2", "3", "4", "5"];
+const PROFILES: [&str; 3] = ["1", "2", "3"];
 
 /// What `check` calls each of them in turn.
 pub const ANY: &str = "any";
 
 /// The names that `check` takes.
-const PROFILES_OR_ANY: [&str; 6] = ["1", "2", "3", "4", "5", ANY];
+const PROFILES_OR_ANY: [&str; 4] = ["1", "2", "3", ANY];
 
-/// The profile of this name, a digit from 1 to 5 but not 3: no formula of its own says 'cheaper'
-/// in that.
+/// The profile of this name, 1 or 2: in profile 3 no formula says 'cheaper'.
 pub fn pick_profile(name: &str) -> Option<Profile>
     ensures { result ≡ profile_named name.now }
 {
     match name.as_bytes() {
         [b'1'] => Some(Profile::One),
         [b'2'] => Some(Profile::Two),
-        [b'4'] => Some(Profile::Four),
-        [b'5'] => Some(Profile::Five),
         _ => None,
     }
 }
@@ -447,14 +424,14 @@ const CERTIFICATE: Parameter<'static> = Parameter {
 /// Which clauses say 'cheaper': `check` wants the profile that the certificate was made in.
 const PROFILE: Parameter<'static> = Parameter {
     id: PROFILE_OPTION,
-    form: ParameterForm::Option("1|2|3|4|5"),
+    form: ParameterForm::Option("1|2|3"),
     values: ValueParser::Names(&PROFILES),
     default: &[],
     help: PROFILE_HELP,
 };
 
 /// What `wmax solve` takes.
-const SOLVE_PARAMETERS: [Parameter<'static>; 9] = [
+const SOLVE_PARAMETERS: [Parameter<'static>; 8] = [
     Parameter {
         id: CONFLICTS_OPTION,
         form: ParameterForm::Option("N"),
@@ -482,13 +459,6 @@ const SOLVE_PARAMETERS: [Parameter<'static>; 9] = [
         values: ValueParser::String,
         default: &[],
         help: BEST_HELP,
-    },
-    Parameter {
-        id: LOWER_OPTION,
-        form: ParameterForm::Option("PATH"),
-        values: ValueParser::String,
-        default: &[],
-        help: LOWER_HELP,
     },
     Parameter {
         id: FROM_OPTION,
@@ -521,7 +491,7 @@ const CHECK_PARAMETERS: [Parameter<'static>; 4] = [
     CERTIFICATE,
     Parameter {
         id: PROFILE_OPTION,
-        form: ParameterForm::Option("1|2|3|4|5|any"),
+        form: ParameterForm::Option("1|2|3|any"),
         values: ValueParser::Names(&PROFILES_OR_ANY),
         default: &[],
         help: PROFILE_OR_ANY_HELP,
@@ -546,7 +516,7 @@ const EXPLAIN_PARAMETERS: [Parameter<'static>; 3] = [
         form: ParameterForm::Word { required: false },
         values: ValueParser::String,
         default: &[],
-        help: "A certificate of a lower bound, as solve --lower keeps it",
+        help: "The certificate, of profile 3, or the beginning of one",
     },
 ];
 
@@ -595,7 +565,7 @@ const SUBCOMMANDS: [Subcommand<'static>; 5] = [
     },
     Subcommand {
         name: LOWER,
-        about: "Prints the lower bound that an LRAT certificate proves by itself",
+        about: "Prints the lower bound that a certificate proves by itself",
         parameters: &LOWER_PARAMETERS,
         next_line_help: false,
         notes: LOWER_NOTES,

@@ -70,8 +70,7 @@ pub fn run<R: Read, O: Write, P: Write>(
 }
 
 /// As `run`, where soft clauses are relaxed as the profile says. `check` wants the profile that the
-/// certificate was made in. In profile 5 it may begin with core lines, and then refutes the formula
-/// of these.
+/// certificate was made in.
 ///
 /// # Errors
 ///
@@ -182,7 +181,6 @@ fn run_on<O: Write, P: Write, K: RunWatch>(
         status (K.seen watch.old) (K.seen watch.new)) }
     ensures waives { WaivesAs budget.old budget.new (K.waived watch.old) (K.waived watch.new) }
 {
-    instance.limits();
     let found = find_best(alloc, instance, start, budget, out, profile, watch)?;
     watch.searched(&Finding::of(&found));
     if let Err(fault) = write_answer(&found, out, proof) {

@@ -2,7 +2,7 @@
 use clap::ArgMatches;
 use report::options::{
     BEST_OPTION, CHECK, CONFLICTS_OPTION, COST, ENCODE, EXPLAIN, FILE, FROM_OPTION, LOWER,
-    LOWER_OPTION, LRAT_OPTION, PROFILE_OPTION, PROGRESS_OPTION, PROOF, PROOF_OPTION, RESULT, SOLVE,
+    LRAT_OPTION, PROFILE_OPTION, PROGRESS_OPTION, PROOF, PROOF_OPTION, RESULT, SOLVE,
     TIME_LIMIT_OPTION,
 };
 
@@ -36,8 +36,6 @@ pub struct SolveRequest<'a> {
     pub proof: Option<&'a str>,
     /// Where the best solution is kept.
     pub best: Option<&'a str>,
-    /// Where the certificate of a lower bound is kept.
-    pub lower: Option<&'a str>,
     /// The result with which the search begins.
     pub from: Option<&'a str>,
     /// Whether to report progress.
@@ -84,7 +82,7 @@ pub struct EncodeRequest<'a> {
     pub text: &'a str,
     /// The bound, below 2^62.
     pub cost: u64,
-    /// The certificate whose core lines are counted, or that is made plain.
+    /// The certificate that is made plain.
     pub proof: Option<&'a str>,
     /// Where the plain certificate is written.
     pub lrat: Option<&'a str>,
@@ -117,7 +115,6 @@ impl<'a> SolveRequest<'a> {
             profile: matches.get_str(PROFILE_OPTION),
             proof: matches.get_str(PROOF_OPTION),
             best: matches.get_str(BEST_OPTION),
-            lower: matches.get_str(LOWER_OPTION),
             from: matches.get_str(FROM_OPTION),
             is_told: matches.get_flag(PROGRESS_OPTION),
         })

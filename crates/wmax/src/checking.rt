@@ -27,14 +27,8 @@ const NO_FILE: &str = "error: check --profile any needs a regular file as PROOF,
 /// What begins the lines that only a certificate of forms and cuts has.
 const WORDS_OF_CUTS: [&[u8]; 6] = [b"count ", b"more ", b"group ", b"form ", b"cut ", b"bound "];
 
-/// What begins the lines that only a certificate with cores has.
-const WORD_OF_CORES: &[u8] = b"core ";
-
 /// What is said of a certificate of forms and cuts in another profile.
 const CUTS_ADVICE: &str = "PROOF begins like a certificate of profile 3: try --profile 3";
-
-/// What is said of a certificate with cores in another profile.
-const CORES_ADVICE: &str = "PROOF begins like a certificate of profile 5: try --profile 5";
 
 /// The files are opened in their order before any is read, and read in their order. The certificate
 /// is judged while it is read, so none of it is kept but the clauses that are live.
@@ -59,7 +53,7 @@ pub fn check<'a, R: Files + AllocGlobal + Print + Env, E: Write>(
         Ok(verdict) => {
             let status = show_for(rt, messages, &text, &verdict)?;
             if status == 1 {
-                advise_profile(messages, proof.first(), profile);
+                advise_cuts(messages, proof.first(), profile);
             }
             Ok(status)
         }
@@ -67,15 +61,12 @@ pub fn check<'a, R: Files + AllocGlobal + Print + Env, E: Write>(
     }
 }
 
-/// Names the profile that reads a certificate with these first bytes, where it was another one.
-fn advise_profile<E: Write>(messages: &mut Messages<'_, E>, first: &[u8], profile: Certifying) {
-    let advice = match profile {
-        Certifying::Formula(_) if begins_with_any(first, &WORDS_OF_CUTS) => CUTS_ADVICE,
-        Certifying::Formula(Profile::Five) => return,
-        _ if first.starts_with(WORD_OF_CORES) => CORES_ADVICE,
-        _ => return,
-    };
-    let _ = writeln!(messages.below(), "{advice}");
+/// Names the profile of forms and cuts, where only that reads a certificate with these first bytes,
+/// and it was another one.
+fn advise_cuts<E: Write>(messages: &mut Messages<'_, E>, first: &[u8], profile: Certifying) {
+    if !profile.is_cuts() && begins_with_any(first, &WORDS_OF_CUTS) {
+        let _ = writeln!(messages.below(), "{CUTS_ADVICE}");
+    }
 }
 
 /// Whether one of the words, with what follows it, stands first.
@@ -105,9 +96,7 @@ fn check_any<'a, R: Files + AllocGlobal + Print, E: Write>(
 }
 
 /// The profiles that are tried, the one that finds most optima first.
-const EACH: [Certifying; 5] = [
-    Certifying::Formula(Profile::Five),
-    Certifying::Formula(Profile::Four),
+const EACH: [Certifying; 3] = [
     Certifying::Cuts,
     Certifying::Formula(Profile::Two),
     Certifying::Formula(Profile::One),
@@ -151,10 +140,7 @@ pub(crate) struct CertificateFault {
 }
 
 /// The fault that stands further down; the first where neither does.
-pub(crate) fn later_of(
-    first: Option<CertificateFault>,
-    second: CertificateFault,
-) -> CertificateFault
+fn later_of(first: Option<CertificateFault>, second: CertificateFault) -> CertificateFault
     ensures { result ≡ later first second }
 {
     match first {

@@ -3,14 +3,12 @@ ghost use Rattle.std.specs.Prelude.{◌<◌};
 ghost use Rattle.cnf.specs.declared.limits.TheConstants.{NUMBER_LIMIT};
 
 use crate::arguments::EncodeRequest;
-use crate::faults::{Fault, end_output, open, read_whole, tell_text_fault};
+use crate::faults::{Fault, end_output, open, tell_text_fault};
 use crate::plain_encoding::encode_plain;
 use crate::profiles::{Certifying, choose_profile, refuse_profile};
-use adder::profiles::Profile;
 use bound::encoding::{WatchedWriter, write_formula};
 use bound::formulas::write_dimacs;
 use bound::weighted::weighted_formula;
-use lrat_check::core_formula::{RefutedFormula, core_formula};
 use report::fault::RunFault;
 use report::options::MOST_COST;
 use report::printing::deliver;
@@ -23,14 +21,14 @@ use wmax_onlooker::standard_error::Messages;
 use wmax_onlooker::standard_output::standard_output;
 
 /// What is said of a `--proof` in another profile.
-const NO_CORES: &str = "error: encode takes --proof only with --profile 3 or 5";
+const NO_PROOF: &str = "error: encode takes --proof only with --profile 3";
 
 /// What is said of a `--lrat` beside another profile, or no certificate.
 const NO_PLAIN: &str = "error: encode takes --lrat only with --profile 3 and --proof";
 
-/// The formula for 'cost below COST' (in profile 3 that of the relaxed clauses, whatever COST is),
-/// or with `--proof` that of the core lines of the certificate, or in profile 3 with what its lines
-/// make. It is opened after FILE and before any of it is read.
+/// The formula for 'cost below COST', or in profile 3 that of the relaxed clauses, whatever COST is,
+/// and with `--proof` what the lines of the certificate make. That is opened after FILE and before
+/// any of it is read.
 pub fn encode<'a, R: Files + AllocGlobal + Print + Env, E: Write>(
     rt: &R,
     messages: &mut Messages<'_, E>,
@@ -46,21 +44,13 @@ pub fn encode<'a, R: Files + AllocGlobal + Print + Env, E: Write>(
         let _ = writeln!(messages.below(), "{NO_PLAIN}");
         return Ok(2);
     }
-    let is_refuted = matches!(profile, Certifying::Formula(Profile::Five));
-    if request.proof.is_some() && !is_refuted && !profile.is_cuts() {
-        let _ = writeln!(messages.below(), "{NO_CORES}");
+    if request.proof.is_some() && !profile.is_cuts() {
+        let _ = writeln!(messages.below(), "{NO_PROOF}");
         return Ok(2);
     }
     let mut text = Beginning::new(open(rt, request.text)?);
     let ended = match request.proof {
         None => encode_bound(rt, &mut text, cost, profile),
-        Some(path) if is_refuted => {
-            let proof = Certificate {
-                file: open(rt, path)?,
-                path,
-            };
-            encode_refuted(rt, messages, &mut text, proof, cost)
-        }
         Some(path) => encode_plain(rt, messages, request, &mut text, path),
     };
     Ok(tell_ended(messages, ended, request.text, text.first()))
@@ -119,44 +109,4 @@ fn write_bound<R: AllocGlobal, T: Read, W: Write>(
     };
     deliver(written, &mut watched)?;
     Ok(0)
-}
-
-/// A certificate that is open, and where it is.
-#[derive(Drop)]
-struct Certificate<'a, P> {
-    /// The file.
-    file: P,
-    /// Its path.
-    path: &'a str,
-}
-
-/// Prints the formula that the certificate refutes for COST. A fault of its core lines is told on
-/// standard error, with its line.
-fn encode_refuted<'a, R: AllocGlobal + Print, E: Write, T: Read, P: Read + Drop>(
-    rt: &R,
-    messages: &mut Messages<'_, E>,
-    text: &mut T,
-    proof: Certificate<'a, P>,
-    cost: u64,
-) -> Result<u8, Fault<'a>>
-    requires { cost < NUMBER_LIMIT }
-{
-    let instance = match read_from(rt.alloc(), text) {
-        Ok(instance) => ManuallyDrop::new(instance),
-        Err(fault) => return Err(Fault::Run(fault.into())),
-    };
-    let Certificate { mut file, path } = proof;
-    let proof = read_whole(rt, &mut file, path)?;
-    match core_formula(&instance, cost, &proof) {
-        Ok(RefutedFormula::Formula(formula)) => {
-            let mut out = standard_output(rt);
-            let written = deliver(write_dimacs(&formula, &mut out), &mut out);
-            end_output(written.map(|()| 0), out.is_closed())
-        }
-        Ok(RefutedFormula::Nothing(cause, line)) => {
-            let _ = writeln!(messages.below(), "error: line {line}: {cause:?}");
-            Ok(2)
-        }
-        Err(_) => Err(Fault::Run(RunFault::Memory)),
-    }
 }

@@ -5,7 +5,7 @@ ghost use Rattle.wmax.specs.Explaining.{bound_text};
 
 use crate::arguments::ExplainRequest;
 use crate::checking::show;
-use crate::faults::{Fault, end_output, open, read_whole};
+use crate::faults::{Fault, end_output, is_regular, open, read_whole};
 use crate::lower_bounds::judge_lower;
 use contradiction::finding::{Finding, find_contradiction};
 use explain::contradicting::{write_contradiction, write_open, write_refuted};
@@ -20,12 +20,11 @@ use lrat_cuts::last_form::LastForm;
 use report::fault::RunFault;
 use report::printing::{deliver, fault_code, lower_code, print_fault, print_gap, print_lower};
 use std::alloc::Global;
-use std::io::{Read, Write};
+use std::io::Write;
 use std::rt::Files;
 use text::output::WriteFault;
 use wcnf::faults::{FaultKind, ReadFault};
 use wcnf::reading::read;
-use wmax_onlooker::beginning::Beginning;
 use wmax_onlooker::standard_error::Messages;
 use wmax_onlooker::standard_output::standard_output;
 
@@ -79,7 +78,7 @@ fn explain_three<'a, R: Files + AllocGlobal + Print, E: Write>(
     let mut text = open(rt, text_path)?;
     let mut answer = open(rt, answer_path)?;
     let mut proof = Certificate {
-        file: Beginning::new(open(rt, proof_path)?),
+        file: open(rt, proof_path)?,
         path: proof_path,
     };
     let text = read_whole(rt, &mut text, text_path)?;
@@ -89,9 +88,9 @@ fn explain_three<'a, R: Files + AllocGlobal + Print, E: Write>(
 
 /// A certificate that is open, and where it is.
 #[derive(Drop)]
-struct Certificate<'a, F: Read> {
+struct Certificate<'a, F> {
     /// The file.
-    file: Beginning<F>,
+    file: F,
     /// Its path.
     path: &'a str,
 }
@@ -121,31 +120,29 @@ fn explain_beside<'a, R: Files + AllocGlobal + Print, E: Write>(
     }
 }
 
-/// What a certificate proves by itself, and of one of forms and cuts why.
+/// What a certificate proves by itself, and why.
 #[derive(Drop)]
 struct Bound<'t> {
     /// The verdict on it.
     verdict: LowerVerdict,
-    /// The facts of the form that it ends with.
+    /// The facts of the form that it ends with, if it has one and can be read again.
     why: Option<Reasons<'t>>,
 }
 
-/// Judges the certificate. One of forms and cuts is read once more for its form, in memory.
+/// Judges the certificate. If it proves something and is in a regular file, it is read once more
+/// for its form, in memory.
 fn judge_bound<'a, 't, R: Files + AllocGlobal>(
     rt: &R,
     text: &'t [u8],
     proof: &mut Certificate<'a, R::File>,
 ) -> Result<Bound<'t>, Fault<'a>> {
-    let lower = judge_lower(rt, text, &mut proof.file, proof.path)?;
-    let why = match lower.verdict {
+    let verdict = judge_lower(rt, text, &mut proof.file, proof.path)?;
+    let why = match verdict {
         LowerVerdict::No(..) => None,
-        _ if lower.is_by_cuts => read_reasons(rt, text, proof.path)?,
+        _ if is_regular(rt, proof.path) => read_reasons(rt, text, proof.path)?,
         _ => None,
     };
-    Ok(Bound {
-        verdict: lower.verdict,
-        why,
-    })
+    Ok(Bound { verdict, why })
 }
 
 /// The facts of the form that the certificate at this path ends with.

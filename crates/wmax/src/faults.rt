@@ -5,7 +5,7 @@ ghost use Rattle.wmax.specs.Faults.{fault_of_text, fault_status, file_fault, out
 use explain::mending::advise_unpacking;
 use report::fault::RunFault;
 use report::printing::{fault_code, print_fault};
-use std::fs::File;
+use std::fs::{self, File};
 use std::io::{Read, Write};
 use std::rt::Files;
 use wcnf::faults::{FaultKind, ReadFault};
@@ -129,6 +129,14 @@ pub(crate) fn open<'a, R: Files>(rt: &R, path: &'a str) -> Result<R::File, Fault
     match File::open(rt, path) {
         Ok(file) => Ok(file),
         Err(_) => Err(Fault::Unreadable(path)),
+    }
+}
+
+/// Whether the file can be read more than once.
+pub(crate) fn is_regular<R: Files>(rt: &R, path: &str) -> bool {
+    match fs::metadata(rt, path) {
+        Ok(data) => data.is_file(),
+        Err(_) => false,
     }
 }
 

@@ -1,25 +1,20 @@
-//! What is at hand before a search begins: FILE, the solution with which it begins, and the files
-//! of earlier runs that it replaces.
-ghost use Rattle.std.specs.Prelude.{◌≡◌, ◌⊎◌, Some, None, IfOk, IfErr, IfSome, option_map};
+//! What is at hand before a search begins: FILE, the solution with which it begins, and the file of
+//! an earlier run that it replaces.
+ghost use Rattle.std.specs.Prelude.{◌≡◌, IfOk, IfErr, IfSome, option_map};
 ghost use Rattle.explain.specs.Judging.{TellsBits};
-ghost use Rattle.lrat_check.specs.Lower.{lower_verdict};
-ghost use Rattle.wmax.specs.Inputs.{bound_left, undercuts};
+ghost use Rattle.wmax.specs.Inputs.{undercuts};
 
 use crate::arguments::SolveRequest;
-use crate::faults::Fault;
 use crate::refusals::{KeptFileFault, Refused};
 use adder::profiles::Profile;
 use explain::judging::{Judgement, read_bits};
 use lrat_check::checking::check_as;
-use lrat_check::lower::{LowerVerdict, check_lower};
-use lrat_check::verdicts::Cause;
 use report::fault::RunFault;
 use std::alloc::Global;
 use std::fs::{File, OpenFile};
 use std::io::Read;
 use std::rt::Files;
 use wmax_onlooker::beginning::Beginning;
-use wmax_onlooker::bounding::LowerPaths;
 use wmax_onlooker::file_id::{FileId, find_file_id, find_path_id, find_place};
 use wmax_onlooker::files::{UNREADABLE, read_file};
 use wmax_onlooker::keeper::{BestPaths, judge_left};
@@ -34,8 +29,6 @@ pub(crate) struct Inputs<'a, F: Read> {
     result: Option<F>,
     /// Where the search begins, if it has such a solution.
     pub(crate) start: Option<FirstSolution>,
-    /// Where the best lower bound is kept, if it is to be kept.
-    pub(crate) bounds: Option<LowerPaths<'a>>,
     /// Where the best solution is kept, if it is to be kept.
     pub(crate) kept: Option<BestPaths<'a>>,
 }
@@ -95,18 +88,17 @@ impl<'a, F: OpenFile + Read> Inputs<'a, F> {
             },
             result: None,
             start: None,
-            bounds: None,
             kept: None,
         }
     }
 }
 
-/// Takes what stands in the files of `--from`, `--lower` and `--best`; nothing is written yet. It
-/// answers which files are read: FILE and RESULT, or FILE twice.
+/// Takes what stands in the files of `--from` and `--best`; nothing is written yet. It answers
+/// which files are read: FILE and RESULT, or FILE twice.
 ///
 /// # Errors
 ///
-/// `Wrong`, `Lower`, `Best`, and `Fault` where a file cannot be read, with a fault of FILE, or with
+/// `Wrong`, `Best`, and `Fault` where a file cannot be read, with a fault of FILE, or with
 /// `Memory`: the first that is met.
 pub(crate) fn prepare<'a, R: Files + AllocGlobal>(
     rt: &R,
@@ -120,9 +112,6 @@ pub(crate) fn prepare<'a, R: Files + AllocGlobal>(
             [here, here]
         }
     };
-    if let Some(path) = request.lower {
-        take_bounds(rt, request, path, read, inputs)?;
-    }
     if let Some(path) = request.best {
         take_best(rt, request, path, read, inputs)?;
     }
@@ -169,82 +158,21 @@ fn read_start(alloc: Global, said: &[u8], cost: u64) -> Result<Option<FirstSolut
     }
 }
 
-/// Takes the file of `--lower`, which may be none of the others. Where it has something already,
-/// that is judged by FILE, all of which is in memory then.
-fn take_bounds<'a, R: Files + AllocGlobal>(
-    rt: &R,
-    request: SolveRequest<'a>,
-    path: &'a str,
-    read: [FileId; 2],
-    inputs: &mut Inputs<'a, R::File>,
-) -> Result<(), Refused<'a>> {
-    let paths = WholePaths::new(rt, path).map_err(|_| RunFault::Memory)?;
-    if are_named(rt, &paths, &[request.proof, request.best], read) {
-        return Err(Refused::Lower(KeptFileFault::Taken));
+/// Whether these paths are those of FILE, of the certificate, which is at `proof`, or of what is no
+/// regular file.
+fn are_named<R: Files>(rt: &R, paths: &WholePaths<'_>, proof: Option<&str>, here: FileId) -> bool {
+    if paths.are_taken(rt, &[here]) {
+        return true;
     }
-    let left = read_left(rt, &paths, path)?;
-    let is_free = left.is_empty();
-    let lower = if is_free {
-        0
-    } else {
-        judge_bound(rt.alloc(), inputs.source.read_whole(rt)?, &left)?
+    let Some(proof) = proof else {
+        return false;
     };
-    inputs.bounds = Some(LowerPaths {
-        paths,
-        lower,
-        is_free,
-    });
-    Ok(())
-}
-
-/// What an earlier run left in the file at this path.
-fn read_left<'a, R: Files + AllocGlobal>(
-    rt: &R,
-    paths: &WholePaths<'_>,
-    path: &'a str,
-) -> Result<Vec<u8>, Refused<'a>> {
-    paths
-        .read_earlier(rt)
-        .map_err(|fault| Refused::of_file(fault, path))
-}
-
-/// Whether these paths are those of a file that is read, of one that one of these names means, or
-/// of what is no regular file.
-pub(crate) fn are_named<R: Files>(
-    rt: &R,
-    paths: &WholePaths<'_>,
-    names: &[Option<&str>],
-    read: [FileId; 2],
-) -> bool {
-    let mut taken = paths.are_taken(rt, &read);
-    for name in names.iter().flatten() {
-        taken |= paths.meets(&find_place(rt, name));
-        if let Some(there) = find_path_id(rt, name) {
-            taken |= paths.are_taken(rt, &[there]);
-        }
+    if paths.meets(&find_place(rt, proof)) {
+        return true;
     }
-    taken
-}
-
-/// The lower bound that an earlier run left for this text: 0 where the text is faulty, which the
-/// search tells.
-///
-/// # Errors
-///
-/// `Lower` where it proves nothing; `Memory`.
-fn judge_bound<'a>(alloc: Global, text: &[u8], left: &[u8]) -> Result<u64, Refused<'a>>
-    ensures bound { IfOk result
-        (λ lower. bound_left (lower_verdict text.now left.now) ≡ Some lower) }
-    ensures other { IfErr result (λ why. (why ≡ Refused.Fault (Fault.Run RunFault.Memory))
-        ⊎ ((why ≡ Refused.Lower KeptFileFault.Other)
-        × (bound_left (lower_verdict text.now left.now) ≡ None))) }
-{
-    match check_lower(alloc, text, left) {
-        Ok(LowerVerdict::AtLeast(lower)) => Ok(lower),
-        Ok(LowerVerdict::NoSolution) => Ok(u64::MAX),
-        Ok(LowerVerdict::No(Cause::Text, _)) => Ok(0),
-        Ok(LowerVerdict::No(..)) => Err(Refused::Lower(KeptFileFault::Other)),
-        Err(_) => Err(Refused::Fault(Fault::Run(RunFault::Memory))),
+    match find_path_id(rt, proof) {
+        Some(there) => paths.are_taken(rt, &[there]),
+        None => false,
     }
 }
 
@@ -260,11 +188,13 @@ fn take_best<'a, R: Files + AllocGlobal>(
 ) -> Result<(), Refused<'a>> {
     let [here, result] = read;
     let paths = WholePaths::new(rt, path).map_err(|_| RunFault::Memory)?;
-    let is_named = are_named(rt, &paths, &[request.proof, request.lower], [here, here]);
+    let is_named = are_named(rt, &paths, request.proof, here);
     if is_named || paths.is_part_taken(rt, &[result]) {
         return Err(Refused::Best(KeptFileFault::Taken));
     }
-    let left = read_left(rt, &paths, path)?;
+    let left = paths
+        .read_earlier(rt)
+        .map_err(|fault| Refused::of_file(fault, path))?;
     let is_free = left.is_empty();
     let cost = if is_free {
         None

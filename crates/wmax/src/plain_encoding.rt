@@ -1,12 +1,11 @@
 //! `wmax encode --profile 3 --proof`: a certificate of forms and cuts for checkers from elsewhere.
 use crate::arguments::EncodeRequest;
-use crate::faults::{Fault, end_output, open};
+use crate::faults::{Fault, end_output, is_regular, open};
 use bound::encoding::WatchedWriter;
 use lrat_plain::faults::PlainFault;
 use lrat_plain::streams::{Claim, Sizes, measure, write_plain};
 use report::fault::RunFault;
 use report::printing::deliver;
-use std::fs;
 use std::io::{self, Read, Write};
 use std::mem::ManuallyDrop;
 use std::rt::Files;
@@ -51,14 +50,6 @@ pub(crate) fn encode_plain<'a, R: Files + AllocGlobal + Print, E: Write, T: Read
     match written {
         Ok(()) => Ok(0),
         Err(fault) => tell_plain(messages, fault, path),
-    }
-}
-
-/// Whether the file can be read more than once.
-fn is_regular<R: Files>(rt: &R, path: &str) -> bool {
-    match fs::metadata(rt, path) {
-        Ok(data) => data.is_file(),
-        Err(_) => false,
     }
 }
 

@@ -66,7 +66,7 @@ fn usual_profile<R: Env + AllocGlobal>(rt: &R) -> Result<Certifying, NoProfile> 
     }
 }
 
-/// The profile of this name, a digit from 1 to 5.
+/// The profile of this name, a digit from 1 to 3.
 fn pick_certifying(name: &str) -> Option<Certifying> {
     if name == CUTS {
         return Some(Certifying::Cuts);
@@ -86,7 +86,7 @@ pub fn refuse_profile<'a, E: Write>(
         NoProfile::Named => {
             let _ = writeln!(
                 messages.below(),
-                "error: {VARIABLE} is not a profile from 1 to 5"
+                "error: {VARIABLE} is not a profile from 1 to 3"
             );
             Ok(2)
         }

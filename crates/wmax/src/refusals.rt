@@ -7,7 +7,7 @@ use crate::checking::show;
 use crate::faults::Fault;
 use lrat_check::verdicts::Verdict;
 use report::fault::RunFault;
-use report::options::{BEST_OPTION, LOWER_OPTION};
+use report::options::BEST_OPTION;
 use std::io::Write;
 use wmax_onlooker::standard_error::Messages;
 
@@ -20,8 +20,6 @@ pub(crate) enum Refused<'a> {
     Wrong(Verdict),
     /// The file of `--best` is of no use.
     Best(KeptFileFault),
-    /// The file of `--lower` is of no use.
-    Lower(KeptFileFault),
 }
 
 impl From<RunFault> for Refused<'_> {
@@ -42,7 +40,7 @@ impl<'a> Refused<'a> {
     }
 }
 
-/// Why there is no run with an option whose file is kept whole.
+/// Why there is no run with the file of `--best`.
 #[derive(Clone, Copy, Drop)]
 pub(crate) enum KeptFileFault {
     /// The run uses the file otherwise, or it is no regular file.
@@ -62,38 +60,26 @@ pub(crate) fn tell_refused<'a, R: Print, E: Write>(
     match refused {
         Refused::Fault(fault) => Err(fault),
         Refused::Wrong(verdict) => show(rt, &verdict),
-        Refused::Best(why) => Ok(refuse_kept(messages, BEST_OPTION, "correct result", why)),
-        Refused::Lower(why) => Ok(refuse_kept(
-            messages,
-            LOWER_OPTION,
-            "certificate of a lower bound",
-            why,
-        )),
+        Refused::Best(why) => Ok(refuse_best(messages, why)),
     }
 }
 
-/// Tells why this option, whose file has to be a `wanted`, cannot have what it names; the exit
-/// status.
-fn refuse_kept<E: Write>(
-    messages: &mut Messages<'_, E>,
-    option: &str,
-    wanted: &str,
-    why: KeptFileFault,
-) -> u8
+/// Tells why `--best` cannot have what it names; the exit status.
+fn refuse_best<E: Write>(messages: &mut Messages<'_, E>, why: KeptFileFault) -> u8
     ensures status { result ≡ kept_status why }
 {
     let out = messages.below();
     let _ = match why {
         KeptFileFault::Taken => writeln!(
             out,
-            "error: --{option} names another file of the run, or something other than a \
+            "error: --{BEST_OPTION} names another file of the run, or something other than a \
              regular file"
         ),
         KeptFileFault::Other => writeln!(
             out,
-            "error: --{option} names a file that is not a {wanted} for FILE"
+            "error: --{BEST_OPTION} names a file that is not a correct result for FILE"
         ),
-        KeptFileFault::Unwritable => writeln!(out, "error: --{option} cannot be written"),
+        KeptFileFault::Unwritable => writeln!(out, "error: --{BEST_OPTION} cannot be written"),
     };
     match why {
         KeptFileFault::Taken | KeptFileFault::Other => 2,

@@ -1,7 +1,7 @@
 //! `wmax solve`: a result and its certificate.
 use crate::arguments::SolveRequest;
 use crate::faults::{Fault, end_output, open, tell_text_fault};
-use crate::inputs::{Inputs, Source, are_named, prepare};
+use crate::inputs::{Inputs, Source, prepare};
 use crate::profiles::{Certifying, choose_profile, refuse_profile};
 use crate::refusals::{KeptFileFault, Refused, tell_refused};
 use cdcl::budget::Budget;
@@ -16,7 +16,6 @@ use std::num::saturating_f64_to_u64;
 use std::rt::{Clock, Env, Files};
 use std::time::Duration;
 use wmax_onlooker::alarm::{Alarm, Deadline};
-use wmax_onlooker::bounding::{Bounder, LowerPaths};
 use wmax_onlooker::file_id::{FileId, empty, find_file_id, open_proof};
 use wmax_onlooker::keeper::{BestPaths, Keeper};
 use wmax_onlooker::onlooker::Onlooker;
@@ -24,18 +23,14 @@ use wmax_onlooker::progress::Meter;
 use wmax_onlooker::standard_error::Messages;
 use wmax_onlooker::standard_output::standard_output;
 
-/// What is said where a lower bound is to be kept beside a certificate that proves it all along.
-const NO_LOWER: &str =
-    "error: --lower is not for profile 3: --proof is enough, and wmax lower reads it";
-
 /// What is said of a time that is none.
 const NO_TIME: &str = "error: --time-limit takes a number of seconds above 0";
 
 /// FILE is opened, then RESULT, if the search begins with one: that is judged by FILE, all of which
-/// is in memory then. Then the files of the best lower bound and of the best solution are looked
-/// at, and the search begins with what stands in that, if it is cheaper. Then the file of the
-/// certificate is opened or created, then the kept files are written, then that of the certificate
-/// is emptied, and what is left of FILE is read. Without a file the certificate is dropped.
+/// is in memory then. Then the file of the best solution is looked at, and the search begins with
+/// what stands there, if it is cheaper. Then the file of the certificate is opened or created, then
+/// that of the best solution is written, then that of the certificate is emptied, and what is left
+/// of FILE is read. Without a file the certificate is dropped.
 pub fn solve<'a, R: Files + AllocGlobal + Print + Env + Clock, E: Write>(
     rt: &R,
     messages: &mut Messages<'_, E>,
@@ -45,10 +40,6 @@ pub fn solve<'a, R: Files + AllocGlobal + Print + Env + Clock, E: Write>(
         Ok(certifying) => certifying,
         Err(why) => return refuse_profile(messages, why),
     };
-    if request.lower.is_some() && certifying.is_cuts() {
-        let _ = writeln!(messages.below(), "{NO_LOWER}");
-        return Ok(2);
-    }
     let Some(limit) = limit_of(request.seconds) else {
         let _ = writeln!(messages.below(), "{NO_TIME}");
         return Ok(2);
@@ -114,14 +105,14 @@ fn solve_into<'a, R: Files + AllocGlobal + Print + Clock, E: Write>(
 ) -> Result<u8, Fault<'a>> {
     let Some(path) = request.proof else {
         let [here, _] = read;
-        return match start_keepers(rt, request, inputs, [here, here]) {
-            Ok(keepers) => { solve_over(rt, messages, request, plan, inputs, io::sink(), keepers) }
+        return match start_keeper(rt, inputs.kept.take(), [here, here]) {
+            Ok(keeper) => { solve_over(rt, messages, request, plan, inputs, io::sink(), keeper) }
             Err(refused) => tell_refused(rt, messages, refused),
         };
     };
-    match open_outputs(rt, request, path, inputs, read) {
-        Ok(RunOutputs { proof, keepers }) => {
-            solve_over(rt, messages, request, plan, inputs, proof, keepers)
+    match open_outputs(rt, path, inputs, read) {
+        Ok(RunOutputs { proof, keeper }) => {
+            solve_over(rt, messages, request, plan, inputs, proof, keeper)
         }
         Err(refused) => tell_refused(rt, messages, refused),
     }
@@ -132,23 +123,13 @@ fn solve_into<'a, R: Files + AllocGlobal + Print + Clock, E: Write>(
 struct RunOutputs<'a, R: Files> {
     /// The certificate.
     proof: R::File,
-    /// What keeps the best solution and the best lower bound.
-    keepers: Keepers<'a, R>,
-}
-
-/// What keeps the best solution, and the best lower bound.
-#[derive(Drop)]
-struct Keepers<'a, R: Files> {
     /// What keeps the best solution.
     keeper: Keeper<'a, R>,
-    /// What keeps the best lower bound.
-    bounder: Bounder<'a, R>,
 }
 
 /// Opens the file of the certificate, which is emptied once all else that is to be written can be.
 fn open_outputs<'a, R: Files>(
     rt: &'a R,
-    request: SolveRequest<'a>,
     path: &str,
     inputs: &mut Inputs<'a, R::File>,
     read: [FileId; 2],
@@ -156,30 +137,11 @@ fn open_outputs<'a, R: Files>(
     let [here, _] = read;
     let proof = open_proof(rt, path, read)?;
     let there = find_file_id(&proof).ok_or(RunFault::ProofOutput)?;
-    let keepers = start_keepers(rt, request, inputs, [here, there])?;
+    let keeper = start_keeper(rt, inputs.kept.take(), [here, there])?;
     if !empty(&proof) {
         return Err(Refused::Fault(Fault::Run(RunFault::ProofOutput)));
     }
-    Ok(RunOutputs { proof, keepers })
-}
-
-/// What keeps the best solution and the best lower bound, each of which can be written. Once that
-/// of the best solution is there, whatever its name is, the other one cannot be the same file.
-fn start_keepers<'a, R: Files>(
-    rt: &'a R,
-    request: SolveRequest<'a>,
-    inputs: &mut Inputs<'a, R::File>,
-    others: [FileId; 2],
-) -> Result<Keepers<'a, R>, Refused<'a>> {
-    // The borrow checker covers no `map_err` with a variant.
-    let keeper = match start_keeper(rt, inputs.kept.take(), others) {
-        Ok(keeper) => keeper,
-        Err(why) => return Err(Refused::Best(why)),
-    };
-    match start_bounder(rt, inputs.bounds.take(), request.best, others) {
-        Ok(bounder) => Ok(Keepers { keeper, bounder }),
-        Err(why) => Err(Refused::Lower(why)),
-    }
+    Ok(RunOutputs { proof, keeper })
 }
 
 /// What keeps the best solution. That its files are none of the others is looked at once more, now
@@ -188,28 +150,13 @@ fn start_keeper<'a, R: Files>(
     rt: &'a R,
     kept: Option<BestPaths<'a>>,
     others: [FileId; 2],
-) -> Result<Keeper<'a, R>, KeptFileFault> {
+) -> Result<Keeper<'a, R>, Refused<'a>> {
     if let Some(kept) = &kept {
         if kept.paths.are_taken(rt, &others) {
-            return Err(KeptFileFault::Taken);
+            return Err(Refused::Best(KeptFileFault::Taken));
         }
     }
-    Keeper::start(rt, kept, others).ok_or(KeptFileFault::Unwritable)
-}
-
-/// What keeps the best lower bound, now that the best solution has a file, of this name.
-fn start_bounder<'a, R: Files>(
-    rt: &'a R,
-    bounds: Option<LowerPaths<'a>>,
-    best: Option<&str>,
-    others: [FileId; 2],
-) -> Result<Bounder<'a, R>, KeptFileFault> {
-    if let Some(bounds) = &bounds {
-        if are_named(rt, &bounds.paths, &[best], others) {
-            return Err(KeptFileFault::Taken);
-        }
-    }
-    Bounder::start(rt, bounds, others).ok_or(KeptFileFault::Unwritable)
+    Keeper::start(rt, kept, others).ok_or(Refused::Best(KeptFileFault::Unwritable))
 }
 
 /// Solves, with what is to be written at hand.
@@ -220,15 +167,13 @@ fn solve_over<'a, R: Files + AllocGlobal + Print + Clock, E: Write, P: Write + D
     plan: Plan,
     inputs: &mut Inputs<'_, R::File>,
     proof: P,
-    keepers: Keepers<'a, R>,
+    keeper: Keeper<'a, R>,
 ) -> Result<u8, Fault<'a>> {
     // `clap` lets no greater one pass; said again, since nothing is known of that here.
     let mut budget = Budget::new(request.limit.min(MOST_CONFLICTS));
     let certifying = plan.certifying;
-    let Keepers { keeper, bounder } = keepers;
     let mut onlooker = Onlooker {
         keeper,
-        bounder,
         meter: start_meter(rt, request, certifying, budget.left()),
         alarm: Alarm::new(rt, plan.deadline),
         messages,

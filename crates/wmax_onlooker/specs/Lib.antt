@@ -1,4 +1,3 @@
-pub mod Bounding
 pub mod FileId
 pub mod Files
 pub mod Keeper

@@ -7,12 +7,12 @@ use Rattle.wmax_onlooker.specs.FileId.{IsOneFolder}
 abbrev pub part_path : List ℕ → List ℕ
 part_path path = path ++ codes ".part"
 
--- of two files of one folder, which have these names and are both kept whole, one has a name that
--- the other takes
-abbrev pub SharesName : List ℕ → List ℕ → Type 0
-SharesName name other = (name ≡ other) ⊎ ((name ≡ part_path other) ⊎ (other ≡ part_path name))
+-- the file that is kept whole under the first name, or its text before that is whole, has the other
+-- name
+abbrev pub TakesName : List ℕ → List ℕ → Type 0
+TakesName name other = (name ≡ other) ⊎ (other ≡ part_path name)
 
--- the files at these two places are the same, or would be before one of them is whole
-abbrev pub SharesPlace : FilePlace → FilePlace → Type 0
-SharesPlace here there =
-    IsOneFolder here.folder there.folder × SharesName here.name.now there.name.now
+-- and it has the other place
+abbrev pub TakesPlace : FilePlace → FilePlace → Type 0
+TakesPlace here there =
+    IsOneFolder here.folder there.folder × TakesName here.name.now there.name.now

@@ -1,10 +1,9 @@
-//! What is kept in files and shown on standard error while a search runs: the best solution, the
-//! best lower bound, and how far the run is. The search ends where its time is over.
+//! What is kept in a file and shown on standard error while a search runs: the best solution, and
+//! how far the run is. The search ends where its time is over.
 #![tactic(auto)]
 
 pub mod alarm;
 pub mod beginning;
-pub mod bounding;
 pub mod file_id;
 pub mod files;
 pub mod keeper;

@@ -1,28 +1,24 @@
-//! What observes a run, for `--best`, `--lower`, `--progress` and `--time-limit`.
+//! What observes a run, for `--best`, `--progress` and `--time-limit`.
 ghost use Rattle.std.specs.Prelude.{None};
 
 use crate::alarm::Alarm;
-use crate::bounding::Bounder;
 use crate::keeper::Keeper;
 use crate::progress::Meter;
 use crate::standard_error::Messages;
 use cdcl::watch::SearchReport;
 use cnf::types::Instance;
 use improve::watch::Watch;
-use improve_trials::found::ByCores;
 use report::best::RunWatch;
 use report::finding::Finding;
 use std::io::Write;
 use std::rt::{Clock, Files};
 
-/// Keeps the best solution and the best lower bound, tells how far the run is, and ends it in time:
-/// all of it, some or nothing.
+/// Keeps the best solution, tells how far the run is, and ends it in time: all of it, some or
+/// nothing.
 #[derive(Drop)]
 pub struct Onlooker<'a, 'm, 'b, R: Files + Clock, E: Write> {
     /// What keeps the best solution.
     pub keeper: Keeper<'a, R>,
-    /// What keeps the best lower bound.
-    pub bounder: Bounder<'a, R>,
     /// What tells how far the run is, if it is to be told.
     pub meter: Option<Meter<'a, R>>,
     /// What ends the search where its time is over.
@@ -49,15 +45,6 @@ impl<'a, 'm, 'b, R: Files + Clock + AllocGlobal, E: Write> cdcl::watch::SearchWa
     }
 }
 
-impl<'a, 'm, 'b, R: Files + Clock + AllocGlobal, E: Write> improve_cores::watch::CoreWatch
-    for Onlooker<'a, 'm, 'b, R, E> {
-    fn raised(&mut self, lower: u64) {
-        if let Some(meter) = &mut self.meter {
-            meter.raised(lower);
-        }
-    }
-}
-
 impl<'a, 'm, 'b, R: Files + Clock + AllocGlobal, E: Write> Watch for Onlooker<'a, 'm, 'b, R, E> {
     fn better(&mut self, instance: &Instance, cost: u64, bits: &[bool]) {
         self.keeper.better(instance, cost, bits, self.messages);
@@ -67,12 +54,10 @@ impl<'a, 'm, 'b, R: Files + Clock + AllocGlobal, E: Write> Watch for Onlooker<'a
         self.messages.give_way();
     }
 
-    fn wants_bounds(&self) -> bool {
-        self.bounder.has_file()
-    }
-
-    fn bounded(&mut self, instance: &Instance, proof: &ByCores) {
-        self.bounder.bounded(instance, proof, self.messages);
+    fn raised(&mut self, lower: u64) {
+        if let Some(meter) = &mut self.meter {
+            meter.raised(lower);
+        }
     }
 }
 

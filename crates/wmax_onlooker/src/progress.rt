@@ -41,7 +41,7 @@ pub struct Meter<'a, R: Clock> {
     cost: Option<u64>,
     /// Whether it is proved that there is none.
     is_refuted: bool,
-    /// What the cores found so far are worth together, below 2^62; none where none was found.
+    /// No solution costs less than this, as the certificate says, up to 2^62; none before it did.
     lower: Option<u64>,
     /// Whether a certificate goes to a file.
     has_proof: bool,
@@ -107,7 +107,7 @@ impl<'a, R: Clock + Files + AllocGlobal> Meter<'a, R> {
         }
     }
 
-    /// Takes note of what the cores found so far are worth together.
+    /// Takes note of what no solution costs less than.
     pub(crate) fn raised(&mut self, lower: u64) {
         self.lower = Some(lower);
     }

@@ -3,7 +3,7 @@
 ghost use Rattle.std.specs.Prelude.{◌≡◌, ◌↔◌, IfOk, IfErr, IsTrue, string_bytes};
 ghost use Rattle.wmax_onlooker.specs.FileId.{file_name_of};
 ghost use Rattle.wmax_onlooker.specs.Files.{IsFileFault};
-ghost use Rattle.wmax_onlooker.specs.WholeFile.{SharesName, SharesPlace, part_path};
+ghost use Rattle.wmax_onlooker.specs.WholeFile.{TakesName, TakesPlace, part_path};
 
 use crate::file_id::{FileId, FilePlace, find_place, is_taken, open_empty};
 use crate::files::{UNREADABLE, read_file};
@@ -51,11 +51,11 @@ impl<'a> WholePaths<'a> {
         })
     }
 
-    /// Whether a file at this place, which may be kept whole too, would share one of the two.
+    /// Whether a file at this place would be one of the two.
     pub fn meets(&self, other: &FilePlace<'_>) -> bool
-        ensures shares { IsTrue result ↔ SharesPlace self.now.place other.now }
+        ensures takes { IsTrue result ↔ TakesPlace self.now.place other.now }
     {
-        self.place.is_beside(other) && shares_name(self.place.name, other.name)
+        self.place.is_beside(other) && takes_name(self.place.name, other.name)
     }
 
     /// Whether the text before it is whole would go into one of the others.
@@ -85,12 +85,12 @@ impl<'a> WholePaths<'a> {
     }
 }
 
-/// Whether of two files of one folder, which have these names and may both be kept whole, one has a
-/// name that the other takes.
-fn shares_name(name: &str, other: &str) -> bool
-    ensures { IsTrue result ↔ SharesName name.now other.now }
+/// Whether the file that is kept whole under the first name, or its text before that is whole, has
+/// the other name.
+fn takes_name(name: &str, other: &str) -> bool
+    ensures { IsTrue result ↔ TakesName name.now other.now }
 {
-    name == other || is_part(name, other) || is_part(other, name)
+    name == other || is_part(other, name)
 }
 
 /// Whether the first name is the second with the ending.
@@ -141,11 +141,6 @@ impl<'a, R: Files> WholeFile<'a, R> {
     /// Takes a first text away again; whether it could.
     pub(crate) fn try_drop(&self) -> bool {
         fs::remove_file(self.rt, &self.paths.part).is_ok()
-    }
-
-    /// Takes a first text away that was put in its place; whether it could.
-    pub(crate) fn try_remove(&self) -> bool {
-        fs::remove_file(self.rt, self.paths.path).is_ok()
     }
 
     /// Where the next text goes, empty; none where it cannot be written.

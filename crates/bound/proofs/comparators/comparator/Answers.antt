@@ -7,9 +7,9 @@ use Rattle.bound.proofs.comparators.comparator.Goals as goal
 
 pub copy_clauses-requires : goal.copy_clauses-requires
 copy_clauses-requires c =
-    let same : c.keep_outputs_below.new.clauses
+    let same : c.keep_comparator.new.clauses
     ≡ comparator_of c.args.network.now.outputs c.args.k =
-    c.in_ok-keep_outputs_below.ensures
+    c.in_ok-keep_comparator.ensures
     ∙ (λ i. c.new-clauses.ensures i ++ comparator_of (c.outputs.ensures i) c.args.k) in
     rw same (comparator_once c.args.network.now.outputs c.args.k)
 

@@ -1,35 +1,34 @@
 -- The laws of the formula, for each bound.
-use Rattle.std.proofs.Common.{sym, subst}
+use Rattle.std.proofs.Common.{◌≡◌, List, All, sym, subst}
+use Rattle.adder.specs.declared.cells.Cell.{Cell}
 use Rattle.cnf.specs.Formula.{IsFormula}
-use Rattle.bound.specs.Adding.{IsFit}
+use Rattle.adder.specs.Network.{adders_as}
+use Rattle.bound.specs.Adding.{HasVariables}
 use Rattle.bound.proofs.Cheaper.{says_cheaper}
 use Rattle.bound.proofs.Few.{clauses_few, without_bound}
-use Rattle.bound.proofs.Fits.{addition_fits, addition_room, bound_is_formula}
+use Rattle.bound.proofs.Fits.{bound_is_formula, cells_variables}
 use Rattle.bound.proofs.Parts.{formula_parts}
 use Rattle.bound.proofs.formulas.formula_as.Goals as goal
 
-pub keep_addition-requires : goal.keep_addition-requires
-keep_addition-requires c =
-    subst IsFit (sym c.in_ok-addition.ensures)
-    (addition_fits c.args.profile c.args.instance.now c.limits.ensures)
-
-pub last_variable-requires : goal.last_variable-requires
-last_variable-requires c =
-    addition_room c.args.profile c.args.instance.now c.in_ok-last.last c.in_ok-addition.addition
-    c.limits.ensures c.in_ok-last.ensures.last c.in_ok-addition.ensures
+pub keep_cells-requires : goal.keep_cells-requires
+keep_cells-requires c =
+    let cells : c.cells.result.now ≡ (adders_as c.args.profile c.args.instance.now).cells =
+    cc (c.cells.ensures, c.in_ok-network.ensures.cells) in
+    let P : List Cell → Type 0 = λ x. All HasVariables x in
+    subst P (sym cells) (cells_variables c.args.profile c.args.instance.now c.limits.ensures)
 
 pub new-requires : goal.new-requires
 new-requires c =
     let p = c.args.instance.now in
     let same =
-    formula_parts c.args.profile p c.args.k c.in_ok-last.last c.last_variable.result
-    c.new-clauses.result
-    c.keep_given.new.clauses c.keep_addition.new.clauses c.keep_comparator.new.clauses
-    c.in_ok-addition.addition c.new-clauses.ensures c.in_ok-last.ensures.clauses
-    c.in_ok-keep_addition.ensures c.in_ok-keep_comparator.ensures c.in_ok-last.ensures.last
-    c.in_ok-addition.ensures c.last_variable.ensures in
-    subst IsFormula (sym same)
-    (bound_is_formula c.args.profile p c.args.k c.limits.ensures)
+    formula_parts c.args.profile p c.args.k c.in_ok-last.last c.new-clauses.result
+    c.keep_given.new.clauses c.keep_cells.new.clauses c.keep_comparator.new.clauses
+    c.cells-2.result.now c.outputs.result.now c.new-clauses.ensures c.in_ok-last.ensures.clauses
+    (rw (c.cells-2.ensures, ← c.cells.ensures) c.in_ok-keep_cells.ensures)
+    c.in_ok-keep_comparator.ensures c.in_ok-last.ensures.last
+    (cc (c.cells-2.ensures, c.in_ok-network.ensures.cells))
+    (cc (c.outputs.ensures, c.in_ok-network.ensures.cells)) in
+    subst IsFormula (sym same) (bound_is_formula c.args.profile p c.args.k c.limits.ensures)
 
 pub returns-clause-cheaper : goal.returns-clause-cheaper
 returns-clause-cheaper c =

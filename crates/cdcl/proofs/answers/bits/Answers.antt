@@ -7,7 +7,7 @@ use Rattle.cdcl_search.specs.Running.{tables_of}
 use Rattle.cdcl.proofs.Satisfied.{answer_sat}
 use Rattle.clauses.specs.Slots.{clause_at}
 use Rattle.propagate.proofs.Laws.{no_tautology}
-use Rattle.cdcl.specs.Assuming.{IsTrueUnder}
+use Rattle.cdcl.specs.Outcomes.{IsTrueUnder}
 use Rattle.cdcl.proofs.Frozen.{frozen_true}
 use Rattle.cdcl.proofs.answers.bits.Goals as goal
 

@@ -6,7 +6,7 @@ use Rattle.propagate.specs.Trail.{depth_of, kept_to, literals_of}
 use Rattle.propagate.proofs.Laws.{kept_low}
 use Rattle.analyze.specs.Analyzer.{IsFixpoint}
 use Rattle.cdcl_search.proofs.Laws.{writes_none}
-use Rattle.cdcl.proofs.Satisfied.{answer_open, plain_open}
+use Rattle.cdcl.proofs.Satisfied.{answer_open}
 use Rattle.cdcl.proofs.Rounds.{open_log, opens_not}
 use Rattle.cdcl.proofs.searching.refutes_at_once.Goals as goal
 
@@ -60,8 +60,6 @@ returns-in-None g c =
         unwritten = refl;
         live = λ h. answer_open s.engine (s.store).slots (s.names).items p.given ls
             runs.running.recorded.names fixpoint h;
-        plain = λ h. plain_open (s.store).slots (literals_of (s.engine).trail) p.first p.given
-            runs.running.recorded.plain fixpoint h;
       };
       writes = writes_none p.given ls;
       err = tt;

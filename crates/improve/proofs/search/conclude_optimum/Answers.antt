@@ -5,6 +5,5 @@ use Rattle.improve.proofs.search.conclude_optimum.Goals as goal
 pub returns-in-Ok-clause-found : goal.returns-in-Ok-clause-found
 returns-in-Ok-clause-found c =
     right_optimum c.args.instance.now c.args.bounds.now c.args.best.cost c.args.best.bits
-    c.in-Ok.log c.count_clauses-clauses.result c.new.result c.new.ensures.items c.requires.over
-    c.in-Ok.ensures c.requires.refuted
+    c.in-Ok.log c.count_clauses-clauses.result c.requires.over c.in-Ok.ensures c.requires.refuted
     c.requires.solution c.requires.last c.requires.falling c.count_clauses-clauses.ensures

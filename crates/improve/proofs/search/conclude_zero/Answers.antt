@@ -5,5 +5,4 @@ use Rattle.improve.proofs.search.conclude_zero.Goals as goal
 pub returns-in-Ok-clause-found : goal.returns-in-Ok-clause-found
 returns-in-Ok-clause-found c =
     right_zero c.args.profile c.args.instance.now c.args.bits c.in-Ok.refutation.log
-    c.in-Ok.refutation.clauses c.new.result c.new.ensures.items c.requires.solution
-    c.in-Ok.ensures.accepted c.in-Ok.ensures.counted
+    c.in-Ok.refutation.clauses c.requires.solution c.in-Ok.ensures.accepted c.in-Ok.ensures.counted

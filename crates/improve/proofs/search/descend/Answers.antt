@@ -7,7 +7,7 @@ use Rattle.improve.specs.declared.found.ImproveFault.TheVariants.{Memory, Progre
 use Rattle.improve.proofs.CheaperBits.{cost_of_solution}
 use Rattle.cnf.proofs.Laws.{on_ok_at, on_err_at}
 use Rattle.improve.proofs.Lowering.{cost_small}
-use Rattle.improve.proofs.Standings.{goes_cheaper, goes_further, goes_nowhere, goes_same}
+use Rattle.improve.proofs.Standings.{goes_cheaper, goes_first, goes_further}
 use Rattle.improve.proofs.Standings.{fails_memory, fails_progress}
 use Rattle.improve.proofs.Standings.{fails_after, descends_last}
 use Rattle.improve.proofs.Shown.{shown_none, shown_then, shown_more}
@@ -19,10 +19,8 @@ loop-bounds-init g c = record {
   over = c.requires.over;
   profile = refl;
   goes_on =
-      goes_same c.args.instance.now _ _ _ _ _ _ 0 0 0 _
-      (goes_nowhere c.args.instance.now (g.T.Progress.state c.args.progress.now) c.args.budget.now
-      (record { best = c.args.best.now; earlier = c.args.bounds.now.costs }) 0 c.requires.standing)
-      (omega (arith, c.requires.learned));
+      goes_first c.args.instance.now (g.T.Progress.state c.args.progress.now) c.args.budget.now
+      c.args.best.now c.args.bounds.now c.requires.solution c.requires.none;
   follows = λ first h. h;
   shown =
       shown_none c.args.instance.now (g.T.Progress.state c.args.progress.now)
@@ -46,7 +44,7 @@ returns-then-is_err-clause-fails g c =
     fails_after _ _ _ _ _ _ _ _ _ _ _ i.goes_on Memory
     (fails_memory c.args.instance.now (g.T.Progress.state c.loop-bounds.progress)
     (g.T.Progress.state c.loop-bounds.progress) c.loop-bounds.budget c.loop-bounds.budget
-    (record { best = c.loop-bounds.best; earlier = c.loop-bounds.bounds.costs })
+    (record { best = c.loop-bounds.best; earlier = c.loop-bounds.bounds.costs.items })
     i.goes_on.standing refl refl)
 
 pub returns-in-Err-clause-fails : goal.returns-in-Err-clause-fails
@@ -55,7 +53,7 @@ returns-in-Err-clause-fails g c =
     fails_after _ _ _ _ _ _ _ _ _ _ _ i.goes_on Memory
     (fails_memory c.args.instance.now (g.T.Progress.state c.loop-bounds.progress)
     (g.T.Progress.state c.loop-bounds.progress) c.loop-bounds.budget c.solve.new.budget
-    (record { best = c.loop-bounds.best; earlier = c.loop-bounds.bounds.costs })
+    (record { best = c.loop-bounds.best; earlier = c.loop-bounds.bounds.costs.items })
     i.goes_on.standing c.solve.ensures.limit refl)
 
 pub solve-requires-clause-over : goal.solve-requires-clause-over
@@ -94,7 +92,7 @@ returns-then-is_err-2-clause-fails g c =
     (fails_progress p (g.T.Progress.state c.loop-bounds.progress)
     (g.T.Progress.state c.tell.new.progress)
     c.loop-bounds.budget c.solve.new.budget
-    (record { best = c.loop-bounds.best; earlier = c.loop-bounds.bounds.costs })
+    (record { best = c.loop-bounds.best; earlier = c.loop-bounds.bounds.costs.items })
     i.goes_on.standing c.solve.ensures.limit cost
     c.in-Ok-Cheaper.solution.bits.items next.solution (next.below costs best.cost more) err)
 
@@ -126,8 +124,8 @@ loop-bounds-preserved g c =
           (learned_count c.loop-bounds.bounds.solver.sink)
           (learned_count c.solve.new.self.solver.sink) i.goes_on
           (goes_cheaper p _ _ _ _
-          (record { best = c.loop-bounds.best; earlier = c.loop-bounds.bounds.costs })
-          (record { best = c.in-Ok-Cheaper.solution; earlier = c.solve.new.self.costs })
+          (record { best = c.loop-bounds.best; earlier = c.loop-bounds.bounds.costs.items })
+          (record { best = c.in-Ok-Cheaper.solution; earlier = c.solve.new.self.costs.items })
           i.goes_on.standing more (next.below costs best.cost more) next.solution ok next.answers
           c.solve.ensures.limit (learned_count c.loop-bounds.bounds.solver.sink)
           (learned_count c.solve.new.self.solver.sink)
@@ -178,7 +176,7 @@ returns-in-Ok-Refuted-clause-profile g c =
 pub returns-in-Ok-Refuted-clause-descends : goal.returns-in-Ok-Refuted-clause-descends
 returns-in-Ok-Refuted-clause-descends g c =
     let next = rw c.in-Ok-Refuted.field-0-is at c.in-Ok-Refuted.ensures.next in
-    descends_last c.args.instance.now _ _ _ _ _ _ _ c.loop-bounds.bounds.costs
+    descends_last c.args.instance.now _ _ _ _ _ _ _ c.loop-bounds.bounds.costs.items
     (learned_count c.loop-bounds.bounds.solver.sink) c.add.new.self c.solve.new.self
     c.loop-bounds.invariant.goes_on
     (on_ok_at c.add.result c.if-is_err.ensures.value c.add.ensures.costs)
@@ -194,7 +192,7 @@ returns-in-Ok-Spent-clause-profile g c =
 pub returns-in-Ok-Spent-clause-descends : goal.returns-in-Ok-Spent-clause-descends
 returns-in-Ok-Spent-clause-descends g c =
     let next = rw c.in-Ok-Spent.field-0-is at c.in-Ok-Spent.ensures.next in
-    descends_last c.args.instance.now _ _ _ _ _ _ _ c.loop-bounds.bounds.costs
+    descends_last c.args.instance.now _ _ _ _ _ _ _ c.loop-bounds.bounds.costs.items
     (learned_count c.loop-bounds.bounds.solver.sink) c.add.new.self c.solve.new.self
     c.loop-bounds.invariant.goes_on
     (on_ok_at c.add.result c.if-is_err.ensures.value c.add.ensures.costs)

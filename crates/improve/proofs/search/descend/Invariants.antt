@@ -3,7 +3,7 @@ use Rattle.std.proofs.Common.{◌≡◌}
 use Rattle.lrat_log.specs.Steps.{learned_count}
 use Rattle.cdcl_order.specs.Budgets.{WaivesAs}
 use Rattle.improve.specs.Bounds.{IsOver}
-use Rattle.improve.specs.Standing.{GoesOn}
+use Rattle.improve.specs.Standing.{starting_with, GoesOn}
 use Rattle.improve.specs.Watch.{AreShown}
 use Rattle.improve.proofs.search.descend.Given as goal
 
@@ -12,8 +12,8 @@ invariant-loop-bounds g l = record {
   over : IsOver l.instance l.bounds;
   profile : (l.bounds).profile ≡ (l.fn.bounds).profile;
   goes_on : GoesOn l.instance (g.T.Progress.state l.fn.progress) (g.T.Progress.state l.progress)
-      l.fn.budget l.budget (record { best = l.fn.best; earlier = (l.fn.bounds).costs })
-      (record { best = l.best; earlier = (l.bounds).costs })
+      l.fn.budget l.budget (starting_with l.fn.best)
+      (record { best = l.best; earlier = (l.bounds).costs.items })
       0 (learned_count ((l.bounds).solver).sink);
   follows : (first : g.row.T.Denot) → g.T.Progress.follows first l.fn.progress
       → g.T.Progress.follows first l.progress;

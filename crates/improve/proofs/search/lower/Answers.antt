@@ -1,11 +1,9 @@
 -- The first cost is told; where it is 0 there is no bound.
-use Rattle.std.proofs.Common.{◌≡◌, ◌+◌, [], ◌∷◌, ◌++◌, sym, ◌∙◌, ap, subst, arith, append-nil}
-use Rattle.std.proofs.Common.{length}
+use Rattle.std.proofs.Common.{◌≡◌, ◌+◌, [], ◌∷◌, sym, ◌∙◌, ap, subst, arith, append-nil}
 use Rattle.std.proofs.lemmas.List.Elements.{All-nil, All-push}
 use Rattle.cdcl_order.specs.Budgets.{left_of}
-use Rattle.std.specs.Prelude.{All, IfOk}
-use Rattle.improve.specs.Improving.{AreFalling, IsCostOfSome, IsSolution, IsRightFound, work_count}
-use Rattle.improve.proofs.HardEnds.{only_hard_count, only_hard_early}
+use Rattle.std.specs.Prelude.{IfOk}
+use Rattle.improve.specs.Improving.{IsCostOfSome, IsSolution, IsRightFound, work_count}
 use Rattle.improve.proofs.CheaperBits.{cost_of_solution}
 use Rattle.improve.proofs.SearchEnds.{progress_end, found_end}
 use Rattle.cnf.proofs.Laws.{on_ok_at, on_err_at}
@@ -51,52 +49,24 @@ returns-then-first-eq0-clause-improves g c = λ before paid.
     (λ w x. absurd x) r.ensures.work)
     (on_work_weaker r.result (λ w. ⊥) (λ w. left_of left ≡ 0) (λ w x. absurd x) r.ensures.work)
 
-pub go_on-requires-clause-failures : goal.go_on-requires-clause-failures
-go_on-requires-clause-failures g c =
+pub lower_by_bounds-requires-clause-failures : goal.lower_by_bounds-requires-clause-failures
+lower_by_bounds-requires-clause-failures g c =
     let ok = on_ok_at c.tell.result c.if-is_err.ensures.value c.tell.ensures.ok in
     omega (arith, c.requires.failures, ap (λ t. t.failures) ok)
 
-pub go_on-requires-clause-standing : goal.go_on-requires-clause-standing
-go_on-requires-clause-standing g c =
-    let p = c.args.instance.now in
-    let none = c.new.ensures.items in
-    record {
-      solution = c.requires.solution;
-      falling = subst (λ cs. AreFalling (cs ++ c.args.first.cost ∷ [])) (sym none) tt;
-      honest = subst (All (IsCostOfSome p)) (sym none) (All-nil (IsCostOfSome p));
-    }
-
-pub go_on-requires-clause-work : goal.go_on-requires-clause-work
-go_on-requires-clause-work g c =
-    only_hard_early c.args.instance.now c.args.hard c.begin_work-work.result
-    c.begin_work-work.ensures c.requires.hard
-
-pub go_on-requires-clause-none : goal.go_on-requires-clause-none
-go_on-requires-clause-none g c =
-    (c.begin_work-work.ensures.no_search, c.begin_work-work.ensures.none_tried)
-
 pub returns-clause-follows : goal.returns-clause-follows
 returns-clause-follows g c =
-    λ first h. c.go_on.ensures.follows first (c.tell.ensures.follows first h)
+    λ first h. c.lower_by_bounds.ensures.follows first (c.tell.ensures.follows first h)
 
 pub returns-clause-improves : goal.returns-clause-improves
 returns-clause-improves g c = λ before paid.
     let ok = on_ok_at c.tell.result c.if-is_err.ensures.value c.tell.ensures.ok in
-    let none = c.new.ensures.items in
-    let lines =
-    only_hard_count c.args.hard c.begin_work-work.result c.begin_work-work.ensures in
-    let one : c.new.result.items ++ c.args.first.cost ∷ [] ≡ c.args.first.cost ∷ [] =
-    ap (λ cs. cs ++ c.args.first.cost ∷ []) none in
-    c.go_on.ensures.ends (g.T.Progress.state c.args.progress.now) before
-    (record {
-      told = ap (λ t. t.told) ok
-          ∙ ap (λ cs. (g.T.Progress.state c.args.progress.now).told ++ cs) (sym one);
-      failures = ap (λ t. t.failures) ok;
-    })
+    c.lower_by_bounds.ensures.ends (g.T.Progress.state c.args.progress.now) before
+    (record { told = ap (λ t. t.told) ok; failures = ap (λ t. t.failures) ok })
     (record {
       limit = sym paid.limit;
-      answers = omega (arith, paid.answers, ap length one);
-      learned = omega (arith, paid.learned, lines);
+      answers = omega (arith, paid.answers);
+      learned = omega (arith, paid.learned);
     })
 
 pub returns-then-is_err-clause-shown : goal.returns-then-is_err-clause-shown
@@ -120,4 +90,4 @@ returns-clause-shown g c =
     (shown_told c.args.instance.now (g.T.Progress.state c.args.progress.now) _
     (g.W.SearchWatch.seen c.args.watch.now) _ c.args.first.cost c.args.first.bits.items
     c.requires.solution c.tell.ensures.shown ok) (ap (λ t. t.failures) ok)
-    c.go_on.ensures.shown
+    c.lower_by_bounds.ensures.shown

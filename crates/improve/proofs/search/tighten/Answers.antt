@@ -3,6 +3,7 @@ use Rattle.std.proofs.Common.{◌≡◌, ◌+◌, sym, subst}
 use Rattle.lrat_log.specs.Steps.{learned_count}
 use Rattle.cdcl_order.specs.Budgets.{left_of}
 use Rattle.improve.specs.Improving.{AreFalling, work_count}
+use Rattle.improve.specs.Standing.{starting_with}
 use Rattle.improve.proofs.Lowering.{on_work_weaker}
 use Rattle.improve.proofs.Standings.{ends_descended, ends_failing}
 use Rattle.improve.proofs.search.tighten.Goals as goal
@@ -13,7 +14,7 @@ conclude_optimum-requires-clause-solution g c =
 
 pub conclude_optimum-requires-clause-last : goal.conclude_optimum-requires-clause-last
 conclude_optimum-requires-clause-last g c =
-    let d = c.in-Ok-Refuted.ensures.descends in (d.earlier.items, d.last)
+    let d = c.in-Ok-Refuted.ensures.descends in (d.earlier, d.last)
 
 pub conclude_optimum-requires-clause-falling : goal.conclude_optimum-requires-clause-falling
 conclude_optimum-requires-clause-falling g c =
@@ -25,9 +26,9 @@ returns-in-Ok-Refuted-clause-ends g c =
     let r = c.conclude_optimum in
     let learned = learned_count c.descend.new.bounds.solver.sink in
     ends_descended c.args.bounds.now.profile c.descend.new.bounds.profile c.args.instance.now
-    r.result _ _ _ _ _ _ _ (work_count c.args.work) c.in-Ok-Refuted.ensures.descends
+    r.result _ _ _ _ _ _ _ (learned_count c.args.hard) c.in-Ok-Refuted.ensures.descends
     r.ensures.fault c.in-Ok-Refuted.ensures.profile r.ensures.found
-    (on_work_weaker r.result (λ w. ⊥) (λ w. work_count w ≡ work_count c.args.work + learned)
+    (on_work_weaker r.result (λ w. ⊥) (λ w. work_count w ≡ learned_count c.args.hard + learned)
     (λ w x. absurd x) r.ensures.work)
     (on_work_weaker r.result (λ w. ⊥) (λ w. left_of c.descend.new.budget ≡ 0) (λ w x. absurd x)
     r.ensures.work)
@@ -38,7 +39,7 @@ conclude_spent-requires-clause-solution g c =
 
 pub conclude_spent-requires-clause-last : goal.conclude_spent-requires-clause-last
 conclude_spent-requires-clause-last g c =
-    let d = c.in-Ok-Spent.ensures.descends in (d.earlier.items, d.last)
+    let d = c.in-Ok-Spent.ensures.descends in (d.earlier, d.last)
 
 pub conclude_spent-requires-clause-falling : goal.conclude_spent-requires-clause-falling
 conclude_spent-requires-clause-falling g c =
@@ -51,9 +52,9 @@ returns-in-Ok-Spent-clause-ends g c =
     let learned = learned_count c.descend.new.bounds.solver.sink in
     let end = rw c.in-Ok-Spent.field-0-is at c.in-Ok-Spent.ensures.end in
     ends_descended c.args.bounds.now.profile c.descend.new.bounds.profile c.args.instance.now
-    r.result _ _ _ _ _ _ _ (work_count c.args.work) c.in-Ok-Spent.ensures.descends
+    r.result _ _ _ _ _ _ _ (learned_count c.args.hard) c.in-Ok-Spent.ensures.descends
     r.ensures.fault c.in-Ok-Spent.ensures.profile r.ensures.found r.ensures.work
-    (on_work_weaker r.result (λ w. work_count w ≡ work_count c.args.work + learned)
+    (on_work_weaker r.result (λ w. work_count w ≡ learned_count c.args.hard + learned)
     (λ w. left_of c.descend.new.budget ≡ 0) (λ w x. end.none_left) r.ensures.work)
 
 pub returns-in-Err-clause-ends : goal.returns-in-Err-clause-ends
@@ -61,7 +62,7 @@ returns-in-Err-clause-ends g c =
     ends_failing c.args.bounds.now.profile c.args.instance.now c.in-Err.fault
     (g.T.Progress.state c.args.progress.now) (g.T.Progress.state c.descend.new.progress)
     c.args.budget.now c.descend.new.budget
-    (record { best = c.args.first; earlier = c.args.bounds.now.costs }) (work_count c.args.work)
+    (starting_with c.args.first) (learned_count c.args.hard)
     c.in-Err.ensures.fails
 
 pub conclude_optimum-requires-clause-over : goal.conclude_optimum-requires-clause-over
@@ -82,5 +83,5 @@ pub conclude_spent-requires-clause-above : goal.conclude_spent-requires-clause-a
 conclude_spent-requires-clause-above g c =
     let end = rw c.in-Ok-Spent.field-0-is at c.in-Ok-Spent.ensures.end in end.above_zero
 
-pub conclude_spent-requires-clause-work : goal.conclude_spent-requires-clause-work
-conclude_spent-requires-clause-work g c = c.requires.work
+pub conclude_spent-requires-clause-hard : goal.conclude_spent-requires-clause-hard
+conclude_spent-requires-clause-hard g c = c.requires.hard

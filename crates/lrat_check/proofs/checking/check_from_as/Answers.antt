@@ -3,10 +3,9 @@ use Rattle.std.proofs.lemmas.Result.{IfOk-weaker}
 use Rattle.wcnf.proofs.Laws.{reading_is_right}
 use Rattle.lrat_check.specs.Verdict.{verdict_as}
 use Rattle.lrat_check.proofs.Checked.{yes_by}
-use Rattle.lrat_check.proofs.LeftLaws.{headed_gives, headed_shows}
 use Rattle.lrat_check.proofs.LeftLaws.{nothing_gives, proof_gives, proof_shows, if_some_all}
 use Rattle.lrat_check.proofs.LeftLaws.{if_some_more}
-use Rattle.lrat_check.specs.Verdict.{headed_verdict, proof_verdict}
+use Rattle.lrat_check.specs.Verdict.{proof_verdict}
 use Rattle.lrat_check.proofs.Stops.{stops_at_once, stops_same}
 use Rattle.lrat_check.proofs.checking.check_from_as.Goals as goal
 
@@ -51,31 +50,6 @@ returns-in-Proof-clause-sound g c =
     (λ v h y. proof_shows c.in_ok-left.left c.in-Proof.formula _ c.in-Proof.is
     c.in_ok-left.ensures.sound (h y)) c.check_stream.ensures.sound
 
-pub returns-in-Headed-clause-verdict : goal.returns-in-Headed-clause-verdict
-returns-in-Headed-clause-verdict g c =
-    IfOk-weaker c.check_headed_stream.result _ _
-    (λ v h. if_some_more (g.R.Read.remaining c.args.proof.now) _ _ (λ bytes e. e
-    ∙ headed_gives c.in_ok-left.left c.in-Headed.instance c.in-Headed.cost
-    (verdict_as c.args.profile c.args.text.now c.args.answer.now) c.in-Headed.is
-    c.in_ok-left.ensures.verdict bytes) h)
-    c.check_headed_stream.ensures.verdict
-
-pub returns-in-Headed-clause-yes : goal.returns-in-Headed-clause-yes
-returns-in-Headed-clause-yes g c =
-    IfOk-weaker c.check_headed_stream.result _ _
-    (λ v h. if_some_more (g.R.Read.remaining c.args.proof.now) _ _
-    (λ bytes e. yes_by reading_is_right c.args.profile c.args.text.now c.args.answer.now bytes v (e
-    ∙ headed_gives c.in_ok-left.left c.in-Headed.instance c.in-Headed.cost
-    (verdict_as c.args.profile c.args.text.now c.args.answer.now) c.in-Headed.is
-    c.in_ok-left.ensures.verdict bytes)) h)
-    c.check_headed_stream.ensures.verdict
-
-pub returns-in-Headed-clause-sound : goal.returns-in-Headed-clause-sound
-returns-in-Headed-clause-sound g c =
-    IfOk-weaker c.check_headed_stream.result _ _
-    (λ v h y. headed_shows c.in_ok-left.left c.in-Headed.instance c.in-Headed.cost _ c.in-Headed.is
-    c.in_ok-left.ensures.sound (h y)) c.check_headed_stream.ensures.sound
-
 pub returns-in-Nothing-clause-stops : goal.returns-in-Nothing-clause-stops
 returns-in-Nothing-clause-stops g c =
     stops_at_once (verdict_as c.args.profile c.args.text.now c.args.answer.now)
@@ -91,14 +65,3 @@ returns-in-Proof-clause-stops g c =
     (verdict_as c.args.profile c.args.text.now c.args.answer.now) c.in-Proof.is
     c.in_ok-left.ensures.verdict) h)
     c.check_stream.ensures.stops
-
-pub returns-in-Headed-clause-stops : goal.returns-in-Headed-clause-stops
-returns-in-Headed-clause-stops g c =
-    IfOk-weaker c.check_headed_stream.result _ _
-    (λ v h. stops_same (headed_verdict c.in-Headed.instance c.in-Headed.cost.cost)
-    (verdict_as c.args.profile c.args.text.now c.args.answer.now)
-    (g.R.Read.remaining c.args.proof.now) _
-    (headed_gives c.in_ok-left.left c.in-Headed.instance c.in-Headed.cost
-    (verdict_as c.args.profile c.args.text.now c.args.answer.now) c.in-Headed.is
-    c.in_ok-left.ensures.verdict) h)
-    c.check_headed_stream.ensures.stops

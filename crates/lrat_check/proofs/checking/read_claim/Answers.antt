@@ -1,9 +1,8 @@
-use Rattle.std.proofs.Common.{ℕ, [], ◌∙◌, refl, sym}
+use Rattle.std.proofs.Common.{ℕ, [], refl}
 use Rattle.std.specs.Prelude.{Ok}
 use Rattle.lrat_machine.specs.declared.verdicts.Verdict.TheVariants.{Yes}
 use Rattle.lrat_check.specs.Verdict.{proof_verdict}
-use Rattle.lrat_check.proofs.Judging.{headed_is_true, headed_optimum, optimum_sound}
-use Rattle.lrat_check.proofs.Judging.{optimum_verdict, unsat_sound, unsat_verdict}
+use Rattle.lrat_check.proofs.Judging.{optimum_sound, optimum_verdict, unsat_sound, unsat_verdict}
 use Rattle.lrat_check.proofs.checking.read_claim.Goals as goal
 
 pub returns-in-Optimum-clause-verdict : goal.returns-in-Optimum-clause-verdict
@@ -11,8 +10,7 @@ returns-in-Optimum-clause-verdict c =
     let f = c.in_ok-formula-in-None in
     λ proof. optimum_verdict c.args.profile c.args.instance c.args.report.now proof
     c.in-Optimum.solution c.in-Optimum.is c.in-None.ensures.fault
-    (sym c.takes_cores.ensures ∙ c.if-takes_cores.false) f.formula f.ensures.clauses {E = ℕ}
-    (Ok (proof_verdict f.formula.clauses proof)) refl
+    f.formula f.ensures.clauses {E = ℕ} (Ok (proof_verdict f.formula.clauses proof)) refl
 
 pub returns-in-Unsat-clause-verdict : goal.returns-in-Unsat-clause-verdict
 returns-in-Unsat-clause-verdict c =
@@ -33,13 +31,3 @@ returns-in-Unsat-clause-sound c =
     let f = c.in_ok-formula-in-Unsat in
     λ none. unsat_sound c.args.profile c.args.instance c.args.report.now [] c.in-Unsat.is
     f.ensures.feasible f.formula f.ensures.clauses {E = ℕ} (Ok Yes) (λ _. none) refl
-
-pub returns-then-takes_cores-clause-verdict : goal.returns-then-takes_cores-clause-verdict
-returns-then-takes_cores-clause-verdict c = λ proof.
-    headed_optimum c.args.profile c.args.instance c.args.report.now proof c.in-Optimum.solution
-    c.in-Optimum.is c.in-None.ensures.fault (sym c.takes_cores.ensures ∙ c.if-takes_cores.true)
-
-pub returns-then-takes_cores-clause-sound : goal.returns-then-takes_cores-clause-sound
-returns-then-takes_cores-clause-sound c =
-    headed_is_true c.args.profile c.args.instance c.args.report.now [] c.in-Optimum.solution
-    c.in-Optimum.is (c.in-None.ensures.right refl)

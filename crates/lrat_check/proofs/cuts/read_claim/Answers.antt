@@ -1,12 +1,11 @@
-use Rattle.std.proofs.Common.{[], refl}
-use Rattle.adder.specs.declared.profiles.Profile.TheVariants.{One}
+use Rattle.std.proofs.Common.{refl}
 use Rattle.lrat_check.proofs.CutsLaws.{none_by}
-use Rattle.lrat_check.proofs.Judging.{headed_is_true}
+use Rattle.lrat_check.proofs.Judging.{optimum_by_least}
 use Rattle.lrat_check.proofs.cuts.read_claim.Goals as goal
 
 pub returns-in-Optimum-clause-sound : goal.returns-in-Optimum-clause-sound
 returns-in-Optimum-clause-sound c =
-    headed_is_true One c.args.instance c.args.report.now [] c.in-Optimum.solution c.in-Optimum.is
+    optimum_by_least c.args.instance c.args.report.now c.in-Optimum.solution c.in-Optimum.is
     (c.in-None.ensures.right refl)
 
 pub returns-in-Unsat-clause-sound : goal.returns-in-Unsat-clause-sound

@@ -1,10 +1,8 @@
 -- No more of the reader's bytes were read than the verdict takes, and all where no line is faulty.
-use Rattle.std.proofs.Common.{rules, ◌≡◌, ℕ, [], ◌++◌, append_assoc}
-use Rattle.std.proofs.Common.{append-nil, arith, inl, inr, length-take, refl, subst, sym}
+use Rattle.std.proofs.Common.{rules, ◌≡◌, ℕ, [], arith, inl, inr, length-take, refl}
 use Rattle.std.specs.Prelude.{None}
 use Rattle.std.specs.Io.KnownBytes.{IsAtEnd}
 use Rattle.text.proofs.Laws.{read_nothing}
-use Rattle.lrat_check.specs.Pieces.{HasJudged}
 use Rattle.lrat_check.proofs.PieceLaws.{read_more}
 use Rattle.lrat_check.proofs.Stops.{piece_on}
 use Rattle.lrat_check.proofs.streams.judge_pieces.Goals as goal
@@ -13,9 +11,8 @@ pub pieces-init : goal.pieces-init
 pieces-init g c = record {
   bytes = [];
   read = search rules;
-  judged = λ formula before s. subst (HasJudged c.args.checker.now formula)
-      (sym (append-nil before)) s;
-  in_time = λ formula before s. inl refl;
+  judged = λ formula s. s;
+  in_time = λ formula s. inl refl;
 }
 
 pub returns-in-Ok-eq0-clause-judges : goal.returns-in-Ok-eq0-clause-judges
@@ -45,11 +42,10 @@ pieces-preserved g c =
       read =
           read_more (g.R.Read.remaining c.args.proof.now) (g.R.Read.remaining c.pieces.proof)
           (g.R.Read.remaining c.read.new.self) i.bytes _ i.read c.in-Ok.ensures.bytes.0;
-      judged = λ formula before s.
-          subst (HasJudged c.feed.new.self formula) (append_assoc before i.bytes _)
-          (c.in_ok-feed.ensures.judged formula (before ++ i.bytes) (i.judged formula before s));
-      in_time = λ formula before s.
-          inr (piece_on (c.pieces.checker).reading formula before i.bytes _
-          (((i.judged formula before s).holds).open_end none)
+      judged = λ formula s.
+          c.in_ok-feed.ensures.judged formula i.bytes (i.judged formula s);
+      in_time = λ formula s.
+          inr (piece_on (c.pieces.checker).reading formula i.bytes _
+          (((i.judged formula s).holds).open_end none)
           (omega (arith, length-take {A = ℕ})));
     }

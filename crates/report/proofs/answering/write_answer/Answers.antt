@@ -10,25 +10,23 @@ use Rattle.report.proofs.Answered.{end_is, ok_with, err_with, output_left, answe
 use Rattle.report.proofs.Answered.{certificate_left}
 use Rattle.report.proofs.answering.write_answer.Goals as goal
 
-pub deliver_headed-requires : goal.deliver_headed-requires
-deliver_headed-requires g c =
-    let room = subst HasProofRoom c.in-Optimum.is c.requires in
-    record { few = room.0.0; ids = room.0.1; numbers = rw c.deref.ensures.value room.1 }
-
 pub deliver_proof-requires : goal.deliver_proof-requires
 deliver_proof-requires g c =
+    let room = subst HasProofRoom c.in-Optimum.is c.requires in
+    record { few = room.0; ids = room.1 }
+
+pub deliver_proof-requires-in-Unsat : goal.deliver_proof-requires-in-Unsat
+deliver_proof-requires-in-Unsat g c =
     let room = subst HasProofRoom c.in-Unsat.is c.requires in
     record { few = room.0; ids = room.1 }
 
-pub returns-in_err-deliver_headed-in-Optimum-clause-fault
-    : goal.returns-in_err-deliver_headed-in-Optimum-clause-fault
-returns-in_err-deliver_headed-in-Optimum-clause-fault g c =
+pub returns-in_err-deliver_proof-in-Optimum-clause-fault
+    : goal.returns-in_err-deliver_proof-in-Optimum-clause-fault
+returns-in_err-deliver_proof-in-Optimum-clause-fault g c =
     let p = err_from_is_err_and c.from_residual.result c.from_residual.ensures.1 in
-    let k = c.in_err-deliver_headed-in-Optimum.ensures in
-    let part = rw c.deref.ensures.value at k.writes in
-    let spelled = rw c.deref.ensures.value at k.lines in
+    let k = c.in_err-deliver_proof-in-Optimum.ensures in
     rw (p.1, p.2) (certificate_left c.args.found.now _ c.in-Optimum.is _ _ _ _ _ k.fault
-    (Appends-nil _) part tt spelled)
+    (Appends-nil _) k.writes tt k.lines)
 
 pub returns-in_err-deliver_proof-in-Unsat-clause-fault
     : goal.returns-in_err-deliver_proof-in-Unsat-clause-fault
@@ -39,27 +37,23 @@ returns-in_err-deliver_proof-in-Unsat-clause-fault g c =
     rw (p.1, p.2) (certificate_left c.args.found.now _ c.in-Unsat.is _ _ _ _ _ k.fault
     (Appends-nil _) k.writes tt k.lines)
 
-pub returns-in_ok-deliver_headed-in-Optimum-clause-ok
-    : goal.returns-in_ok-deliver_headed-in-Optimum-clause-ok
-returns-in_ok-deliver_headed-in-Optimum-clause-ok g c =
+pub returns-in_ok-deliver_proof-in-Optimum-clause-ok
+    : goal.returns-in_ok-deliver_proof-in-Optimum-clause-ok
+returns-in_ok-deliver_proof-in-Optimum-clause-ok g c =
     let e = end_is (codes "s OPTIMUM FOUND\n") _ c.in-Optimum.bits.items _ _ c.spell_optimum.ensures
-    c.deref-in-Optimum.ensures.value c.deref-in-Optimum-2.ensures.value in
-    let k = c.in_ok-deliver_headed-in-Optimum.ensures in
-    let grows = rw c.deref.ensures.value at k.writes in
-    let spelled = rw c.deref.ensures.value at k.lines in
+    c.deref.ensures.value c.deref-in-Optimum.ensures.value in
+    let k = c.in_ok-deliver_proof-in-Optimum.ensures in
     ok_with c.deliver_end.result _ _ _ _ (λ h. answers c.args.found.now _ c.in-Optimum.is _ _ _ _
-    (subst (Appends _ _) e h) grows spelled) c.deliver_end.ensures.writes
+    (subst (Appends _ _) e h) k.writes k.lines) c.deliver_end.ensures.writes
 
-pub returns-in_ok-deliver_headed-in-Optimum-clause-fault
-    : goal.returns-in_ok-deliver_headed-in-Optimum-clause-fault
-returns-in_ok-deliver_headed-in-Optimum-clause-fault g c =
+pub returns-in_ok-deliver_proof-in-Optimum-clause-fault
+    : goal.returns-in_ok-deliver_proof-in-Optimum-clause-fault
+returns-in_ok-deliver_proof-in-Optimum-clause-fault g c =
     let e = end_is (codes "s OPTIMUM FOUND\n") _ c.in-Optimum.bits.items _ _ c.spell_optimum.ensures
-    c.deref-in-Optimum.ensures.value c.deref-in-Optimum-2.ensures.value in
-    let k = c.in_ok-deliver_headed-in-Optimum.ensures in
-    let grows = rw c.deref.ensures.value at k.writes in
-    let spelled = rw c.deref.ensures.value at k.lines in
+    c.deref.ensures.value c.deref-in-Optimum.ensures.value in
+    let k = c.in_ok-deliver_proof-in-Optimum.ensures in
     err_with c.deliver_end.result _ _ _ _ _ (λ fault is h. output_left c.args.found.now _
-    c.in-Optimum.is _ _ _ _ fault is (subst (AppendsPart _ _) e h) grows spelled)
+    c.in-Optimum.is _ _ _ _ fault is (subst (AppendsPart _ _) e h) k.writes k.lines)
     c.deliver_end.ensures.fault c.deliver_end.ensures.writes
 
 pub returns-in_ok-deliver_proof-in-Unsat-clause-ok

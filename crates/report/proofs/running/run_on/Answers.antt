@@ -23,8 +23,7 @@ write_answer-requires g c =
     let held = g.O.Write.contents in
     let f = c.in_ok-found in
     proof_room c.args.profile c.args.instance.now (held c.args.out.now)
-    (held c.find_best.new.out) c.args.budget.now c.find_best.new.budget f.found c.limits.ensures
-    f.ensures.searches
+    (held c.find_best.new.out) c.args.budget.now c.find_best.new.budget f.found f.ensures.searches
 
 pub returns-in-Err-clause-fault : goal.returns-in-Err-clause-fault
 returns-in-Err-clause-fault g c text r =

@@ -1,7 +1,0 @@
-mod Between
-mod Given
-mod Works
-mod Opens
-mod Ends
-mod Answered
-pub mod Laws

@@ -1,4 +1,0 @@
-pub mod CoreWork
-pub mod Counting
-pub mod Events
-pub mod Work

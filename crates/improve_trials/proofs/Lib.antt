@@ -1,2 +1,0 @@
-mod CoreEnds
-pub mod Laws

@@ -1,2 +1,0 @@
-pub mod Refuting
-pub mod Trials
