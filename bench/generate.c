@@ -1,5 +1,4 @@
-/* Writes large instances with certificates, for the speed of the checker, and one for that of the
- * search.
+/* Writes large instances with certificates, for the speed of the checker.
  *
  *   generate chains LINES SEED TEXT PROOF   a chain of implications; each line of the proof
  *       joins a stretch of it, with some literals more, and old lines are deleted
@@ -9,8 +8,6 @@
  *   generate given|added CLAUSES LINES SEED TEXT PROOF   a chain of implications whose clauses stand
  *       in no order, given by the text or added by the proof; each further line joins twelve of
  *       them that follow one another in the chain, and nothing is deleted
- *   generate weights SOFT VARS CLAUSES SEED TEXT   random clauses of three literals, and soft units
- *       of the weights 1, 2, 4 and so on: each sum of some of them is another one
  */
 #include <stdio.h>
 #include <stdlib.h>
@@ -130,16 +127,6 @@ static void many(long n, long lines, int added, FILE *text, FILE *proof) {
     free(ids);
 }
 
-static void weights(int soft, int vars, int clauses, FILE *text) {
-    for (int k = 0; k < clauses; k++) {
-        int a = 1 + (int)next(vars), b, c;
-        do b = 1 + (int)next(vars); while (b == a);
-        do c = 1 + (int)next(vars); while (c == a || c == b);
-        fprintf(text, "h %s%d %s%d %s%d 0\n", next(2) ? "-" : "", a, next(2) ? "-" : "", b, next(2) ? "-" : "", c);
-    }
-    for (int k = 0; k < soft; k++) fprintf(text, "%lld %d 0\n", 1LL << k, k + 1);
-}
-
 int main(int argc, char **argv) {
     if (argc == 6 && !strcmp(argv[1], "chains")) {
         state = strtoull(argv[3], NULL, 10);
@@ -159,13 +146,6 @@ int main(int argc, char **argv) {
         many(atol(argv[2]), atol(argv[3]), argv[1][0] == 'a', text, proof);
         return fclose(text) || fclose(proof);
     }
-    if (argc == 7 && !strcmp(argv[1], "weights") && atoi(argv[2]) <= atoi(argv[3]) && atoi(argv[3]) > 2) {
-        state = strtoull(argv[5], NULL, 10);
-        FILE *text = create(argv[6]);
-        weights(atoi(argv[2]), atoi(argv[3]), atoi(argv[4]), text);
-        return fclose(text);
-    }
-    fprintf(stderr, "usage: generate chains LINES SEED TEXT PROOF | definitions|units|given|added CLAUSES LINES SEED TEXT PROOF"
-        " | weights SOFT VARS CLAUSES SEED TEXT\n");
+    fprintf(stderr, "usage: generate chains LINES SEED TEXT PROOF | definitions|units|given|added CLAUSES LINES SEED TEXT PROOF\n");
     return 2;
 }

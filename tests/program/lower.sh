@@ -205,5 +205,5 @@ while read -r number wanted; do
         ok "instance $number, $change" is_at_most "$wanted"
     done
 done < "$work/wanted"
-ok "they have cuts: $cuts" [ "$cuts" -gt 100 ]
+ok "they have cuts: $cuts" [ "$cuts" -gt 50 ]
 totals

@@ -47,7 +47,7 @@ lines a.wcnf 'c 1 = tea' 'c 2 = coffee' 'c one of them' 'h 1 2 0' 'c tea costs' 
 printf '%s\n' 'p wcnf 2 3 8' '8 1 2 0' '3 -1 0' '3 -2 0' | gzip > "$work/b.wcnf.gz"
 lines c.wcnf 'c 1 = tea' 'c it is late' 'h -1 0' 'c tea is wanted' 'h 1 0'
 line 'an optimum' 30 $'It costs 3, and nothing costs less, which was checked.\ntrue: tea\n     3  tea costs' a.wcnf
-line 'variables without names' 30 $'It costs 3, and nothing costs less, which was checked.\nv 10\n     3  not variable 1' b.wcnf.gz
+line 'variables without names' 30 $'It costs 3, and nothing costs less, which was checked.\nv 01\n     3  not variable 2' b.wcnf.gz
 line 'all optima' 30 $'It costs 3, and nothing costs less, which was checked.\ntrue: tea\n     3  tea costs\nNo other solution costs as little.' --optima 5 --plot a.svg a.wcnf
 ok 'python3 -m wmax: the picture' grep -q '^</svg>$' "$work/a.svg"
 line 'no solution' 20 $'No assignment satisfies the hard clauses, which was checked. These contradict each other:\n  it is late\n  tea is wanted' c.wcnf
