@@ -123,15 +123,15 @@ fi
 
 # A later solution stands there before its cost is told: the output fails behind the line of the first one.
 for seed in 1 2 3 4 5 6 7 8; do
-    awk -v family=network -v size=40 -v seed=$seed -f bench/maxsat.awk > "$work/several"
-    call solve --profile 3 --conflicts 20000 several
+    awk -v family=diagnosis -v size=60 -v seed=$seed -f bench/maxsat.awk > "$work/several"
+    call solve --profile 3 --conflicts 3000 several
     [ "$(grep -c '^o ' <<< "$out")" -lt 2 ] || break
 done
 ok 'several solutions' [ "$(grep -c '^o ' <<< "$out")" -ge 2 ]
 first=$(head -n 1 <<< "$out")
 compiles -O1 -shared -fPIC -o "$work/device.so" tests/program/device.c
 rm -f "$work/best"
-told=$(cd "$work" && DEVICE=out DEVICE_AT=$((${#first} + 1)) LD_PRELOAD=./device.so timeout 60 "$wmax" solve --profile 3 --conflicts 20000 \
+told=$(cd "$work" && DEVICE=out DEVICE_AT=$((${#first} + 1)) LD_PRELOAD=./device.so timeout 60 "$wmax" solve --profile 3 --conflicts 3000 \
     --best best several 2> .err)
 ok 'an output that fails at the second line' [ "$(cat "$work/.err")" = 'error: Output' -a "$told" = "$first" ]
 ok 'an output that fails at the second line: the cheaper solution' [ "$(sed -n 1s/..//p "$work/best")" -lt "${first:2}" ]

@@ -55,8 +55,8 @@ call solve --profile 1 --progress text
 ok 'no file, no word of it' [ -z "$(grep certificate <<< "$err")" ]
 ok 'profile 1 tells nothing of what is needed at least' [ -z "$(grep 'at least' <<< "$err")" ]
 awk -v family=set_cover -v size=120 -v seed=1 -f bench/maxsat.awk > "$work/text"
-plain --profile 3 --conflicts 3000
-call solve --profile 3 --conflicts 3000 --proof proof --progress text
+plain --profile 3 --conflicts 500
+call solve --profile 3 --conflicts 500 --proof proof --progress text
 same 'profile 3'
 ok 'profile 3: each line has the form' [ -z "$(grep -vxE "$form" <<< "$err")" ]
 ok 'profile 3: no word of the certificate' [ -z "$(grep certificate <<< "$err")" ]
@@ -79,13 +79,16 @@ call lower text proof
 expect 'profile 3: the last one is what the certificate proves' 0 "$said" ''
 
 # Each solution is shown, also the later ones.
-awk -v family=network -v size=40 -v seed=1 -f bench/maxsat.awk > "$work/text"
 several=0
-for profile in 1 2 3; do
-    call solve --profile $profile --conflicts 3000 --progress text
-    told=$(grep '^o' <<< "$out")
-    ok "profile $profile: a line at each solution" [ "$(sed -nE 's/.*, cost ([0-9]+) .*/o \1/p' <<< "$err" | uniq)" = "$told" ]
-    [ "$(wc -l <<< "$told")" = 1 ] || several=$((several + 1))
+for seed in 1 2 3 4 5; do
+    awk -v family=diagnosis -v size=60 -v seed=$seed -f bench/maxsat.awk > "$work/text"
+    for profile in 1 2 3; do
+        call solve --profile $profile --conflicts 3000 --progress text
+        told=$(grep '^o' <<< "$out")
+        ok "profile $profile, seed $seed: a line at each solution" \
+            [ "$(sed -nE 's/.*, cost ([0-9]+) .*/o \1/p' <<< "$err" | uniq)" = "$told" ]
+        [ "$(wc -l <<< "$told")" = 1 ] || several=$((several + 1))
+    done
 done
 ok 'there are later ones' [ "$several" -gt 0 ]
 

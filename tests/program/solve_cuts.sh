@@ -180,7 +180,7 @@ ok 'killed at forty moments' [ $right = 40 ]
 
 # Each lower bound that a search tells is proved by what stands up to it in the certificate.
 awk -v family=set_cover -v size=120 -v seed=1 -f bench/maxsat.awk > "$work/text"
-call solve --profile 3 --conflicts 3000 --proof proof text
+call solve --profile 3 --conflicts 500 --proof proof text
 ok 'a search that does not end' [ "$status" = 10 ]
 count=0
 before=0
