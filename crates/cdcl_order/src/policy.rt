@@ -233,6 +233,12 @@ impl Policy {
         }
     }
 
+    /// How much the variable stood in conflicts, the later ones counting more, in units of what the
+    /// next one counts; 0 where it is none of the search.
+    pub fn activity(&self, variable: u32) -> f64 {
+        self.order.activity(variable)
+    }
+
     /// How many literals were assigned and are so no more: a measure of work.
     pub fn propagations(&self) -> u64 {
         self.undone
