@@ -9,21 +9,25 @@ use Rattle.bound.specs.Weighted.{weighted_cnf, weights_of}
 use Rattle.forms.specs.Forms.{Forms, forms_of}
 use Rattle.cuts_log.specs.declared.standing.Standing.{Standing}
 use Rattle.cuts_log.specs.Books.{BookState, begun_book}
+use Rattle.cuts_log.specs.Given.{FormulaState, all_live}
 use Rattle.cuts_log.specs.Logs.{IsKept}
 use Rattle.cuts_log.specs.Stands.{stand_of, with_clauses}
 
-abbrev blank : Forms → Standing
-blank f = record { forms = f; ended = false }
+abbrev blank : FormulaState → Forms → Standing
+blank g f = record { forms = f; ended = false; formula = g }
 
 pub starts : (p : Problem) (g : Cnf) (cs : List (List Literal)) (n : ℕ) (ws : List (ℕ × Literal))
-    (f : Forms) (t : Standing) → g ≡ weighted_cnf p → cs ≡ g.clauses → n ≡ g.variables
-    → ws ≡ weights_of p → f ≡ forms_of n ws → t ≡ with_clauses cs (blank f)
+    (f : Forms) (k : FormulaState) (t : Standing) → g ≡ weighted_cnf p → cs ≡ g.clauses
+    → n ≡ g.variables → ws ≡ weights_of p → f ≡ forms_of n ws → k ≡ all_live cs
+    → t ≡ with_clauses cs (blank k f)
     → record t { ended = false } ≡ stand_of p
-starts p g cs n ws f t is clauses vars weights forms heard =
+starts p g cs n ws f k t is clauses vars weights forms live heard =
     let w = weighted_cnf p in
+    let same : cs ≡ w.clauses = clauses ∙ ap (λ (x : Cnf). x.clauses) is in
     ap (λ (s : Standing). record s { ended = false }) (heard
-    ∙ ap (λ x. with_clauses x (blank f)) (clauses ∙ ap (λ (x : Cnf). x.clauses) is)
-    ∙ ap (λ x. with_clauses w.clauses (blank x)) (forms
+    ∙ ap (λ x. with_clauses cs (blank x f)) live
+    ∙ ap (λ x. with_clauses x (blank (all_live x) f)) same
+    ∙ ap (λ x. with_clauses w.clauses (blank (all_live w.clauses) x)) (forms
     ∙ ap (λ k. forms_of k ws) (vars ∙ ap (λ (x : Cnf). x.variables) is)
     ∙ ap (λ k. forms_of w.variables k) weights))
 

@@ -13,10 +13,12 @@ use Rattle.forms.specs.declared.faults.LineFault.{LineFault}
 use Rattle.forms.specs.declared.types.NamedFact.{NamedFact as FormFact}
 use Rattle.forms.specs.Answers.{IsMade, IsTaken}
 use Rattle.forms.specs.Forms.{Forms, Made, count_line, cut_line, form_line}
-use Rattle.lrat_read.specs.Words.{NamedFact, CountLine, CutLine, FormLine}
+use Rattle.forms.specs.Forms.{group_line}
+use Rattle.lrat_read.specs.Words.{CountLine, CutLine, FormLine, GroupLine}
 use Rattle.lrat_read.specs.WordTokens.{IsNamed, IsScale}
 use Rattle.cuts_log.specs.declared.standing.Standing.{Standing}
-use Rattle.cuts_log.specs.Facts.{IsCountFact, is_worth, no_clause, spelled}
+use Rattle.cuts_log.specs.Facts.{CanBeSaid, is_worth, spelled}
+use Rattle.cuts_log.specs.Given.{formula_at}
 use Rattle.lrat_cuts.specs.Cuts.{fact_of}
 use Rattle.cuts_log.specs.Stands.{TakesWord, with_clause, with_clauses}
 
@@ -63,15 +65,10 @@ facts_named : (fs : List FormFact) → map fact_of (map spelled fs) ≡ fs
 facts_named [] = refl
 facts_named (f ∷ fs) = ap (λ z. f ∷ z) (facts_named fs)
 
-facts_spelled : (fs : List FormFact) → AllByRecursion IsCountFact fs
+facts_spelled : (fs : List FormFact) → AllByRecursion CanBeSaid fs
     → AllByRecursion IsNamed (map spelled fs)
 facts_spelled [] h = tt
 facts_spelled (f ∷ fs) h = ((h.0.weight, h.0.number), facts_spelled fs h.1)
-
-facts_numbered : (fs : List FormFact) → AllByRecursion IsCountFact fs
-    → AllByRecursion (λ (f : NamedFact). f.is_numbered ≡ true) (map spelled fs)
-facts_numbered [] h = tt
-facts_numbered (f ∷ fs) h = (h.0.numbered, facts_numbered fs h.1)
 
 scale_said : (scale : Option ℕ) → IfSome scale (λ d. d < NUMBER_LIMIT) → IsScale scale
 scale_said None h = tt
@@ -84,17 +81,17 @@ form_of line old mid (Some f) h e = absurd (false≢true (sym e))
 
 pub form_taken : (old : Standing) (scale : Option ℕ) (facts : List FormFact) (mid : Forms)
     (fault : Option LineFault) → old.ended ≡ false → IfSome scale (λ d. d < NUMBER_LIMIT)
-    → All IsCountFact facts → IsTaken (form_line no_clause scale facts old.forms) old.forms mid
-    fault
+    → All CanBeSaid facts
+    → IsTaken (form_line (formula_at old.formula) scale facts old.forms) old.forms mid fault
     → is_some fault ≡ false
     → (cost : ℕ) → TakesWord cost old (FormLine scale (map spelled facts)) [] (record old {
       forms =
           mid;
     })
 form_taken old scale facts mid fault open_end small all h e cost =
-    let each = recursion_from_All IsCountFact facts all in
-    let line =
-    form_of (form_line no_clause scale facts old.forms) old.forms mid fault h e in record {
+    let each = recursion_from_All CanBeSaid facts all in
+    let at = formula_at old.formula in
+    let line = form_of (form_line at scale facts old.forms) old.forms mid fault h e in record {
       open_end = open_end;
       numbers = (
         scale_said scale small,
@@ -102,10 +99,25 @@ form_taken old scale facts mid fault open_end small all h e cost =
       );
       middle = mid;
       right = (
-        ap (λ fs. form_line no_clause scale fs old.forms) (facts_named facts) ∙ line,
-        All-from_recursion (λ (f : NamedFact). f.is_numbered ≡ true) (map spelled facts)
-            (facts_numbered facts each),
+        ap (λ fs. form_line at scale fs old.forms) (facts_named facts) ∙ line,
         refl,
       );
       clauses = refl;
     }
+
+pub group_taken : (old : Standing) (inputs : List Literal) (ids : List ℕ) (mid : Forms)
+    (fault : Option LineFault) → old.ended ≡ false → All (λ l. IsId l.variable) inputs
+    → All IsId ids
+    → IsTaken (group_line (formula_at old.formula) inputs ids old.forms) old.forms mid fault
+    → is_some fault ≡ false
+    → (cost : ℕ) → TakesWord cost old (GroupLine inputs ids) [] (record old { forms = mid })
+group_taken old inputs ids mid fault open_end lits numbers h e cost = record {
+  open_end = open_end;
+  numbers = (lits, numbers);
+  middle = mid;
+  right = (
+    form_of (group_line (formula_at old.formula) inputs ids old.forms) old.forms mid fault h e,
+    refl,
+  );
+  clauses = refl;
+}

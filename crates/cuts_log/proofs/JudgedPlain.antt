@@ -183,6 +183,7 @@ pub deletion_judged : (o : Option ℕ) (s : CutsState) (live : Live) (lead : ℕ
     → HasNumbers (Deletion lead ids)
     → (es : Listed) × (judged_line o s (line_tokens (Deletion lead ids))
     ≡ Ok (record s { live = es })) × Matches es s.last (without_ids live ids)
+    × ((j : ℕ) → listed_at es j ≡ cond (list_any (nat_eq j) ids) None (listed_at s.live j))
 deletion_judged o s live lead ids m open_end distinct alive numbers =
     let g = leaves ids s.live distinct (live_some s live ids m alive) in
     let gone = g.1.deleted in
@@ -198,6 +199,7 @@ deletion_judged o s live lead ids m open_end distinct alive numbers =
             (sym (g.1.at j) ∙ e));
         in_range = λ j d e. m.in_range j d (kept (list_any (nat_eq j) ids) (live.clause_at j) d e);
       },
+      g.1.at,
     )
   where
     kept : (b : Bool) (o : Option (List Literal)) (d : List Literal) → cond b None o ≡ Some d

@@ -128,7 +128,8 @@ step_judged o l h book works up log follows =
     let base = (l.book).base in
     let start = start_over (given_of (weighted_cnf p).clauses) base in
     log_judged o l h works up (steps_right o l.cost base 0 up (cuts_start p) (stand_of p) h.left
-    (events_of l) start (start_stands p) h.taken (start_right l h book works log follows))
+    (events_of l) start (start_stands p base h.base) h.taken (start_right l h book works log
+    follows))
 
 pub steps_judged : StepsAreRight
 steps_judged l k h book works le log follows =

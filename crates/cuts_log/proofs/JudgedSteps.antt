@@ -27,22 +27,22 @@ use Rattle.cnf.specs.Literal.{negation}
 use Rattle.cnf.specs.Lrat.{IsId}
 use Rattle.cnf.specs.Refute.{Clauses, Leads, Refutes}
 use Rattle.cnf.specs.declared.limits.TheConstants.{NUMBER_LIMIT}
-use Rattle.lrat_log.specs.Log.{IsLine}
-use Rattle.std.proofs.lemmas.List.Elements.{All-from_recursion, All-nil}
+use Rattle.lrat_log.specs.Log.{HasNumber, IsLine}
+use Rattle.std.proofs.lemmas.List.Elements.{All-from_recursion, All-nil, recursion_from_All}
 use Rattle.std.proofs.Common.{◌<◌}
 use Rattle.cuts_log.specs.declared.standing.Standing.{Standing}
 use Rattle.cuts_log.specs.Events.{Event, Plain, Word, lines_of}
-use Rattle.cuts_log.specs.Judging.{ArePlainRight, Follows, IsRightPlain, IsUpTo}
+use Rattle.cuts_log.specs.Judging.{ArePlainRight, Follows, IsRightPlain, IsUpTo, StandsAs}
 use Rattle.lrat_read.specs.Words.{WordLine}
 use Rattle.lrat_read.specs.WordTokens.{word_tokens}
 use Rattle.cuts_log.specs.Stands.{TakesAll, TakesWord, with_clause as with_one, with_clauses}
-use Rattle.cuts_log.specs.Stands.{with_line}
+use Rattle.cuts_log.specs.Stands.{with_line, without}
 use Rattle.cuts_log.proofs.JudgedPlain.{Matches, addition_judged, deletion_judged, matches_put}
 use Rattle.cuts_log.proofs.EventLines.{added_axioms}
-use Rattle.cuts_log.proofs.JudgedLogs.{pair}
-use Rattle.cuts_log.proofs.JudgedWords.{stands_as, taken_told}
+use Rattle.cuts_log.proofs.JudgedWords.{stands_on, taken_told}
+use Rattle.cuts_log.proofs.LiveClauses.{live_append, live_deleted}
 use Rattle.cuts_log.proofs.Worths.{Rises, Tells, put_rises, rises_same}
-use Rattle.forms.specs.Forms.{Forms}
+use Rattle.forms.specs.Forms.{Forms, heard}
 use Rattle.lrat_machine.specs.declared.verdicts.Cause.{Cause}
 
 abbrev live_next : ℕ → ℕ → LogLine → Live → Live
@@ -181,15 +181,20 @@ deletes_on o base before s live l ls line own d st =
     ) in
     let j = deletion_judged o s live (base + before) ids h.matches open_now step.0 step.1 numbers in
     let live_is : live_next base before l live ≡ gone = ap (λ x. live_after live (x ∷ [])) is in
-    let stand : Standing = record { forms = s.forms; ended = s.ended } in
-    let kept : with_line l stand ≡ stand = cond-true (is_delete l.kind) _ _ d in
+    let named = recursion_from_All HasNumber l.hints line.names in
+    let next : CutsState = record s { live = j.0 } in
     record {
-      next = record s { live = j.0 };
+      next = next;
       right = record {
         judged = subst (λ x. judged_line o s (line_tokens x)
             ≡ Ok (record s { live = j.0 })) (sym is) j.1;
-        forms = sym (ap (λ (x : Standing). x.forms) kept);
-        ended = sym (ap (λ (x : Standing). x.ended) kept);
+        stands = λ t e. subst (StandsAs base next) (sym (cond-true (is_delete l.kind)
+            (without l.hints t) (with_one l.clause t) d)) (record {
+              forms = e.forms;
+              ended = e.ended;
+              within = e.within;
+              formula = live_deleted base t.formula s.live j.0 l.hints e.within named j.3 e.formula;
+            });
       };
       numbers = subst HasNumbers (sym is) numbers;
       rises = λ cost. rises_same cost s;
@@ -238,14 +243,17 @@ adds_on o base before s live l ls line own d st =
     ) in
     let j = addition_judged o s live id c hints h.matches open_now step.0 rup.1 numbers in
     let live_is : live_next base before l live ≡ come = ap (λ x. live_after live (x ∷ [])) is in
-    let stand : Standing = record { forms = s.forms; ended = s.ended } in
-    let kept : with_line l stand ≡ with_one c stand = cond-false (is_delete l.kind) _ _ d in
     record {
       next = put id c s;
       right = record {
         judged = subst (λ x. judged_line o s (line_tokens x) ≡ Ok (put id c s)) (sym is) j;
-        forms = sym (ap (λ (x : Standing). x.forms) kept);
-        ended = sym (ap (λ (x : Standing). x.ended) kept);
+        stands = λ t e. subst (StandsAs base (put id c s)) (sym (cond-false (is_delete l.kind)
+            (without l.hints t) (with_one c t) d)) (record {
+              forms = ap (heard c) e.forms;
+              ended = refl;
+              within = e.within;
+              formula = live_append t.formula s.live ((id, c) ∷ []) e.formula;
+            });
       };
       numbers = subst HasNumbers (sym is) numbers;
       rises = λ cost. put_rises cost id c s;
@@ -346,11 +354,11 @@ same_ok a b r e f = ok_same a b (sym e ∙ f)
 
 -- what is left behind a word
 word_on : (base before : ℕ) (s t : CutsState) (live : Live) (made : List (List Literal))
-    (new : Standing) (es : List Event) (middle : Forms)
-    → new ≡ with_clauses made (record { forms = middle; ended = false }) → Follows s made new t
+    (old new : Standing) (es : List Event) (middle : Forms) → old.ended ≡ false
+    → new ≡ with_clauses made (record old { forms = middle }) → Follows s made new t
     → Stands base before s live (map axiom_line made ++ lines_of es)
     → (mid : Live) × Stands base (before + added_count (map axiom_line made)) t mid (lines_of es)
-word_on base before s t live made new es middle is f st =
+word_on base before s t live made old new es middle open_now is f st =
     let g = axioms_on base before made s.live s.last live (lines_of es) st.lines in
     let n = before + length made in
     let at_live = subst (λ x. Left base n x (s.last + length made) g.0 (lines_of es)) (sym f.live)
@@ -361,25 +369,24 @@ word_on base before s t live made new es middle is f st =
       g.0,
       record {
         lines = subst (λ x. Left base x t.live t.last g.0 (lines_of es)) count at_last;
-        ended = λ e. stops_end made (record { forms = middle; ended = false }) (lines_of es) refl
+        ended = λ e. stops_end made (record old { forms = middle }) (lines_of es) open_now
             st.lines.stops (sym (ap (λ (x : Standing). x.ended) is) ∙ sym f.ended ∙ e);
       },
     )
 
 -- a line of a log is taken, and then the checker stands as the log does
 pub goes_same : (o : Option ℕ) (base before : ℕ) (s : CutsState) (l : LogLine) (ls : List LogLine)
-    (old new : Standing) → (g : Goes o base before s l ls) → stands_as s ≡ old
-    → new ≡ with_line l old → stands_as g.next ≡ new
+    (old new : Standing) → (g : Goes o base before s l ls) → StandsAs base s old
+    → new ≡ with_line l old → StandsAs base g.next new
 goes_same o base before s l ls old new g same is =
-    pair (stands_as g.next) (with_line l (stands_as s)) g.right.forms g.right.ended
-    ∙ ap (with_line l) same ∙ sym is
+    subst (StandsAs base g.next) (sym is) (g.right.stands old same)
 
 -- the checker behind a word
 pub record Says (o : Option ℕ) (cost base before : ℕ) (s : CutsState) (w : WordLine)
     (made : List (List Literal)) (new : Standing) (es : List Event) : Type 0 where
   pub next : CutsState
   pub judged : judged_line o s (word_tokens w) ≡ Ok next
-  pub same : stands_as next ≡ new
+  pub same : StandsAs base next new
   pub tells : Tells cost s w next
   pub live : Live
   pub stands : Stands base (before + added_count (map axiom_line made)) next live (lines_of es)
@@ -387,18 +394,16 @@ pub record Says (o : Option ℕ) (cost base before : ℕ) (s : CutsState) (w : W
 pub word_says : (o : Option ℕ) (cost base before : ℕ) → IsUpTo cost o
     → (s : CutsState) (old new : Standing)
     (w : WordLine) (made : List (List Literal)) (es : List Event) (live : Live)
-    → stands_as s ≡ old → TakesWord cost old w made new
+    → StandsAs base s old → TakesWord cost old w made new
     → Stands base before s live (map axiom_line made ++ lines_of es)
     → Says o cost base before s w made new es
 word_says o cost base before up s old new w made es live same h st =
-    let j = taken_told o cost up s old new w made (ap (λ (x : Standing). x.forms) same)
-    (ap (λ (x : Standing). x.ended) same) h in
-    let clauses = h.clauses
-    ∙ ap (λ b. with_clauses made (record { forms = h.middle; ended = b })) h.open_end in
-    let g = word_on base before s j.0 live made new es h.middle clauses j.2 st in record {
+    let j = taken_told o cost up s old new w made same.forms same.ended same.formula h in
+    let g = word_on base before s j.0 live made old new es h.middle h.open_end h.clauses j.2 st in
+    record {
       next = j.0;
       judged = j.1;
-      same = pair (stands_as j.0) new j.2.forms j.2.ended;
+      same = stands_on base cost s j.0 old new w made same h j.2;
       tells = j.3;
       live = g.0;
       stands = g.1;
@@ -407,7 +412,7 @@ word_says o cost base before up s old new w made es live same h st =
 -- all lines of a log
 pub steps_right : (o : Option ℕ) (cost base before : ℕ) → IsUpTo cost o
     → (s : CutsState) (old new : Standing)
-    (es : List Event) (live : Live) → stands_as s ≡ old → TakesAll cost old es new
+    (es : List Event) (live : Live) → StandsAs base s old → TakesAll cost old es new
     → Stands base before s live (lines_of es) → ArePlainRight o base before s es
 steps_right o cost base before up s old new [] live same h st = tt
 steps_right o cost base before up s old new (Plain l ∷ es) live same h st =

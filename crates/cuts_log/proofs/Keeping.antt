@@ -3,6 +3,7 @@ use Rattle.std.proofs.Common.{◌≡◌, ℕ, ◌+◌, ◌<◌, ◌≤◌, false
 use Rattle.std.proofs.Common.{refl, sym, ◌∙◌, ap, subst, arith, length-append}
 use Rattle.std.proofs.lemmas.List.{length-take-le, take_all, take-append-le}
 use Rattle.cnf.specs.Literal.{Literal}
+use Rattle.cnf.specs.Refute.{Clauses}
 use Rattle.bound.specs.Weighted.{weighted_cnf}
 use Rattle.forms.specs.Forms.{Forms}
 use Rattle.lrat_log.specs.declared.log.TheConstants.{LINE_LIMIT}
@@ -14,6 +15,7 @@ use Rattle.cuts_log.specs.Books.{BookState, FailsAt, IsBook, Notes, seen_next}
 use Rattle.cuts_log.specs.Events.{Event, Plain, TraceState, Word, lines_in, lines_of}
 use Rattle.cuts_log.specs.Logs.{Brings, IsKept, LogState, SameLog, events_of, lines_seen}
 use Rattle.cuts_log.specs.Logs.{problem_of}
+use Rattle.cuts_log.specs.Given.{formula_at}
 use Rattle.cuts_log.specs.Stands.{IsRightWord, Takes, TakesAll, stand_of}
 use Rattle.cuts_log.proofs.EventLines.{lines_of-push}
 
@@ -23,14 +25,15 @@ takes_push cost s mid new [] e h t = (new, subst (λ z. Takes cost z e new) h t,
 takes_push cost s mid new (d ∷ es) e h t = (h.0, h.1, takes_push cost h.0 mid new es e h.2 t)
 
 -- what holds for a cost holds for a lower one
-right_lower : (more less : ℕ) → less ≤ more → (old new : Forms) (w : WordLine)
-    (made : List (List Literal)) → IsRightWord more old w made new → IsRightWord less old w made new
-right_lower more less le old new (CountLine outputs inputs) made h = h
-right_lower more less le old new (MoreLine number) made h = h
-right_lower more less le old new (GroupLine inputs ids) made h = h
-right_lower more less le old new (FormLine scale facts) made h = h
-right_lower more less le old new (CutLine c) made h = (h.0, h.1, omega (arith, h.2), h.3, h.4)
-right_lower more less le old new (BoundLine lower) made h = h
+right_lower : (more less : ℕ) → less ≤ more → (at : Clauses) (old new : Forms) (w : WordLine)
+    (made : List (List Literal)) → IsRightWord more at old w made new
+    → IsRightWord less at old w made new
+right_lower more less le at old new (CountLine outputs inputs) made h = h
+right_lower more less le at old new (MoreLine number) made h = h
+right_lower more less le at old new (GroupLine inputs ids) made h = h
+right_lower more less le at old new (FormLine scale facts) made h = h
+right_lower more less le at old new (CutLine c) made h = (h.0, h.1, omega (arith, h.2), h.3, h.4)
+right_lower more less le at old new (BoundLine lower) made h = h
 
 takes_lower : (more less : ℕ) → less ≤ more → (old new : Standing) (e : Event)
     → Takes more old e new → Takes less old e new
@@ -39,7 +42,7 @@ takes_lower more less le old new (Word w made) t = record {
   open_end = t.open_end;
   numbers = t.numbers;
   middle = t.middle;
-  right = right_lower more less le old.forms t.middle w made t.right;
+  right = right_lower more less le (formula_at old.formula) old.forms t.middle w made t.right;
   clauses = t.clauses;
 }
 

@@ -7,6 +7,8 @@ mod Claims
 mod MadeClauses
 mod Beginning
 mod Worths
+mod Tables
+mod LiveClauses
 mod JudgedWords
 mod JudgedLogs
 mod JudgedPlain

@@ -1,11 +1,11 @@
--- The tokens of lines that begin with a word are words: none is empty or has a space or a line feed.
+-- The tokens of lines that begin with a word are words: none is empty, none has a space or a
+-- line feed.
 use Rattle.std.proofs.Common.{ℕ, List, [], ◌∷◌, ◌++◌, map}
 use Rattle.std.proofs.Common.{Option, Some, None, arith}
 use Rattle.std.specs.Fmt.{decimal}
 use Rattle.std.specs.List.{AllByRecursion, flat_map}
 use Rattle.std.proofs.lemmas.List.Elements.{recursion_from_All}
 use lib.Chars.{codes}
-use Rattle.cnf.specs.Literal.{Literal}
 use Rattle.cnf.specs.Lrat.{IsId}
 use Rattle.text.specs.Text.{literal_text}
 use Rattle.lrat_log.proofs.Laws.{IsWord, decimal_word, literal_word, words_append, words_clause}
@@ -67,8 +67,11 @@ word_words (MoreLine number) h = (more_word, (decimal_word number h.1, zero_word
 word_words (GroupLine inputs ids) h = (
   group_word,
   words_append (map literal_text inputs) (codes "0" ∷ (map decimal ids ++ codes "0" ∷ []))
-      (words_clause inputs (recursion_from_All (λ l. IsId l.variable) inputs h.0))
-      (zero_word.0, with_zero (map decimal ids) (words_decimal ids (recursion_from_All IsId ids h.1))),
+      (words_clause inputs (recursion_from_All (λ l. IsId l.variable) inputs h.0)) (
+        zero_word.0,
+        with_zero (map decimal ids) (words_decimal ids (recursion_from_All IsId ids
+            h.1)),
+      ),
 )
 word_words (FormLine scale facts) h = (
   form_word,

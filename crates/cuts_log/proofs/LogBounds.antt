@@ -13,13 +13,12 @@ use Rattle.lrat_read.specs.WordTokens.{word_tokens}
 use Rattle.lrat_cuts.specs.Cuts.{CutsState, cuts_start, judged_lines}
 use Rattle.cuts_log.specs.declared.standing.Standing.{Standing}
 use Rattle.cuts_log.specs.Events.{Event, Plain, Word, lines_of, tokens_at, tokens_on}
-use Rattle.cuts_log.specs.Judging.{BoundsAreProved, IsProvedEvent, IsUpTo}
+use Rattle.cuts_log.specs.Judging.{BoundsAreProved, IsProvedEvent, IsUpTo, StandsAs}
 use Rattle.cuts_log.specs.Logs.{events_of, problem_of}
 use Rattle.cuts_log.specs.Stands.{TakesAll, stand_of}
 use Rattle.cuts_log.proofs.JudgedLogs.{next_line, start_stands}
 use Rattle.cuts_log.proofs.JudgedStart.{start_right}
 use Rattle.cuts_log.proofs.JudgedSteps.{Stands, count_one, goes_same, plain_on, word_says}
-use Rattle.cuts_log.proofs.JudgedWords.{stands_as}
 use Rattle.cuts_log.proofs.LogTexts.{text_tokens}
 use Rattle.cuts_log.proofs.Worths.{proved_more, put_all_rises}
 
@@ -28,18 +27,18 @@ record Proves (o : Option ℕ) (cost base before n : ℕ) (s : CutsState) (es : 
     (new : Standing) : Type 0 where
   last : CutsState
   judged : judged_lines o s n (tokens_on base before es) ≡ Ok last
-  stands : stands_as last ≡ new
+  stands : StandsAs base last new
   rises : s.proved ≤ last.proved
   told : AllByRecursion (IsProvedEvent cost last.proved) es
 
 steps_prove : (o : Option ℕ) (cost base before n : ℕ) → IsUpTo cost o → (s : CutsState)
-    (old new : Standing) (es : List Event) (live : Live) → stands_as s ≡ old
+    (old new : Standing) (es : List Event) (live : Live) → StandsAs base s old
     → TakesAll cost old es new → Stands base before s live (lines_of es) → cost ≤ s.worth
     → Proves o cost base before n s es new
 steps_prove o cost base before n up s old new [] live same h st worth = record {
   last = s;
   judged = refl;
-  stands = same ∙ sym h;
+  stands = subst (StandsAs base s) (sym h) same;
   rises = omega arith;
   told = tt;
 }
@@ -94,10 +93,10 @@ bounds_proved l h book works log follows =
     let base = (l.book).base in
     let start = start_over (given_of (weighted_cnf p).clauses) base in
     let j = steps_prove None l.cost base 0 1 tt (cuts_start p) (stand_of p) h.left (events_of l)
-    start (start_stands p) h.taken (start_right l h book works log follows)
+    start (start_stands p base h.base) h.taken (start_right l h book works log follows)
     (start_worth p l.cost h.cost) in (
       j.last,
       ap (judged_lines None (cuts_start p) 1) (text_tokens l h book works log follows) ∙ j.judged,
-      ap (λ (x : Standing). x.ended) (j.stands ∙ sym (h.standing works)),
+      j.stands.ended ∙ ap (λ (x : Standing). x.ended) (sym (h.standing works)),
       j.told,
     )

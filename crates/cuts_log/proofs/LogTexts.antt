@@ -14,18 +14,17 @@ use Rattle.lrat_cuts.proofs.Laws.{cuts_prove, cuts_sound}
 use Rattle.cuts_log.specs.declared.standing.Standing.{Standing}
 use Rattle.cuts_log.specs.Books.{IsBook}
 use Rattle.cuts_log.specs.Events.{Event, Plain, Word, lines_of, text_of, tokens_on}
-use Rattle.cuts_log.specs.Judging.{IsUpTo, NothingIsCheaper, TextsAreRight}
+use Rattle.cuts_log.specs.Judging.{IsUpTo, NothingIsCheaper, StandsAs, TextsAreRight}
 use Rattle.cuts_log.specs.Logs.{IsKept, LogState, events_of, problem_of}
 use Rattle.cuts_log.specs.Stands.{TakesAll, stand_of}
 use Rattle.cuts_log.proofs.JudgedLogs.{start_stands}
 use Rattle.cuts_log.proofs.JudgedStart.{start_right, steps_judged}
 use Rattle.cuts_log.proofs.JudgedSteps.{Stands, count_one, goes_same, plain_on, word_says}
-use Rattle.cuts_log.proofs.JudgedWords.{stands_as}
 use Rattle.cuts_log.proofs.LineWords.{AreWords, word_words}
 
 pub steps_words : (o : Option ℕ) (cost base before : ℕ) → IsUpTo cost o
     → (s : CutsState) (old new : Standing)
-    (es : List Event) (live : Live) → stands_as s ≡ old → TakesAll cost old es new
+    (es : List Event) (live : Live) → StandsAs base s old → TakesAll cost old es new
     → Stands base before s live (lines_of es) → AllByRecursion AreWords (tokens_on base before es)
 steps_words o cost base before up s old new [] live same h st = tt
 steps_words o cost base before up s old new (Plain l ∷ es) live same h st =
@@ -55,7 +54,7 @@ text_tokens l h book works log follows =
     let start = start_over (given_of (weighted_cnf p).clauses) base in
     token_lines-spaced (tokens_on base 0 (events_of l))
     (steps_words None l.cost base 0 tt (cuts_start p) (stand_of p) h.left (events_of l)
-    start (start_stands p) h.taken (start_right l h book works log follows))
+    start (start_stands p base h.base) h.taken (start_right l h book works log follows))
 
 pub texts_judged : TextsAreRight
 texts_judged l k h book works le log follows =

@@ -15,9 +15,11 @@ use Rattle.lrat_log.specs.declared.lines.Hint.{Hint}
 use Rattle.lrat_log.specs.Log.{group_ids, id_of, leading_ids, name_of}
 use Rattle.lrat_log.specs.Texts.{hints_text, literals_text, number_text}
 use Rattle.lrat_log.proofs.Laws.{hints_spaced, literals_spaced, with_spaces}
-use Rattle.lrat_read.specs.Words.{NamedFact, CountLine, MoreLine, FormLine, CutLine, BoundLine}
+use Rattle.lrat_read.specs.Words.{NamedFact, CountLine, MoreLine, GroupLine, FormLine}
+use Rattle.lrat_read.specs.Words.{CutLine, BoundLine}
 use Rattle.lrat_read.specs.WordTokens.{fact_tokens, scale_token, word_tokens}
-use Rattle.cuts_log.specs.Facts.{fact_text, facts_text, ids_text, scale_text, spelled}
+use Rattle.cuts_log.specs.Facts.{fact_text, facts_text, ids_text, numbers_text}
+use Rattle.cuts_log.specs.Facts.{scale_text, spelled}
 use Rattle.forms.specs.declared.types.NamedFact.{NamedFact as FormFact}
 
 facts_spaced : (fs : List NamedFact) → with_spaces (flat_map fact_tokens fs) ≡ facts_text fs
@@ -63,6 +65,29 @@ count_text n c =
     ∙ ap (λ z. z ++ codes "0\n")
     (append_assoc (codes "count ") (number_text false n) (with_spaces (map literal_text c)))
     ∙ sym (spaced-last (codes "count" ∷ decimal n ∷ map literal_text c) (codes "0"))
+
+numbers_spaced : (ns : List ℕ) → with_spaces (map decimal ns) ≡ numbers_text ns
+numbers_spaced [] = refl
+numbers_spaced (n ∷ ns) = ap (λ z. (decimal n ++ 32 ∷ []) ++ z) (numbers_spaced ns)
+
+pub group_text : (c : List Literal) (ids : List ℕ)
+    → (((codes "group " ++ literals_text c) ++ codes "0 ") ++ numbers_text ids) ++ codes "0\n"
+    ≡ spaced (word_tokens (GroupLine c ids))
+group_text c ids =
+    let lits = map literal_text c in
+    let nums = map decimal ids in
+    let front : List (List ℕ) = codes "group" ∷ (lits ++ codes "0" ∷ nums) in
+    let last : literals_text c ++ (codes "0 " ++ numbers_text ids)
+    ≡ with_spaces (lits ++ codes "0" ∷ nums) =
+    sym (flat_map-append (λ t. t ++ 32 ∷ []) lits (codes "0" ∷ nums)
+    ∙ ap (λ z. z ++ with_spaces (codes "0" ∷ nums)) (literals_spaced c)
+    ∙ ap (λ z. literals_text c ++ (codes "0 " ++ z)) (numbers_spaced ids)) in
+    ap (λ z. z ++ codes "0\n") (append_assoc (codes "group " ++ literals_text c) (codes "0 ")
+    (numbers_text ids)
+    ∙ append_assoc (codes "group ") (literals_text c) (codes "0 " ++ numbers_text ids)
+    ∙ ap (λ z. codes "group " ++ z) last)
+    ∙ sym (spaced-last front (codes "0"))
+    ∙ ap (λ z. spaced (codes "group" ∷ z)) (append_assoc lits (codes "0" ∷ nums) (codes "0" ∷ []))
 
 pub form_text : (scale : Option ℕ) (fs : List NamedFact)
     → ((codes "form " ++ scale_text scale) ++ facts_text fs) ++ codes "0\n"

@@ -1,10 +1,9 @@
--- Facts of counts, and what lines are worth.
-use Rattle.std.specs.Prelude.{◌≡◌, ℕ, Bool, true, false, List, ◌++◌, Option, Some, None, Result}
+-- Facts as lines spell them, and what lines are worth.
+use Rattle.std.specs.Prelude.{ℕ, Bool, false, List, ◌++◌, Option, Some, None, Result}
 use Rattle.std.specs.Prelude.{Ok, Err, nat_le}
 use Rattle.std.specs.List.{flat_map}
 use lib.Chars.{codes}
 use Rattle.cnf.specs.Lrat.{IsId}
-use Rattle.cnf.specs.Refute.{Clauses}
 use Rattle.forms.specs.declared.faults.LineFault.{LineFault}
 use Rattle.forms.specs.declared.types.NamedFact.{NamedFact as FormFact}
 use Rattle.lrat_read.specs.Words.{NamedFact}
@@ -12,17 +11,12 @@ use Rattle.lrat_log.specs.declared.lines.Hint.{Hint}
 use Rattle.lrat_log.specs.Log.{id_of, name_of}
 use Rattle.lrat_log.specs.Texts.{number_text}
 
--- no clause is there
-abbrev pub no_clause : Clauses
-no_clause i = None
-
 -- a fact as a line spells it
 abbrev pub spelled : FormFact → NamedFact
 spelled f = record { weight = f.weight; is_numbered = f.is_numbered; number = f.number }
 
--- the fact of a count or group, whose numbers can be spelled
-pub record IsCountFact (f : FormFact) : Type 0 where
-  pub numbered : f.is_numbered ≡ true
+-- its numbers can be spelled
+pub record CanBeSaid (f : FormFact) : Type 0 where
   pub weight : IsId f.weight
   pub number : IsId f.number
 
@@ -45,3 +39,6 @@ facts_text fs = flat_map fact_text fs
 
 abbrev pub ids_text : ℕ → List Hint → List ℕ
 ids_text base hints = flat_map (λ h. number_text false (id_of base (name_of h))) hints
+
+abbrev pub numbers_text : List ℕ → List ℕ
+numbers_text ns = flat_map (number_text false) ns

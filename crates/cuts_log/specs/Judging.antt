@@ -6,7 +6,7 @@ use Rattle.cnf.specs.Instance.{IsInstance}
 use Rattle.cnf.specs.Literal.{Assignment, Literal}
 use Rattle.cnf.specs.Problem.{IsFeasible, cost_under}
 use Rattle.bound.specs.Weighted.{weighted_cnf}
-use Rattle.lrat_live.specs.Listed.{listed_from}
+use Rattle.lrat_live.specs.Listed.{Listed, listed_at, listed_from}
 use Rattle.lrat_log.specs.Axioms.{FollowByRup, IsOpenLogOver}
 use Rattle.lrat_log.specs.Log.{LogLine, axiom_line}
 use Rattle.lrat_log.specs.Steps.{StopsAtEmptyClause, added_count, adds_empty_clause, given_of}
@@ -18,6 +18,7 @@ use Rattle.cuts_log.specs.declared.standing.Standing.{Standing}
 use Rattle.cuts_log.specs.Events.{Event, Plain, Word, lines_of, text_of, tokens_at}
 use Rattle.cuts_log.specs.Events.{tokens_on}
 use Rattle.cuts_log.specs.Books.{IsBook}
+use Rattle.cuts_log.specs.Given.{FormulaState, formula_at}
 use Rattle.cuts_log.specs.Logs.{IsKept, LogState, events_of, problem_of}
 use Rattle.cuts_log.specs.Stands.{TakesWord, with_line}
 
@@ -29,6 +30,18 @@ pub record Follows (old : CutsState) (made : List (List Literal)) (s : Standing)
   pub forms : new.forms ≡ s.forms
   pub ended : new.ended ≡ s.ended
 
+-- each clause of the formula that the log has is live for the checker
+abbrev pub AreLive : FormulaState → Listed → Type 0
+AreLive f es =
+    (i : ℕ) (c : List Literal) → formula_at f i ≡ Some c → listed_at es i ≡ Some c
+
+-- the checker stands as the log does, over a formula with so many clauses
+pub record StandsAs (base : ℕ) (t : CutsState) (s : Standing) : Type 0 where
+  pub forms : t.forms ≡ s.forms
+  pub ended : t.ended ≡ s.ended
+  pub within : length (s.formula).clauses ≤ base
+  pub formula : AreLive s.formula t.live
+
 -- a cost up to what cuts hold for, or none
 abbrev pub IsUpTo : ℕ → Option ℕ → Type 0
 IsUpTo cost None = Unit {0}
@@ -38,8 +51,7 @@ IsUpTo cost (Some k) = k ≤ cost
 pub record IsRightPlain (o : Option ℕ) (base before : ℕ) (old : CutsState) (l : LogLine)
     (new : CutsState) : Type 0 where
   pub judged : judged_line o old (tokens_at base before (Plain l)) ≡ Ok new
-  pub forms : new.forms ≡ (with_line l (record { forms = old.forms; ended = old.ended })).forms
-  pub ended : new.ended ≡ (with_line l (record { forms = old.forms; ended = old.ended })).ended
+  pub stands : (s : Standing) → StandsAs base old s → StandsAs base new (with_line l s)
 
 -- so is each where it stands
 abbrev pub ArePlainRight : Option ℕ → ℕ → ℕ → CutsState → List Event → Type 0
@@ -50,11 +62,12 @@ ArePlainRight o base before s (Word w made ∷ es) = (t : CutsState)
     → judged_line o s (word_tokens w) ≡ Ok t
     → ArePlainRight o base (before + added_count (map axiom_line made)) t es
 
--- a line that was taken is right for each cost up to the one that it was taken for
+-- a line that was taken is right for each cost up to the one that it was taken for, where the
+-- clauses of the formula that the log has are live
 abbrev pub WordsAreRight : Type 0
 WordsAreRight = (k cost : ℕ) → k ≤ cost → (s : CutsState) (old new : Standing) (w : WordLine)
     (made : List (List Literal)) → s.forms ≡ old.forms → s.ended ≡ old.ended
-    → TakesWord cost old w made new
+    → AreLive old.formula s.live → TakesWord cost old w made new
     → (t : CutsState) × (judged_line (Some k) s (word_tokens w) ≡ Ok t) × Follows s made new t
 
 -- a log that has not failed is judged right line by line, for each cost up to that of its cuts,

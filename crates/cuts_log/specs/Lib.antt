@@ -1,6 +1,7 @@
 pub mod Events
 pub mod Outs
 pub mod Facts
+pub mod Given
 pub mod Stands
 pub mod Made
 pub mod Books

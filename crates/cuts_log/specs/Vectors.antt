@@ -8,9 +8,10 @@ use Rattle.cnf.specs.Literal.{positive as p, negative as n}
 use Rattle.lrat_log.specs.declared.lines.Hint.TheVariants.{Plain as PlainHint}
 use Rattle.lrat_log.specs.declared.lines.Kind.TheVariants.{Unit as UnitKind, Delete}
 use Rattle.lrat_log.specs.declared.lines.Name.TheVariants.{Formula, Added}
-use Rattle.lrat_read.specs.Words.{CountLine, FormLine, CutLine, BoundLine}
+use Rattle.lrat_read.specs.Words.{CountLine, GroupLine, FormLine, CutLine, BoundLine}
 use Rattle.cuts_log.specs.Events.{Event, Plain, Word, lines_of, text_of}
 use Rattle.cuts_log.specs.Facts.{is_worth}
+use Rattle.cuts_log.specs.Given.{FormulaState, all_live, deleted, formula_at}
 
 abbrev row : List ℕ → List ℕ
 row bs = bs ++ 10 ∷ []
@@ -45,6 +46,25 @@ behind : text_of 1 (Word (CountLine 1 (p 1 ∷ p 2 ∷ [])) ((n 1 ∷ p 3 ∷ []
     ≡ flat_map row (codes "count 1 1 2 0" ∷ codes "4 3 0 3 0" ∷ [])
 unfolding digits
 behind = refl
+
+grouped : text_of 3 (Word (GroupLine (n 1 ∷ p 2 ∷ []) (3 ∷ [])) [] ∷ [])
+    ≡ row (codes "group -1 2 0 3 0")
+unfolding digits
+grouped = refl
+
+-- of two clauses the first was deleted, and an addition
+abbrev left : FormulaState
+left = deleted (PlainHint (Formula 1) ∷ PlainHint (Added 1) ∷ [])
+    (all_live ((p 1 ∷ []) ∷ (n 2 ∷ []) ∷ []))
+
+deleted_one : formula_at left 1 ≡ None
+deleted_one = refl
+
+live_one : formula_at left 2 ≡ Some (n 2 ∷ [])
+live_one = refl
+
+none_behind : formula_at left 3 ≡ None
+none_behind = refl
 
 enough : is_worth (Ok (Some 3)) 3 ≡ true
 enough = refl

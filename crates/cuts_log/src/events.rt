@@ -7,7 +7,7 @@ ghost use Rattle.cuts_log.specs.Outs.{Says};
 ghost use Rattle.cuts_log.specs.Events.{Event, TraceState, lines_in, tokens_at};
 
 use crate::out::Out;
-use crate::spelling::{put_bound, put_count, put_cut, put_form, put_more, put_plain};
+use crate::spelling::{put_bound, put_count, put_cut, put_form, put_group, put_more, put_plain};
 use crate::trace::{Shows, Trace};
 use cnf::clause_list::ClauseList;
 use cnf::types::{Instance, Lit};
@@ -155,6 +155,34 @@ impl<'a> Happens for MoreLine<'a> {
 
     fn added(&self) -> usize {
         self.made.len()
+    }
+}
+
+/// A group of literals.
+#[derive(Drop)]
+pub(crate) struct GroupLine<'a> {
+    /// At most one of them is true.
+    pub(crate) inputs: &'a [Lit],
+    /// The clauses that say so.
+    pub(crate) ids: &'a [u64],
+}
+
+impl<'a> Happens for GroupLine<'a> {
+    ghost use Rattle.cuts_log.specs.Events.{Word};
+    ghost use Rattle.lrat_read.specs.Words.{GroupLine as SpelledGroup};
+
+    ghost event = { λ l. Word (SpelledGroup l.inputs.now l.ids.now) [] };
+
+    fn put<W: Write>(&self, out: &mut Out<W>, _base: u64, _before: u64) {
+        put_group(out, self.inputs, self.ids);
+    }
+
+    fn lines(&self) -> usize {
+        0
+    }
+
+    fn added(&self) -> usize {
+        0
     }
 }
 

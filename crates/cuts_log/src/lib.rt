@@ -4,6 +4,7 @@
 
 mod book;
 mod events;
+mod given;
 pub mod law;
 pub mod log;
 mod out;

@@ -9,7 +9,8 @@ ghost use Rattle.lrat_log.specs.Log.{IsLine, axiom_line, is_axiom};
 ghost use Rattle.lrat_log.specs.Axioms.{IsNewClause};
 
 use crate::book::Book;
-use crate::events::{BoundLine, CountLine, CutLine, FormLine, MoreLine, PlainLine};
+use crate::events::{BoundLine, CountLine, CutLine, FormLine, GroupLine, MoreLine, PlainLine};
+use crate::given::FormulaClauses;
 use crate::standing::Standing;
 use bound::weighted::{weighted_formula, weights};
 use cnf::clause_list::ClauseList;
@@ -24,7 +25,8 @@ use std::io::Write;
 use std::marker::Model;
 
 /// A log that is written as a certificate of forms and cuts while it grows. It keeps none of its
-/// lines: its memory is that of the counts and of the present form, and a block of text.
+/// lines: its memory is that of the formula, of the counts and of the present form, and a block of
+/// text.
 ///
 /// A line is right or refused. After a refusal nothing has changed. Where memory is refused or a
 /// write fails, the log has failed: it takes no line any more, and each call answers `AllocError`.
@@ -70,9 +72,12 @@ impl<W: Write + Drop> CutsLog<W> {
         let alloc = instance.allocator();
         let formula = weighted_formula(instance)?;
         let weights = weights(instance)?;
+        let copy = formula.clauses().try_clone()?;
+        let given = FormulaClauses::all_live(copy)?;
         let mut standing = Standing {
             forms: Forms::new(alloc, formula.vars(), &weights)?,
             ended: false,
+            formula: given,
         };
         standing.take_all(formula.clauses())?;
         standing.ended = false;
@@ -246,7 +251,8 @@ impl<W: Write + Drop> CutsLog<W> {
     }
 
     /// So many times the cost, less these facts, in place of the present form, if the state takes
-    /// it. Answers whether it does. The facts are those of counts: others are refused.
+    /// it. Answers whether it does. Facts are those of counts, of groups, and of the clauses of the
+    /// formula that are live, by their numbers from 1: others are refused.
     ///
     /// # Errors
     ///
@@ -260,8 +266,8 @@ impl<W: Write + Drop> CutsLog<W> {
         self.say_form(Some(scale), facts)
     }
 
-    /// The present form less these facts, if the state takes it. Answers whether it does. The facts
-    /// are those of counts: others are refused.
+    /// The present form less these facts, if the state takes it. Answers whether it does. Facts are
+    /// those that `form` takes: others are refused.
     ///
     /// # Errors
     ///
@@ -293,6 +299,34 @@ impl<W: Write + Drop> CutsLog<W> {
             return Ok(false);
         }
         self.book.note(&FormLine { scale, facts })?;
+        Ok(true)
+    }
+
+    /// A group of these literals, at most one of which is true, if the state takes it; its number
+    /// follows that of the last count or group. The ids are numbers from 1 of live clauses of the
+    /// formula, for the pairs (1, 2), (1, 3), (2, 3), (1, 4), .. in turn: each has no literals
+    /// but the negations of its pair. Answers whether it does.
+    ///
+    /// # Errors
+    ///
+    /// `AllocError` where memory was refused, or the log has failed. The lines stay as they were.
+    pub fn group(&mut self, inputs: &[Lit], ids: &[u64]) -> Result<bool, AllocError>
+        ensures taken { IfOk result (λ taken. taken ≡ true → Brings [] self.old self.new) }
+        ensures refused { IfOk result (λ taken. taken ≡ false → self.new ≡ self.old) }
+        ensures err { OnErr result (lines_seen self.new ≡ lines_seen self.old) }
+        ensures same { SameLog self.old self.new }
+    {
+        if self.book.has_failed() {
+            return Err(AllocError);
+        }
+        let Ok(is_taken) = self.standing.group(inputs, ids) else {
+            self.book.fail();
+            return Err(AllocError);
+        };
+        if !is_taken {
+            return Ok(false);
+        }
+        self.book.note(&GroupLine { inputs, ids })?;
         Ok(true)
     }
 
@@ -355,7 +389,7 @@ impl<W: Write + Drop> CutsLog<W> {
         if is_axiom(kind) || !self.book.has_room(1) {
             return Err(AllocError);
         }
-        self.standing.take_line(kind, lits)?;
+        self.standing.take_line(kind, lits, hints)?;
         self.book.note(&PlainLine { kind, lits, hints })?;
         Ok(())
     }

@@ -12,10 +12,10 @@ ghost use Rattle.lrat_log.specs.Texts.{hint_text, hints_text, literals_text, num
 ghost use Rattle.lrat_read.specs.WordTokens.{word_tokens};
 ghost use Rattle.lrat_read.specs.Words.{CountLine as SpelledCount, MoreLine as SpelledMore};
 ghost use Rattle.lrat_read.specs.Words.{FormLine as SpelledForm, CutLine as SpelledCut};
-ghost use Rattle.lrat_read.specs.Words.{BoundLine as SpelledBound};
+ghost use Rattle.lrat_read.specs.Words.{BoundLine as SpelledBound, GroupLine as SpelledGroup};
 ghost use Rattle.cuts_log.specs.Outs.{Says};
 ghost use Rattle.cuts_log.specs.Events.{Plain, tokens_at};
-ghost use Rattle.cuts_log.specs.Facts.{fact_text, ids_text, scale_text};
+ghost use Rattle.cuts_log.specs.Facts.{fact_text, ids_text, numbers_text, scale_text};
 ghost use Rattle.cuts_log.specs.Facts.{spelled};
 
 use crate::out::Out;
@@ -91,6 +91,26 @@ pub(crate) fn put_more<W: Write>(out: &mut Out<W>, number: u64)
     out.put(b"more ");
     put_number(out, number);
     out.put(b"0\n");
+}
+
+/// Puts a group of these literals, as the clauses with these ids say.
+pub(crate) fn put_group<W: Write>(out: &mut Out<W>, inputs: &[Lit], ids: &[u64])
+    ensures { Says out.old (spaced (word_tokens (SpelledGroup inputs.now ids.now))) out.new }
+{
+    out.put(b"group ");
+    put_lits(out, inputs);
+    out.put(b"0 ");
+    put_numbers(out, ids);
+    out.put(b"0\n");
+}
+
+/// Puts the numbers, each with a space behind it.
+fn put_numbers<W: Write>(out: &mut Out<W>, numbers: &[u64])
+    ensures { Says out.old (numbers_text numbers.now) out.new }
+{
+    for number in numbers {
+        put_number(out, *number);
+    }
 }
 
 /// Puts a form of this scale, or further facts where there is none.

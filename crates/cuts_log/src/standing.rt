@@ -1,45 +1,33 @@
 // What the lines of a log leave for the lines that begin with a word.
 ghost use Rattle.std.specs.Prelude.{◌≡◌, ◌<◌, ℕ, [], ◌∷◌, All, true, false, map};
-ghost use Rattle.std.specs.Prelude.{IfSome, IfOk, List, OnOk, OnErr};
-ghost use Rattle.lrat_log.specs.declared.lines.Hint.{Hint};
+ghost use Rattle.std.specs.Prelude.{IfSome, IfOk, OnOk, OnErr};
 ghost use Rattle.cnf.specs.declared.limits.TheConstants.{NUMBER_LIMIT};
-ghost use Rattle.lrat_read.specs.Words.{CountLine, MoreLine, FormLine, CutLine, BoundLine};
+ghost use Rattle.lrat_read.specs.Words.{CountLine, MoreLine, GroupLine, FormLine, CutLine};
+ghost use Rattle.lrat_read.specs.Words.{BoundLine};
 ghost use Rattle.cnf.specs.Lrat.{IsId};
 ghost use Rattle.forms.specs.Forms.{heard};
 ghost use Rattle.std.specs.List.{AllByRecursion};
-ghost use Rattle.cuts_log.specs.Facts.{IsCountFact, is_worth, spelled};
+ghost use Rattle.cuts_log.specs.Facts.{CanBeSaid, is_worth, spelled};
 
+use crate::given::FormulaClauses;
 use cnf::clause_list::ClauseList;
 use cnf::limits::NUMBER_LIMIT;
 use cnf::types::Lit;
 use forms::faults::LineFault;
 use forms::state::Forms;
-use forms::table::ClauseTable;
 use forms::types::NamedFact;
-use lrat_log::lines::Kind;
+use lrat_log::lines::{Hint, Kind};
 use std::alloc::AllocError;
 
-/// No clause: facts of clauses are not there.
-#[derive(Drop)]
-pub(crate) struct NoClauses;
-
-impl ClauseTable for NoClauses {
-    ghost use Rattle.cuts_log.specs.Facts.{no_clause};
-
-    ghost at = { λ _. no_clause };
-
-    fn find(&self, _id: u64) -> Option<&[Lit]> {
-        None
-    }
-}
-
-/// The state of forms, and whether the empty clause was the last one that came.
+/// The state of forms, whether the empty clause was the last one that came, and the formula.
 #[derive(Drop)]
 pub(crate) struct Standing {
     /// What the lines leave; it is the checker's.
     pub(crate) forms: Forms,
     /// Whether the last clause that came is the empty one: no line may follow.
     pub(crate) ended: bool,
+    /// The clauses of the formula that are live.
+    pub(crate) formula: FormulaClauses,
 }
 
 /// Whether what a line is worth is at least this much.
@@ -52,28 +40,37 @@ fn is_worth(worth: Result<Option<u64>, LineFault>, least: u64) -> bool
     }
 }
 
-/// Whether a form line can say the scale and the facts: they are below 2^62, and the facts are
-/// those of counts.
+/// Whether a form line can say the scale and the facts: they are below 2^62.
 fn can_say(scale: Option<u64>, facts: &[NamedFact]) -> bool
     ensures scale { result ≡ true → IfSome scale (λ d. d < NUMBER_LIMIT) }
-    ensures facts { result ≡ true → All IsCountFact facts.now }
+    ensures facts { result ≡ true → All CanBeSaid facts.now }
 {
     let is_small = match scale {
         Some(scale) => scale < NUMBER_LIMIT,
         None => true,
     };
-    is_small && facts.iter().all(|fact| is_count_fact(fact))
+    is_small && facts.iter().all(|fact| can_be_said(fact))
 }
 
-/// Whether it is the fact of a count, and its numbers can be spelled.
-fn is_count_fact(fact: &NamedFact) -> bool
-    ensures { result ≡ true → IsCountFact fact.now }
+/// Whether the numbers of a fact can be spelled.
+fn can_be_said(fact: &NamedFact) -> bool
+    ensures { result ≡ true → CanBeSaid fact.now }
 {
-    fact.is_numbered
-        && 0 < fact.weight
-        && fact.weight < NUMBER_LIMIT
-        && 0 < fact.number
-        && fact.number < NUMBER_LIMIT
+    is_id(fact.weight) && is_id(fact.number)
+}
+
+/// Whether a line can have this number: from 1, below 2^62.
+fn is_id(number: u64) -> bool
+    ensures { result ≡ true → IsId number }
+{
+    0 < number && number < NUMBER_LIMIT
+}
+
+/// Whether a line can have these numbers.
+fn are_ids(numbers: &[u64]) -> bool
+    ensures { result ≡ true → All IsId numbers.now }
+{
+    numbers.iter().all(|number| is_id(*number))
 }
 
 /// Says that the variables of literals are from 1 and can be spelled; it does nothing.
@@ -124,17 +121,24 @@ impl Standing {
         Ok(())
     }
 
-    /// The clause that a line of this kind adds is live from now on, if it adds one.
+    /// The clause that a line of this kind adds is live from now on, if it adds one; those of the
+    /// formula that one names which deletes are live no more.
     ///
     /// # Errors
     ///
     /// `AllocError` where memory was refused; then nothing has changed.
-    pub(crate) fn take_line(&mut self, kind: Kind, clause: &[Lit]) -> Result<(), AllocError>
-        ensures ok { (hints : List Hint) → OnOk result (self.new ≡ with_line
-            (record { kind = kind; clause = clause.now; hints = hints }) self.old) }
+    pub(crate) fn take_line(
+        &mut self,
+        kind: Kind,
+        clause: &[Lit],
+        hints: &[Hint],
+    ) -> Result<(), AllocError>
+        ensures ok { OnOk result (self.new ≡ with_line
+            (record { kind = kind; clause = clause.now; hints = hints.now }) self.old) }
         ensures err { OnErr result (self.new ≡ self.old) }
     {
         if kind.is_delete() {
+            self.formula.delete(hints);
             return Ok(());
         }
         self.take(clause)
@@ -233,7 +237,26 @@ impl Standing {
         if self.ended || !can_say(scale, facts) {
             return Ok(false);
         }
-        let fault = self.forms.form(&NoClauses, scale, facts)?;
+        let fault = self.forms.form(&self.formula, scale, facts)?;
+        Ok(fault.is_none())
+    }
+
+    /// A group of these literals, at most one of which is true, as clauses of the formula with
+    /// these ids say, if it is right. Answers whether it is.
+    ///
+    /// # Errors
+    ///
+    /// `AllocError` where memory was refused; then nothing is said of what is left.
+    pub(crate) fn group(&mut self, inputs: &[Lit], ids: &[u64]) -> Result<bool, AllocError>
+        ensures taken { IfOk result (λ taken. taken ≡ true → (cost : ℕ)
+            → TakesWord cost self.old (GroupLine inputs.now ids.now) [] self.new) }
+        ensures refused { IfOk result (λ taken. taken ≡ false → self.new ≡ self.old) }
+    {
+        if self.ended || !are_ids(ids) {
+            return Ok(false);
+        }
+        limits(inputs);
+        let fault = self.forms.group(&self.formula, inputs, ids)?;
         Ok(fault.is_none())
     }
 

@@ -12,13 +12,15 @@ use Rattle.cuts_log.specs.declared.standing.Standing.{Standing}
 use Rattle.cuts_log.specs.Events.{Event, Plain, Word, lines_of}
 use Rattle.cuts_log.specs.Logs.{IsKept, LogState, events_of, problem_of}
 use Rattle.cuts_log.specs.Stands.{TakesAll, stand_of, with_clause, with_clauses, with_line}
+use Rattle.cuts_log.specs.Stands.{without}
 
 -- an addition or a deletion
 line_open : (l : LogLine) (s : Standing) → adds_empty_clause l ≡ false → s.ended ≡ false
     → (with_line l s).ended ≡ false
 line_open l s none going =
     elim (cases_Bool (is_delete l.kind)) [
-      | inl d ↦ ap (λ (x : Standing). x.ended) (cond-true (is_delete l.kind) s _ d) ∙ going
+      | inl d ↦ ap (λ (x : Standing). x.ended)
+          (cond-true (is_delete l.kind) (without l.hints s) _ d) ∙ going
       | inr d ↦
           let kept : with_line l s ≡ with_clause l.clause s =
           cond-false (is_delete l.kind) _ _ d in

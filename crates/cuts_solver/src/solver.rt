@@ -203,7 +203,7 @@ impl<W: Write + Drop> CutsSolver<W> {
         self.log.has_write_failed()
     }
 
-    /// How many literals the searches have assigned, those that have a value now left out: a measure
+    /// How many literals the searches have assigned, but for those with a value now: a measure
     /// of work.
     pub fn propagations(&self) -> u64 {
         self.search.policy.propagations()
@@ -684,6 +684,29 @@ impl<W: Write + Drop> CutsSolver<W> {
         }
         self.failed = true;
         let is_taken = self.log.form_more(facts)?;
+        self.failed = false;
+        Ok(is_taken)
+    }
+
+    /// A group of these literals, at most one of which is true; its number follows that of the last
+    /// count or group. The ids are numbers of clauses of the formula that are live, one for each
+    /// pair, as `CutsLog::group` has them. False where the log refuses it, and where the empty
+    /// clause was added.
+    ///
+    /// # Errors
+    ///
+    /// Those of `search`.
+    pub fn group(&mut self, inputs: &[Lit], ids: &[u64]) -> Result<bool, AllocError>
+        ensures taken { IfOk result (λ taken. taken ≡ true
+            → Brings [] self.old.log self.new.log) }
+        ensures refused { IfOk result (λ taken. taken ≡ false → self.new ≡ self.old) }
+        ensures same { SameSolver self.old self.new }
+    {
+        if !self.is_open()? {
+            return Ok(false);
+        }
+        self.failed = true;
+        let is_taken = self.log.group(inputs, ids)?;
         self.failed = false;
         Ok(is_taken)
     }

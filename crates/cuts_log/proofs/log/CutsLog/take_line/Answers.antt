@@ -16,7 +16,7 @@ invariant_of-self-in_err-note g c =
     let f = c.in_err-note.ensures.err in
     kept_next _ (Plain line) c.take_line.new.self c.note.new.self c.self.invariant
     (c.has_room.ensures.works room)
-    (c.requires.line, own, c.in_ok-take_line.ensures.ok c.args.hints.now) f.seen
+    (c.requires.line, own, c.in_ok-take_line.ensures.ok) f.seen
     f.base
 
 pub invariant_of-self-2 : goal.invariant_of-self-2
@@ -31,5 +31,5 @@ invariant_of-self-2 g c =
     let n = c.in_ok-note.ensures.ok in
     kept_next _ (Plain line) c.take_line.new.self c.note.new.self c.self.invariant
     (c.has_room.ensures.works room)
-    (c.requires.line, own, c.in_ok-take_line.ensures.ok c.args.hints.now) n.seen
+    (c.requires.line, own, c.in_ok-take_line.ensures.ok) n.seen
     n.base

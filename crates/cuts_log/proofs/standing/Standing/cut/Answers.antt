@@ -12,6 +12,6 @@ returns-clause-taken c = λ _.
     let worth : is_worth (cut_line c.args.lits.now c.args.self.now.forms) c.args.cost ≡ true =
     ap (λ r. is_worth r c.args.cost) (sym c.cut.ensures.worth) ∙ sym c.is_worth.ensures ∙ yes in
     let with : Forms → Standing =
-    λ f. with_clause c.args.lits.now (record { forms = f; ended = c.args.self.now.ended }) in
+    λ f. with_clause c.args.lits.now (record c.args.self.now { forms = f }) in
     cut_taken c.args.self.now c.take.new.self c.args.lits.now c.args.cost c.if-self.false
     c.limits.ensures worth (c.in_ok-take.ensures.ok ∙ ap with c.cut.ensures.unchanged)
