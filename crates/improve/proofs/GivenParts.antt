@@ -8,7 +8,7 @@ use Rattle.std.specs.List.{AllByRecursion, flat_map}
 use Rattle.std.specs.declared.vec.Vec.{Vec}
 use Rattle.std.specs.declared.alloc.Global.{Global}
 use Rattle.std.proofs.lemmas.Grind.{flat_map-append}
-use Rattle.std.proofs.lemmas.List.{length-map, drop-map, take-map, take_rest}
+use Rattle.std.proofs.lemmas.List.{length-map}
 use Rattle.std.proofs.Math.Seq.{drop-append_seam, take-append_seam}
 use Rattle.std.proofs.lemmas.List.Elements.{recursion_from_All, All-from_recursion, All-weaker}
 use Rattle.cnf.specs.Literal.{Literal}
@@ -26,10 +26,10 @@ use Rattle.lrat_log.proofs.Laws.{small_ids}
 use Rattle.lrat_log.proofs.Laws.{base_of}
 use Rattle.bound.specs.Bound.{fixed_clauses, comparator_for}
 use Rattle.cdcl.specs.Solving.{given_to}
-use Rattle.improve.specs.Improving.{first_subset, weaker_among}
+use Rattle.improve.specs.Weaker.{first_subset, weaker_among}
 use Rattle.improve.specs.Bounds.{LogSolver, IsUsable, IsOver}
 use Rattle.improve.specs.declared.bounds.Bounds.{Bounds}
-use Rattle.improve_weaker.proofs.Laws.{first_bounds}
+use Rattle.improve.proofs.FirstSubsets.{first_bounds}
 
 last_part : (a b c : List (List Literal)) (n : ℕ) → n ≡ length a + length b
     → drop n (a ++ (b ++ c)) ≡ c
@@ -45,12 +45,11 @@ middle_part a b c n e =
     ap (take n) (drop-append_seam a (b ++ c)) ∙ ap (λ m. take m (b ++ c)) e ∙ take-append_seam b c
 
 pub parts_weaker : (given : Given) (fixed last : ℕ) (a b c : List (List Literal))
-    (before end : Given)
     → clauses_in given ≡ a ++ (b ++ c) → length a ≡ fixed → length c ≡ last
-    → before ≡ take (length given - last - fixed) (drop fixed given)
-    → end ≡ take (length given - (length given - last)) (drop (length given - last) given)
-    → weaker_among (fixed + 1) (clauses_in end) (clauses_in before) ≡ weaker_among (fixed + 1) c b
-parts_weaker given fixed last a b c before end e f g is_before is_end =
+    → weaker_among (fixed + 1) (drop (length given - last) (clauses_in given))
+    (take (length given - last - fixed) (drop fixed (clauses_in given)))
+    ≡ weaker_among (fixed + 1) c b
+parts_weaker given fixed last a b c e f g =
     let len : length given ≡ length a + length b + length c =
     omega (
       arith,
@@ -59,21 +58,12 @@ parts_weaker given fixed last a b c before end e f g is_before is_end =
       length-append a (b ++ c),
       length-append b c,
     ) in
-    let tail : clauses_in end ≡ c =
-    ap clauses_in (is_end ∙ take_rest given (length given - last))
-    ∙ sym (drop-map (λ (x : Name × List Literal). x.1) (length given - last) given)
-    ∙ ap (drop (length given - last)) e
-    ∙ last_part a b c (length given - last) (omega arith) in
-    let middle : clauses_in before ≡ b =
-    ap clauses_in is_before
-    ∙ sym
-    (take-map (λ (x : Name × List Literal). x.1) (length given - last - fixed) (drop fixed given))
-    ∙ ap (take (length given - last - fixed))
-    (sym (drop-map (λ (x : Name × List Literal). x.1) fixed given) ∙ ap (drop fixed) e
-    ∙ ap (λ n. drop n (a ++ (b ++ c))) (sym f))
-    ∙ middle_part a b c (length given - last - fixed) (omega arith) in
-    ap (λ x. weaker_among (fixed + 1) x (clauses_in before)) tail
-    ∙ ap (λ x. weaker_among (fixed + 1) c x) middle
+    let end = length given - last in
+    ap (λ x. weaker_among (fixed + 1) (drop end x) (take (end - fixed) (drop fixed x))) e
+    ∙ ap (λ x. weaker_among (fixed + 1) x (take (end - fixed) (drop fixed (a ++ (b ++ c)))))
+    (last_part a b c end (omega arith))
+    ∙ ap (λ n. weaker_among (fixed + 1) c (take (end - fixed) (drop n (a ++ (b ++ c))))) (sym f)
+    ∙ ap (weaker_among (fixed + 1) c) (middle_part a b c (end - fixed) (omega arith))
 
 -- ids at a lower base
 small_at : (a b : ℕ) (n : Name) → a ≤ b → id_of b n < 2 ^ 62 → id_of a n < 2 ^ 62

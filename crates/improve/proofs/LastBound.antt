@@ -24,7 +24,8 @@ use Rattle.bound.specs.Bound.{bound_as, fixed_clauses, comparator_for}
 use Rattle.bound.proofs.Laws.{covers_larger, without_bound, bound_is_formula}
 use Rattle.lrat_log.proofs.Laws.{numbered_right, open_rebased, learned_rebased}
 use Rattle.cdcl.specs.Solving.{given_to}
-use Rattle.improve.specs.Improving.{AreFalling, first_subset, weaker_among}
+use Rattle.improve.specs.Improving.{AreFalling}
+use Rattle.improve.specs.Weaker.{first_subset, weaker_among}
 use Rattle.improve.specs.Bounds.{IsOver}
 use Rattle.improve.specs.declared.bounds.Bounds.{Bounds}
 use Rattle.cnf.specs.Lrat.{IsId}

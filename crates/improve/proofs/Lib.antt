@@ -4,6 +4,7 @@ mod BitLaws
 mod Comparators
 mod FrozenOutputs
 mod OverBounds
+mod FirstSubsets
 mod GivenParts
 mod LastBound
 mod RightEnds

@@ -21,8 +21,8 @@ use Rattle.bound.proofs.Laws.{says_cheaper}
 use Rattle.bound.proofs.Laws.{clauses_few}
 use Rattle.cdcl.specs.Solving.{given_to}
 use Rattle.improve.specs.Improving.{IsSolution, EndsWith, AreFalling, IsAcceptedOver, IsHardLog}
-use Rattle.improve.specs.Improving.{IsRightFound, BeginsWithWeaker, but_last, first_subset}
-use Rattle.improve.specs.Improving.{weaker_for, weaker_among}
+use Rattle.improve.specs.Improving.{IsRightFound, BeginsWithWeaker, but_last, weaker_for}
+use Rattle.improve.specs.Weaker.{first_subset, weaker_among}
 use Rattle.improve.specs.Bounds.{IsOver, BoundLog}
 use Rattle.improve.specs.declared.bounds.Bounds.{Bounds}
 use Rattle.improve.specs.declared.found.Found.TheVariants.{Optimum, Best}

@@ -20,7 +20,7 @@ use Rattle.adder.specs.declared.profiles.Profile.{Profile}
 use Rattle.bound.specs.Bound.{hard_cnf, bound_as, fixed_clauses, comparator_for}
 use Rattle.cdcl_order.specs.Budgets.{BudgetState, left_of}
 use Rattle.improve.specs.Progress.{Telling}
-pub use Rattle.improve_weaker.specs.Weaker.{first_subset, weaker_among}
+use Rattle.improve.specs.Weaker.{weaker_among}
 use Rattle.improve.specs.declared.found.Work.{Work}
 use Rattle.improve.specs.declared.found.Found.{Found}
 use Rattle.improve.specs.declared.found.Found.TheVariants.{Optimum, Unsat, Best, Nothing}

@@ -15,11 +15,13 @@ ghost use Rattle.bound.specs.Bound.{bound_as};
 ghost use Rattle.cdcl.specs.Solving.{IsFrozen};
 ghost use Rattle.improve.specs.Bounds.{IsUsable, Gives, GivesAll};
 ghost use Rattle.improve.specs.Bounds.{IsOver, IsOverFixed, HasNoBound, IsNext, BoundLog};
-ghost use Rattle.improve.specs.Improving.{AreFalling, EndsWith, weaker_among};
+ghost use Rattle.improve.specs.Improving.{AreFalling, EndsWith};
+ghost use Rattle.improve.specs.Weaker.{weaker_among};
 ghost use Rattle.cdcl_order.specs.Budgets.{WaivesAs};
 
 use crate::frozen::freeze_outputs;
 use crate::solutions::{Solution, price};
+use crate::weaker::pair_with_subsets;
 use adder::building::network_as;
 use adder::networks::Network;
 use adder::profiles::Profile;
@@ -32,7 +34,6 @@ use cdcl::solver::Solver;
 use cdcl::watch::SearchWatch;
 use cnf::limits::NUMBER_LIMIT;
 use cnf::types::{Clause, Instance, Lit};
-use improve_weaker::weaker::pair_with_subsets;
 use lrat_log::lines::{Name, Number};
 use lrat_log::log::Log;
 use lrat_log::rebase::rebase;
@@ -49,7 +50,7 @@ pub struct Bounds {
     /// It was given the formula without a bound, then the comparator clauses of each bound, all
     /// under the numbers from 1 on.
     pub solver: Solver<Log>,
-    /// What adds up the weights. The variables of its outputs are frozen: comparators speak of them.
+    /// What adds up the weights. The variables of its outputs are frozen: comparators name them.
     pub network: Network,
     /// How soft clauses are relaxed.
     pub profile: Profile,

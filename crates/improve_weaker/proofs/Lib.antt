@@ -1,3 +1,0 @@
-mod SubsetSearch
-mod SubsetRows
-pub mod Laws

@@ -1,2 +1,0 @@
-pub mod Weaker
-pub mod Firsts
