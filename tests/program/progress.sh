@@ -54,7 +54,7 @@ ok 'the last line is of the end' grep -q ', 100.00 % of the effort spent, ' <<< 
 call solve --profile 1 --progress text
 ok 'no file, no word of it' [ -z "$(grep certificate <<< "$err")" ]
 ok 'profile 1 tells nothing of what is needed at least' [ -z "$(grep 'at least' <<< "$err")" ]
-awk -v family=set_cover -v size=120 -v seed=1 -f bench/maxsat.awk > "$work/text"
+awk -v family=set_cover -v size=300 -v seed=1 -f bench/maxsat.awk > "$work/text"
 plain --profile 3 --conflicts 500
 call solve --profile 3 --conflicts 500 --proof proof --progress text
 same 'profile 3'

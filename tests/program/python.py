@@ -510,7 +510,7 @@ def lies(program):
     expect("the files stay", ran.stdout, "YES\n")
     expect("the best solution stays", (folder / "new" / "files" / "instance.best").read_text(), "o 3\ns OPTIMUM FOUND\nv 10\n")
     going = folder / "going"
-    found = pigeons(5).solve(program=program, conflicts=120, folder=going)
+    found = pigeons(5).solve(program=program, profile=1, conflicts=60, folder=going)
     kept = (going / "instance.best").read_text()
     expect("what a small effort leaves", (found.is_optimum, kept.startswith(f"o {found.cost}\ns SATISFIABLE\n")), (False, True))
     raised(lambda: pigeons(5).solve(program=program, conflicts=0, folder=going, resume=True))

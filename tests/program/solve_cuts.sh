@@ -93,7 +93,7 @@ for path in examples/{roster,bothsigns,packages,timetable,vcover}.wcnf tests/pro
 done
 
 # A search that does not end: what is found is right, and so is each beginning of its certificate.
-awk -v family=set_cover -v size=120 -v seed=1 -f bench/maxsat.awk > "$work/text"
+awk -v family=set_cover -v size=300 -v seed=1 -f bench/maxsat.awk > "$work/text"
 call solve --profile 3 --time-limit 1 --proof proof --best best text
 printf '%s\n' "$out" > "$work/result"
 ok 'the time runs out' [ "$status$err" = 10 ]
@@ -179,7 +179,7 @@ done
 ok 'killed at forty moments' [ $right = 40 ]
 
 # Each lower bound that a search tells is proved by what stands up to it in the certificate.
-awk -v family=set_cover -v size=120 -v seed=1 -f bench/maxsat.awk > "$work/text"
+awk -v family=set_cover -v size=300 -v seed=1 -f bench/maxsat.awk > "$work/text"
 call solve --profile 3 --conflicts 500 --proof proof text
 ok 'a search that does not end' [ "$status" = 10 ]
 count=0

@@ -19,7 +19,7 @@ for profile in 1 2 3; do
 done
 
 # Sets that cover much, whose optimum is far away, and pigeons that have no holes.
-awk -v family=set_cover -v size=120 -v seed=1 -f bench/maxsat.awk > "$work/hard"
+awk -v family=set_cover -v size=300 -v seed=1 -f bench/maxsat.awk > "$work/hard"
 python3 - << 'PY' > "$work/pigeons"
 import itertools
 for pigeon in range(13):
@@ -55,7 +55,7 @@ call solve --time-limit 1e-9 --proof proof pigeons
 expect 'at the first look' 0 's UNKNOWN' ''
 call solve --time-limit 0.5 pigeons
 expect 'no solution in time' 0 's UNKNOWN' ''
-call solve --time-limit 0.5 --profile 3 --progress pigeons
+call solve --time-limit 0.5 --profile 2 --progress pigeons
 ok 'with progress' [ "$status $out $(grep -vc ' s, no solution yet, ' <<< "$err")" = '0 s UNKNOWN 0' ]
 
 # What is kept is kept.

@@ -6,7 +6,7 @@ source "$(dirname "$0")/../lib"
 mkdir -p "$work/bin" "$work/tests" "$work/crates"/{low,high,wmax}/src "$work/crates/low"/must-fail{,-more} "$work/crates/high/must-fail-more"
 cp tests/gate tests/further "$work/tests"
 cp -r tools "$work"
-printf '%s\n' 'low:' 'high: low' 'wmax: high' 'render_bench:' 'propagate_bench:' > "$work/crates.txt"
+printf '%s\n' 'low:' 'high: low' 'wmax: high' {render,propagate,relaxation}_bench: > "$work/crates.txt"
 echo 'Handles allowed: none.' > "$work/HANDLES"
 echo first > "$work/crates/low/must-fail/plain.edit"
 for edit in a b c d e f g h i j; do echo $edit > "$work/crates/low/must-fail-more/$edit.edit"; done
@@ -22,7 +22,7 @@ if [ "$PROVES" = no ]; then
     echo '0 passed, 2 failed'
     exit 1
 fi
-for program in wmax render_bench propagate_bench; do
+for program in wmax {render,propagate,relaxation}_bench; do
     mkdir -p crates/$program/out
     printf '#!/bin/sh\necho new\n' > crates/$program/out/$program
     chmod +x crates/$program/out/$program
@@ -49,7 +49,7 @@ ok 'the status' [ "$status$err" = 0 ]
 ok 'the last line' [ "$(tail -n 1 <<< "$out")" = '12 passed, 0 failed' ]
 ok 'one further edit of the crate whose turn it is' [ "$(cat "$JOURNAL")" = $'high/must-fail/further-other.edit\nlow/must-fail/plain.edit' ]
 ok 'the scripts run on the new program' [ "$(cat "$JOURNAL.ran")" = new ]
-ok 'the programs are in the checkout' [ "$("$work/crates/wmax/out/wmax")$("$work/crates/render_bench/out/render_bench")$("$work/wmax")" = newnewnew ]
+ok 'the programs are in the checkout' [ "$(for it in "$work"/{wmax,crates/*/out/*}; do "$it"; done)" = $'new\nnew\nnew\nnew\nnew' ]
 ok 'no edit stays in the checkout' [ "$(ls "$work"/crates/*/must-fail)" = plain.edit ]
 ok 'the copy is gone' [ ! -e "$(cat "$JOURNAL.where")" ]
 (cd "$work" && git init -q . && git -c user.name=a -c user.email=a@b.c commit -q --allow-empty -m one) 2> /dev/null
@@ -60,7 +60,7 @@ PROVES=yes SCRIPTS='6 passed, 1 failed' gated
 ok 'a script that fails' [ "$status$(tail -n 1 <<< "$out")" = '111 passed, 1 failed' ]
 PROVES=no SCRIPTS= gated
 ok 'a proof that fails: the status' [ "$status" = 1 ]
-ok 'a proof that fails: the last line' [ "$(tail -n 1 <<< "$out")" = '0 passed, 5 failed' ]
+ok 'a proof that fails: the last line' [ "$(tail -n 1 <<< "$out")" = '0 passed, 6 failed' ]
 ok 'a proof that fails: no script runs on an old program' [ ! -e "$JOURNAL.ran" ]
 
 totals

@@ -7,9 +7,10 @@
 // taken off again. A cut has the first costly literals of the trail that are too much together,
 // without those that it can do without. Its length is what the certificate pays for, and those of
 // high levels are left out first.
-ghost use Rattle.std.specs.Prelude.{⊤};
+ghost use Rattle.std.specs.Prelude.{◌<◌, ⊤};
+ghost use Rattle.cnf.specs.declared.limits.TheConstants.{VARIABLE_LIMIT};
 
-use crate::desk::Desk;
+use crate::desk::{Desk, DeskFault};
 use crate::tables::{at, set};
 use cdcl::guide::{Advice, Guide};
 use cdcl_search::search::Search;
@@ -124,6 +125,42 @@ impl BoundGuide {
         }
         Ok(levels)
     }
+}
+
+/// Fixes false what is too dear beside the least value of the present form; where that is too much
+/// itself, nothing is cheaper than the best solution.
+pub(crate) fn fix_dear<D: Desk>(desk: &mut D) -> Result<(), DeskFault>
+    ensures follows { (first : D) → D.follows first desk.old → D.follows first desk.new }
+{
+    let Some(limit) = limit_below_best(desk) else {
+        desk.cut(&[])?;
+        return Ok(());
+    };
+    let weights = open_weights(desk, limit.saturating_add(1))?;
+    for variable in 1..desk.forms().variables().saturating_add(1) {
+        fix_variable(desk, &weights, limit, variable)?;
+    }
+    Ok(())
+}
+
+/// Fixes a literal of this variable false, if its weight is above the limit.
+fn fix_variable<D: Desk>(
+    desk: &mut D,
+    weights: &[u64],
+    limit: u64,
+    variable: u32,
+) -> Result<(), DeskFault>
+    requires { (0 < variable) × (variable < VARIABLE_LIMIT) }
+    ensures follows { (first : D) → D.follows first desk.old → D.follows first desk.new }
+{
+    let lit = Lit::new(variable, false);
+    if at(weights, lit.index()) > limit {
+        desk.cut(&[lit.negation()])?;
+    }
+    if at(weights, lit.negation().index()) > limit {
+        desk.cut(&[lit])?;
+    }
+    Ok(())
 }
 
 /// How much of the present form may be true, beside its least value, in what is cheaper than the

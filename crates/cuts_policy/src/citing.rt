@@ -56,6 +56,16 @@ impl Citing {
         Ok(())
     }
 
+    /// The facts of the cores' form.
+    pub(crate) fn facts(&self) -> &[NamedFact] {
+        &self.facts
+    }
+
+    /// Another form is the present one.
+    pub(crate) fn forget(&mut self) {
+        self.present = Present::None;
+    }
+
     /// The form of the cores becomes the present one, with all facts so far; answers whether it is.
     pub(crate) fn cite_cores<D: Desk>(&mut self, desk: &mut D) -> Result<bool, DeskFault>
         ensures follows { (first : D) → D.follows first desk.old → D.follows first desk.new }

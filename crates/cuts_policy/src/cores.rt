@@ -45,7 +45,7 @@ pub(crate) struct Cores {
     // What may be assumed false.
     items: Items,
     // The cores so far, and their form.
-    counting: Counting,
+    pub(crate) counting: Counting,
     // What has at least so much as its rest is assumed false; 0 before the first stratum.
     threshold: u64,
     // What the cores are worth together: no solution costs less.

@@ -4,7 +4,7 @@ ghost use Rattle.std.specs.Prelude.{◌≡◌, ℕ, ◌≤◌, true, IsTrue};
 
 use cdcl::assumptions::Assumptions;
 use cdcl::guide::Guide;
-use cnf::types::Lit;
+use cnf::types::{Formula, Lit};
 use forms::state::Forms;
 use forms::types::NamedFact;
 use improve_local::kinds::WalkKind;
@@ -88,6 +88,14 @@ pub trait Desk: Drop {
     /// What memory comes from.
     fn allocator(&self) -> Global;
 
+    /// The clauses that lines name by their numbers, from 1: the hard ones, and the soft ones with
+    /// their relaxation variables, but for those of one literal, which need none.
+    ///
+    /// # Errors
+    ///
+    /// `AllocError` where memory was refused.
+    fn formula(&self) -> Result<Formula, AllocError>;
+
     /// The counts and the present form.
     fn forms(&self) -> &Forms;
 
@@ -106,7 +114,7 @@ pub trait Desk: Drop {
     /// How many clauses were learned or cut.
     fn learned(&self) -> u64;
 
-    /// How many literals the searches have assigned, those that have a value now left out: a measure
+    /// How many literals the searches have assigned, but for those with a value now: a measure
     /// of work.
     fn propagations(&self) -> u64;
 
@@ -161,6 +169,12 @@ pub trait Desk: Drop {
 
     /// One more output of the count with this number, if there can be one: that output.
     fn more(&mut self, number: u64) -> Result<Option<Lit>, DeskFault>
+        ensures follows { (first : Self) → follows first self.old → follows first self.new };
+
+    /// A group of these literals, of which at most one is true, as the clauses with these numbers
+    /// say for the pairs (1, 2), (1, 3), (2, 3), (1, 4), .. in turn. The answer is its number, one
+    /// above that of the last count or group, if it is right.
+    fn group(&mut self, inputs: &[Lit], ids: &[u64]) -> Result<Option<u64>, DeskFault>
         ensures follows { (first : Self) → follows first self.old → follows first self.new };
 
     /// So many times the cost, less these facts, in place of the present form; whether that is

@@ -1,5 +1,6 @@
-//! What the search by forms and cuts does next: lower bounds by cores, and solutions below the best
-//! one, in turns, with walks between them. Nothing that is promised of the search rests on it.
+//! What the search by forms and cuts does next: lower bounds by cores and by linear relaxations,
+//! and solutions below the best one, in turns, with walks between them. Nothing that is promised of
+//! the search rests on it.
 #![tactic(auto)]
 
 mod bounding;
@@ -8,6 +9,7 @@ mod cores;
 mod counting;
 pub mod desk;
 mod items;
+mod linear_bounds;
 pub mod rounds;
 mod shortening;
 mod tables;

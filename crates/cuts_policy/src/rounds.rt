@@ -15,6 +15,7 @@ ghost use Rattle.std.specs.Prelude.{◌≡◌, ◌⊎◌, OnOk};
 use crate::bounding::BoundGuide;
 use crate::cores::{Cores, Course};
 use crate::desk::{Descent, Desk, DeskFault};
+use crate::linear_bounds::LinearBounds;
 use crate::tables::set;
 use crate::walks::Walks;
 use adder::relaxations::Relaxation;
@@ -24,6 +25,9 @@ use std::alloc::{AllocError, Global};
 
 /// The first turns assign about so many literals.
 const FIRST: u64 = 300_000;
+
+/// The first turn that looks for a first solution assigns about so many literals.
+const FIRST_SOLUTION: u64 = 150_000;
 
 /// Shares are counted in thousandths.
 const PARTS: u64 = 1000;
@@ -64,8 +68,9 @@ pub fn search<D: Desk>(desk: &mut D, weights: &[Relaxation]) -> Result<(), DeskF
     ensures ended { OnOk result (D.refuted desk.new ⊎ (D.left desk.new ≡ 0)) }
     ensures follows { (first : D) → D.follows first desk.old → D.follows first desk.new }
 {
-    begin(desk, weights)?;
     let mut cores = Cores::new(desk.allocator(), weights, desk.last())?;
+    let mut linear = LinearBounds::new(desk.allocator());
+    begin(desk, weights, &mut cores, &mut linear)?;
     let mut walks = Walks::new();
     let mut parts = Parts {
         cores: PARTS,
@@ -77,7 +82,15 @@ pub fn search<D: Desk>(desk: &mut D, weights: &[Relaxation]) -> Result<(), DeskF
         if desk.is_refuted() {
             return Ok(());
         }
-        round(desk, &mut cores, &mut walks, &mut parts, share)?;
+        round(
+            desk,
+            weights,
+            &mut cores,
+            &mut walks,
+            &mut linear,
+            &mut parts,
+            share,
+        )?;
         share = share.saturating_add(share / 2);
         desk.charge(left - 1);
         left = desk.left();
@@ -85,9 +98,14 @@ pub fn search<D: Desk>(desk: &mut D, weights: &[Relaxation]) -> Result<(), DeskF
     Ok(())
 }
 
-/// Decisions try the best solution first. Where there is none, they try what costs nothing, until a
-/// first one is found.
-fn begin<D: Desk>(desk: &mut D, weights: &[Relaxation]) -> Result<(), DeskFault>
+/// Decisions try the best solution first. Where there is none, a first one is looked for: by
+/// decisions that try what costs nothing, and by plain ones, in turns with the relaxation.
+fn begin<D: Desk>(
+    desk: &mut D,
+    weights: &[Relaxation],
+    cores: &mut Cores,
+    linear: &mut LinearBounds,
+) -> Result<(), DeskFault>
     ensures follows { (first : D) → D.follows first desk.old → D.follows first desk.new }
 {
     if desk.has_solution() {
@@ -95,14 +113,41 @@ fn begin<D: Desk>(desk: &mut D, weights: &[Relaxation]) -> Result<(), DeskFault>
         return Ok(());
     }
     let alloc = desk.allocator();
-    let values = cheap_values(alloc, weights, desk.last())?;
-    desk.suggest(&values);
-    let all = Share {
+    let cheap = cheap_values(alloc, weights, desk.last())?;
+    let plain = Vec::from_elem(alloc, false, cheap.len())?;
+    let mut share = FIRST_SOLUTION;
+    for turn in 0..u64::MAX {
+        let values = if turn % 2 == 0 { &cheap } else { &plain };
+        desk.suggest(values);
+        search_freely(desk, share)?;
+        if has_begun(desk) {
+            break;
+        }
+        linear.turn(desk, weights, &mut cores.counting.citing, share)?;
+        if has_begun(desk) {
+            break;
+        }
+        share = share.saturating_add(share / 2);
+    }
+    Ok(())
+}
+
+/// Whether there is a first solution, or none to look for.
+fn has_begun<D: Desk>(desk: &D) -> bool {
+    desk.has_solution() || desk.is_refuted() || desk.left() == 0
+}
+
+/// Looks for any solution, for so many propagations.
+fn search_freely<D: Desk>(desk: &mut D, share: u64) -> Result<(), DeskFault>
+    ensures follows { (first : D) → D.follows first desk.old → D.follows first desk.new }
+{
+    let alloc = desk.allocator();
+    let until = Share {
         learned: u64::MAX,
         decisions: u64::MAX,
-        until: u64::MAX,
+        until: desk.propagations().saturating_add(share),
     };
-    let mut free = Assumptions::new(alloc, Vec::new(alloc), all, Passed::new(alloc, 0));
+    let mut free = Assumptions::new(alloc, Vec::new(alloc), until, Passed::new(alloc, 0));
     desk.assume(&mut free)?;
     Ok(())
 }
@@ -120,21 +165,25 @@ fn cheap_values(alloc: Global, weights: &[Relaxation], last: u32) -> Result<Vec<
 /// Cores, then walks, and then solutions, for a share of propagations each.
 fn round<D: Desk>(
     desk: &mut D,
+    weights: &[Relaxation],
     cores: &mut Cores,
     walks: &mut Walks,
+    linear: &mut LinearBounds,
     parts: &mut Parts,
     share: u64,
 ) -> Result<(), DeskFault>
     ensures follows { (first : D) → D.follows first desk.old → D.follows first desk.new }
 {
     let before = cores.gap(desk);
-    let course = cores.turn(desk, part_of(share, parts.cores))?;
+    let others = part_of(share, linear.others());
+    let course = cores.turn(desk, part_of(others, parts.cores))?;
     parts.cores = judge(parts.cores, before, cores.gap(desk));
     match course {
         Course::GoesOn | Course::Over => {
             walks.turn(desk, share)?;
+            linear.turn(desk, weights, &mut cores.counting.citing, share)?;
             let before = cores.gap(desk);
-            descend(desk, cores, part_of(share, parts.descents))?;
+            descend(desk, cores, part_of(others, parts.descents))?;
             parts.descents = judge(parts.descents, before, cores.gap(desk));
         }
         Course::Ended => {}

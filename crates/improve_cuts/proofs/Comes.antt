@@ -167,33 +167,39 @@ pub fails_to_tell : (p : Problem) (old new : SessionState) (s : Solution)
     → FailsToTell p old new s → LeadsTo p old new
 fails_to_tell p old new s f start h = come_failed p old new s start h f
 
--- the solver has worked, for the budget
-pub search_on : (p : Problem) (old : SessionState) (s : SolverState) (b : BudgetState)
-    (seen : Option (List Sight)) (waived : ℕ) → SameSolver old.solver s
-    → b.limit ≡ (old.budget).limit → b.answers ≡ (old.budget).answers
+-- the solver has worked, for units of the budget
+pub search_on : {p : Problem} {old : SessionState} {s : SolverState} {b : BudgetState}
+    {seen : Option (List Sight)} {waived learned : ℕ} → SameSolver old.solver s
+    → b ≡ record old.budget { learned = learned; waived = b.waived }
     → WaivesAs old.budget b old.waived waived → seen ≡ old.seen
     → LeadsTo p old (record old { solver = s; budget = b; seen = seen; waived = waived })
-search_on p old s b seen waived same limit answers waives shown =
+search_on {p} {old} {s} {b} {seen} {waived} {learned} same pays waives shown =
     works_on p old (record old { solver = s; budget = b; seen = seen; waived = waived }) (record {
       telling = refl;
       seen = shown;
-      answers = answers;
+      answers = ap (λ z. z.answers) pays;
       best = refl;
       cuts = same.cost;
       fault = refl;
       search = record {
         origin = record { instance = same.problem; origin = same.origin };
-        limit = limit;
+        limit = ap (λ z. z.limit) pays;
         waives = waives;
       };
     })
 
 -- the solver has worked, for nothing
-pub solver_on : (p : Problem) (old : SessionState) (s : SolverState) → SameSolver old.solver s
+pub solver_on : {p : Problem} {old : SessionState} {s : SolverState} → SameSolver old.solver s
     → LeadsTo p old (record old { solver = s })
-solver_on p old s same = search_on p old s old.budget old.seen old.waived same refl refl refl refl
+solver_on same = search_on same refl refl refl
 
--- one way leads on from the other
+-- what is the same stays so, and one way leads on from the other
+pub goes_on : {A B C D E F G : Type 0} {p : Problem} {a b c : SessionState}
+    → A × B × C × D × E × F × G × LeadsTo p a b → LeadsTo p b c
+    → A × B × C × D × E × F × G × LeadsTo p a c
+goes_on f g = (f.0, f.1, f.2, f.3, f.4, f.5, f.6, λ start h. g start (f.7 start h))
+
+-- so it does where the instance is known to be the same
 pub leads_on : (p q : Problem) (a b c : SessionState) → q ≡ p → LeadsTo p a b → LeadsTo q b c
     → LeadsTo p a c
 leads_on p q a b c e f g start h = (subst (λ z. LeadsTo z b c) e g) start (f start h)

@@ -9,10 +9,11 @@ ghost use Rattle.improve_cuts.specs.Sessions.{LeadsTo, cost_of, same_prop};
 
 use crate::parts::{cost_in, last_output, price_met, spend_to};
 use crate::walks::Walks;
+use bound::weighted::weighted_formula;
 use cdcl::assumptions::Assumptions;
 use cdcl::budget::Budget;
 use cdcl::guide::Guide;
-use cnf::types::{Instance, Lit};
+use cnf::types::{Formula, Instance, Lit};
 use cuts_policy::desk::{Descent, Desk, DeskFault, Trial, Walked};
 use cuts_solver::solver::{Assumed, CutsSolver, SolverEnd};
 use forms::state::Forms;
@@ -40,13 +41,14 @@ pub struct Session<'i, 's, 'b, 'p, 'k, 'm, 'w, W: Write, T: Progress, K: Watch> 
     pub watch: &'k mut K,
     /// The cheapest solution that was met, if any was.
     pub best: &'m mut Option<Solution>,
-    /// How many counts it has made, up to 2^64 - 1.
+    /// How many counts and groups it has made, up to 2^64 - 1.
     pub counts: u64,
     /// Its local searches.
     pub walks: &'w mut Walks,
     /// Why it answers nothing any more, if it does not.
     pub fault: Option<DeskFault>,
-    ghost same: { instance_of solver.now ≡ instance.now } by { same_prop (instance_of solver.now) instance.now },
+    ghost same: { instance_of solver.now ≡ instance.now } by { same_prop (instance_of solver.now)
+        instance.now },
     ghost can_fail: { fault ≡ None → CanFail (T.state progress.now) },
 }
 
@@ -149,6 +151,10 @@ impl<'i, 's, 'b, 'p, 'k, 'm, 'w, W: Write + Drop, T: Progress, K: Watch> Desk
 
     fn allocator(&self) -> Global {
         self.instance.allocator()
+    }
+
+    fn formula(&self) -> Result<Formula, AllocError> {
+        weighted_formula(self.instance)
     }
 
     fn forms(&self) -> &Forms {
@@ -286,6 +292,20 @@ impl<'i, 's, 'b, 'p, 'k, 'm, 'w, W: Write + Drop, T: Progress, K: Watch> Desk
         }
         match self.solver.more(number) {
             Ok(true) => Ok(last_output(self.solver.forms(), number)),
+            Ok(false) => Ok(None),
+            Err(AllocError) => Err(self.fail()),
+        }
+    }
+
+    fn group(&mut self, inputs: &[Lit], ids: &[u64]) -> Result<Option<u64>, DeskFault> {
+        if let Some(fault) = self.fault {
+            return Err(fault);
+        }
+        match self.solver.group(inputs, ids) {
+            Ok(true) => {
+                self.counts = self.counts.saturating_add(1);
+                Ok(Some(self.counts))
+            }
             Ok(false) => Ok(None),
             Err(AllocError) => Err(self.fail()),
         }

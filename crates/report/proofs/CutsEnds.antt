@@ -1,7 +1,7 @@
 -- What a run by forms and cuts ends with, or leaves.
 use Rattle.std.proofs.Common.{◌≡◌, ℕ, ◌+◌, ◌<◌, ◌^◌, Bool, true, false, List, [], ◌∷◌, ◌++◌, length}
 use Rattle.std.proofs.Common.{map, Option, Some, None, Ok, Err, refl, sym, ◌∙◌, ap, subst, arith}
-use Rattle.std.proofs.Common.{append_assoc, append-nil, length-append}
+use Rattle.std.proofs.Common.{append_assoc, append-nil}
 use Rattle.std.specs.Prelude.{All, IfSome, IfNone, IsSome, IfOk, IfErr, Result}
 use Rattle.std.specs.Io.KnownBytes.{Appends}
 use Rattle.std.proofs.KnownBytes.{Appends-trans, Appends-kept}
@@ -13,7 +13,8 @@ use Rattle.cnf.specs.Instance.{IsInstance}
 use Rattle.cnf.specs.declared.limits.TheConstants.{NUMBER_LIMIT}
 use Rattle.cnf.proofs.Laws.{extends_own}
 use Rattle.wcnf.specs.Wcnf.{Reads}
-use Rattle.text.specs.Writing.{AppendsPart, Begins}
+use Rattle.text.specs.Writing.{AppendsPart}
+use Rattle.text.proofs.Laws.{part-kept}
 use Rattle.adder.specs.declared.profiles.Profile.TheVariants.{One}
 use Rattle.cdcl_order.specs.Budgets.{BudgetState, left_of}
 use Rattle.cdcl_order.specs.Watch.{Sight, with_seen}
@@ -46,10 +47,25 @@ use Rattle.report.specs.Running.{result_text, told_in, AreHonest, NeedsProof, Is
 use Rattle.report.specs.ByCuts.{status_by, said_with, said_of_cuts, said_text, cost_held}
 use Rattle.report.specs.ByCuts.{IsRightFor, ChecksByCuts, EndsByCuts}
 use Rattle.report.specs.ByCuts.{LeavesResultByCuts, LeavesByCuts, IsSeenByCuts, SearchesByCuts}
-use Rattle.report.specs.ByCuts.{IsShownByCuts, EndsSearch, LeavesSearch, GrowsByPart}
+use Rattle.report.specs.ByCuts.{IsShownByCuts, EndsSearch, GrowsByPart, LeavesAnswerByCuts}
+use Rattle.report.specs.ByCuts.{LeavesSearch}
 use Rattle.report.proofs.Ends.{honest_costs, solution_at}
 use Rattle.report.proofs.ResultTexts.{optimum_text, satisfiable_text, falls_in, text_says}
 use Rattle.report.proofs.ResultTexts.{begun, not_past}
+
+-- a fault of the end leaves what the solver has written
+pub leaves_search : (fault : RunFault) (s : SolverState) (said : Said) (whole : Bool)
+    (out out' proof proof' : Option (List ℕ)) → (whole ≡ true → HasWritten s proof)
+    → HasBegunToWrite s proof → LeavesAnswerByCuts fault whole said out out' proof proof'
+    → LeavesSearch fault s said out out' proof'
+leaves_search Output s said whole out out' proof proof' all part h =
+    let w = all h.0 in
+    let grown = Appends-kept (((s.log).book).seen).origin proof proof' w.0 w.1 h.2 in
+    (h.1, (w.0, grown, w.2))
+leaves_search ProofOutput s said whole out out' proof proof' all part h =
+    (h.0, (part.0, part-kept (((s.log).book).seen).origin proof proof' part.0 part.1 h.1))
+leaves_search Memory s said whole out out' proof proof' all part h = h
+leaves_search (Read fault) s said whole out out' proof proof' all part h = h
 
 -- a checker says yes to a certificate that ends so
 
@@ -64,7 +80,8 @@ module _ (p : Problem) (r : Report) (proof : List ℕ) where
   none_by_cuts u v = rw u v
 
 verdict_is : (cost : ℕ) (p : Problem) (proof : List ℕ) (t : CutsState)
-    → judged_text (Some cost) p proof ≡ Ok t → t.ended ≡ true → cuts_verdict (Some cost) p proof ≡ Yes
+    → judged_text (Some cost) p proof ≡ Ok t → t.ended ≡ true
+    → cuts_verdict (Some cost) p proof ≡ Yes
 verdict_is cost p proof t e f = rw (e, f) refl
 
 yes_by_cuts : (text written proof : List ℕ) (p : Problem) → Reads text p → (said : Said)

@@ -10,7 +10,7 @@ use Rattle.cnf.specs.Literal.{Literal}
 use Rattle.cnf.specs.Bits.{assignment_of}
 use Rattle.cnf.specs.Problem.{Problem}
 use Rattle.wcnf.specs.Wcnf.{Reads}
-use Rattle.text.specs.Writing.{AppendsPart, Begins}
+use Rattle.text.specs.Writing.{AppendsPart}
 use Rattle.text.specs.LratText.{IsTextOf}
 use Rattle.cnf.specs.Lrat.{Accepts}
 use Rattle.adder.specs.declared.profiles.Profile.{Profile}

@@ -63,7 +63,8 @@ pub seen_as : (profile : Profile) (text : Option (List ℕ)) (p : Problem)
     → IfSome text (λ bytes. Reads bytes p) → (out out' last proof proof' : Option (List ℕ))
     (before mid after : Option (List Sight)) (found : Found)
     → IsShownFor profile p found out out' before mid → Answers found out' last proof proof'
-    → after ≡ with_seen (end_of p (said_of found) ∷ []) mid → (status : Status) → status ≡ status_of found
+    → after ≡ with_seen (end_of p (said_of found) ∷ []) mid → (status : Status)
+    → status ≡ status_of found
     → IsSeenAs profile text out last status before after
 seen_as profile text p reads out out' last proof proof' before mid after found s w end status is =
     let costs = costs_shown s.solutions in

@@ -69,5 +69,6 @@ returns-clause-seen g c text r =
     (c.ended.ensures.shown
     ∙ ap (λ z. with_seen (end_of c.args.instance.now z ∷ []) (seen c.searched.new.self))
     c.of-2.ensures
-    ∙ ap (with_seen (end_of c.args.instance.now (said_of f.found) ∷ [])) c.searched.ensures.same_seen)
+    ∙ ap (with_seen (end_of c.args.instance.now (said_of f.found) ∷ []))
+    c.searched.ensures.same_seen)
     c.of-3.result c.of-3.ensures
