@@ -10,5 +10,5 @@ pub mod formulas;
 mod hard;
 mod kept_clauses;
 mod relaxing;
-pub mod repeats;
+mod repeats;
 pub mod weighted;

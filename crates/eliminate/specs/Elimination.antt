@@ -75,7 +75,7 @@ pub record EliminationLeaves (frozen : List Bool) (before : List (List Literal))
   -- if hints refute what was given, the empty clause is left
   pub refuted : IsRefutedByHints before → Contains (live_clauses slots) []
 
--- what is left of a formula of which nothing is eliminated: this stack, and the clauses of this store
+-- what is left of a formula of which nothing is eliminated: this stack, and this store's clauses
 pub record IsWhole (variables : ℕ) (clauses : List (List Literal)) (slots : Slots)
     (stack : StackState) : Type 0 where
   pub together : slots ≡ map Some clauses

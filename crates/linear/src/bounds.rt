@@ -4,7 +4,8 @@ ghost use Rattle.std.specs.Prelude.{◌+ℤ◌, ◌*ℤ◌, None, slice_index_or
 ghost use Rattle.std.specs.Prelude.{IfOk, MatchResult, All};
 ghost use Rattle.std.specs.Int.RustNames.{unsigned_abs};
 ghost use Rattle.cnf.specs.Clause.{has_repeat, is_tautology};
-ghost use Rattle.linear.specs.Linear.{coefficient, plus_at, plus_constant, plus_literal, plus_literals};
+ghost use Rattle.linear.specs.Linear.{coefficient, plus_at, plus_constant, plus_literal};
+ghost use Rattle.linear.specs.Linear.{plus_literals};
 ghost use Rattle.linear.specs.Costs.{form_of, width_of, widened, restarted, fixed_by, falsified};
 ghost use Rattle.linear.specs.Costs.{HasOneWidth, least, least_where};
 

@@ -1,5 +1,5 @@
--- What a certificate of forms and cuts proves by itself: a lower bound of the cost, or that there is
--- no solution.
+-- What a certificate of forms and cuts proves by itself: a lower bound of the cost, or that there
+-- is no solution.
 use Rattle.std.specs.Prelude.{◌≡◌, ℕ, List, ⊤, Option, IfSome, Result, Ok, Err, nat_le}
 use Rattle.std.specs.Prelude.{if◌then◌else◌}
 use Rattle.std.specs.Io.KnownBytes.{Consumes}

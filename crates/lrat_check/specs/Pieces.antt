@@ -86,8 +86,8 @@ pub record HasJudged (c : CheckerState) (formula : List (List Literal)) (bytes :
   pub fed : c.fed ≡ length bytes
   pub holds : Holds c.reading formula bytes
 
--- the verdict is that on some bytes that a reader gave, which was read no further than it takes, and
--- on all of its bytes, where they are known
+-- the verdict is that on some bytes that a reader gave, which was read no further than it takes,
+-- and on all of its bytes, where they are known
 pub record IsJudged (old new : Option (List ℕ)) (formula : List (List Literal)) (v : Verdict) :
     Type 0 where
   pub bytes : List ℕ

@@ -7,7 +7,8 @@ use Rattle.std.proofs.lemmas.List.Elements.{All-append}
 use Rattle.cnf.specs.Problem.{Problem}
 use Rattle.text.specs.Text.{tokens_of, token_lines, IsNoFeed}
 use Rattle.text.specs.Pieces.{IsCut, HasTaken}
-use Rattle.text.proofs.Laws.{cut-ended, cut-kept, line_tokens-first, line_tokens-last, taken-on, taken-whole}
+use Rattle.text.proofs.Laws.{cut-ended, cut-kept, line_tokens-first, line_tokens-last, taken-on}
+use Rattle.text.proofs.Laws.{taken-whole}
 use Rattle.lrat_machine.specs.declared.verdicts.Cause.{Cause}
 use Rattle.lrat_cuts.specs.Machine.{MachineState, judged_after}
 use Rattle.lrat_cuts.specs.Pieces.{CheckerState, HasJudged, Holds, IsOpen, IsRefused, Judges}

@@ -131,7 +131,8 @@ judged_bound lower s = by (bound_line s.forms)
 
 abbrev pub judged_word : Option ℕ → Option WordLine → CutsState → Result CutsState Cause
 judged_word cost None s = Err LineForm
-judged_word cost (Some (CountLine outputs inputs)) s = on_clauses s (count_line outputs inputs s.forms)
+judged_word cost (Some (CountLine outputs inputs)) s = on_clauses s (count_line outputs inputs
+    s.forms)
 judged_word cost (Some (MoreLine number)) s = on_clauses s (more_line number s.forms)
 judged_word cost (Some (GroupLine inputs ids)) s =
     on_forms s (group_line (listed_at s.live) inputs ids s.forms)

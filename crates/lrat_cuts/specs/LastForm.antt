@@ -1,5 +1,6 @@
 -- The form that a certificate ends with.
-use Rattle.std.specs.Prelude.{◌≡◌, ℕ, ◌+◌, Bool, true, false, List, [], ◌∷◌, ◌++◌, Option, Some, None}
+use Rattle.std.specs.Prelude.{◌≡◌, ℕ, ◌+◌, Bool, true, false, List, [], ◌∷◌, ◌++◌, Option, Some}
+use Rattle.std.specs.Prelude.{None}
 use Rattle.std.specs.Prelude.{Ok, IsErr}
 use Rattle.cnf.specs.Problem.{Problem}
 use Rattle.text.specs.Text.{token_lines}

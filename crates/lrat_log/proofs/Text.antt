@@ -170,7 +170,8 @@ word_from (b ∷ ds) h = h
 dashed_word : (n : ℕ) → n < 2 ^ 62 → IsWord (45 ∷ decimal n)
 dashed_word n h = (omega arith, word_from (decimal n) (decimal_word n h))
 
-pub literal_word : (s : Bool) (v : ℕ) → v < 2 ^ 62 → IsWord (if s then 45 ∷ decimal v else decimal v)
+pub literal_word : (s : Bool) (v : ℕ) → v < 2 ^ 62 → IsWord (if s then 45 ∷ decimal v else decimal
+    v)
 literal_word true v h = dashed_word v h
 literal_word false v h = decimal_word v h
 

@@ -165,7 +165,8 @@ pub live_of-start : (cs : List (List Literal)) → live_of (length cs) (listed_f
 live_of-start cs =
     ap (λ f. record { clause_at = f; last = length cs }) (fun_ext (listed_numbered cs))
 
-pub IsBase-start : (n last : ℕ) (cs : List (List Literal)) → last ≡ length cs → All (IsClauseWithin n) cs
+pub IsBase-start : (n last : ℕ) (cs : List (List Literal)) → last ≡ length cs
+    → All (IsClauseWithin n) cs
     → IsBase n last (listed_from 1 cs)
 IsBase-start n last cs e w = record {
   rising = increasing_from_rises (ids_of (listed_from 1 cs)) (rises_listed 1 cs);
@@ -181,7 +182,8 @@ within_greatest n [] h = All-nil (λ l. l.variable ≤ n)
 within_greatest n (l ∷ c) h =
     All-cons (λ k. k.variable ≤ n) l c (omega arith) (within_greatest n c (omega arith))
 
-pub within_formula : (f : Cnf) (n : ℕ) → IsFormula f → f.variables ≤ n → All (IsClauseWithin n) f.clauses
+pub within_formula : (f : Cnf) (n : ℕ) → IsFormula f → f.variables ≤ n
+    → All (IsClauseWithin n) f.clauses
 within_formula f n h le =
     All-weaker (IsFormulaClause f.variables) (IsClauseWithin n) (λ c k. let small = k.small in
     within_greatest n c (omega arith)) f.clauses h.clauses

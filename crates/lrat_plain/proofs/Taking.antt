@@ -125,7 +125,8 @@ module _ (old mid : Steps) (ts : List (List ℕ)) (j : Judges old.machine ts mid
           (map (λ h. renumbered mid.names h.1) l.hints) []
 
       pub addition_goes : new.names ≡ mid.names → new.formula ≡ mid.formula
-          → (d e : Option (List ℕ)) → PassesOn d mid.certificate (spaced (line_tokens said)) e new.certificate
+          → (d e : Option (List ℕ)) → PassesOn d mid.certificate (spaced (line_tokens said)) e
+          new.certificate
           → GoesOn old new (ts ∷ []) a a d e
       addition_goes names formula d e q =
           let same : new.names ≡ old.names = names ∙ names_kept in

@@ -7,7 +7,7 @@
 // instructions a literal: literals that are popped one by one, each with the count of decisions,
 // take 28. A level that stays behind where a value is taken away saves five of these and a write,
 // but then who asks for a level has to look at the value first: in all 0.5 % more instructions, and
-// 1 % fewer misses of a cache of 32 KB, more of which are reads (package choice 400 2, profile 4,
+// 1 % fewer misses of a cache of 32 KB, more of which are reads (package choice 400 2,
 // 3000 conflicts).
 ghost use Rattle.std.specs.Prelude.{◌≡◌, ◌+◌, ◌<◌, ◌≤◌, ◌*◌, not, true, false, IsTrue, ◌↔◌, []};
 ghost use Rattle.std.specs.Prelude.{◌∷◌, ◌++◌, Some, None, length, take, All, IfOk, slice_set};

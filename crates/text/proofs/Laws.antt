@@ -12,5 +12,5 @@ pub use Rattle.text.proofs.Numbers.{text-literal_of}
 pub use Rattle.text.proofs.Passing.{first_fault, part-more, passed-more, passed-nil}
 pub use Rattle.text.proofs.Passing.{passed_fault, passed_part, passed_part-more, passed_whole}
 pub use Rattle.text.proofs.Passing.{part-kept, puts_after, spaced-last, writes-part}
-pub use Rattle.text.proofs.Passing.{writes_after, writes_alike, writes_as}
+pub use Rattle.text.proofs.Passing.{writes_after, writes_as}
 pub use Rattle.text.proofs.Passing.{writes_kept, writes_next}

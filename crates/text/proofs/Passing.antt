@@ -3,9 +3,7 @@ use Rattle.std.proofs.Common.{◌≡◌, ℕ, List, [], ◌∷◌, ◌++◌, Opt
 use Rattle.std.proofs.Common.{OnErr, refl, sym, ◌∙◌, ap, subst, append_assoc, append-nil}
 use Rattle.std.specs.Io.KnownBytes.{Appends, Keeps}
 use Rattle.std.proofs.KnownBytes.{Appends-kept, Appends-nil, Appends-trans}
-use Rattle.std.proofs.lemmas.Bool.{false≢true}
 use Rattle.std.specs.List.{flat_map}
-use Rattle.std.specs.Prelude.{is_ok}
 use Rattle.text.specs.Writing.{spaced, AppendsPart, PassesOn, Writes, Puts}
 
 pub passed-nil : (a : Option (List ℕ)) (held : List ℕ) → PassesOn a held [] a held
@@ -74,14 +72,6 @@ pub writes-part : {T E : Type 0} (r : Result T E) (a b : Option (List ℕ)) (x :
     → Writes r a x b → OnErr r (AppendsPart a b x)
 writes-part (Ok v) a b x p = tt
 writes-part (Err e) a b x p = p
-
--- results that are Ok together, as after `map_err`
-pub writes_alike : {T E F : Type 0} (r : Result T E) (q : Result T F) (a b : Option (List ℕ))
-    (x : List ℕ) → is_ok q ≡ is_ok r → Writes r a x b → Writes q a x b
-writes_alike (Ok v) (Ok w) a b x e p = p
-writes_alike (Ok v) (Err f) a b x e p = absurd (false≢true e)
-writes_alike (Err d) (Ok w) a b x e p = absurd (false≢true (sym e))
-writes_alike (Err d) (Err f) a b x e p = p
 
 -- a fault while the block was written
 pub passed_part : (a b c : Option (List ℕ)) (h i x : List ℕ) → PassesOn a h x b i

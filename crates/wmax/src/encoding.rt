@@ -26,9 +26,9 @@ const NO_PROOF: &str = "error: encode takes --proof only with --profile 3";
 /// What is said of a `--lrat` beside another profile, or no certificate.
 const NO_PLAIN: &str = "error: encode takes --lrat only with --profile 3 and --proof";
 
-/// The formula for 'cost below COST', or in profile 3 that of the relaxed clauses, whatever COST is,
-/// and with `--proof` what the lines of the certificate make. That is opened after FILE and before
-/// any of it is read.
+/// The formula for 'cost below COST', or in profile 3 that of the relaxed clauses, whatever COST
+/// is, and with `--proof` what the lines of the certificate make. That is opened after FILE and
+/// before any of it is read.
 pub fn encode<'a, R: Files + AllocGlobal + Print + Env, E: Write>(
     rt: &R,
     messages: &mut Messages<'_, E>,

@@ -1,17 +1,18 @@
 -- A search over a formula that is left as it is.
-use Rattle.std.proofs.Common.{◌≡◌, ◌∙◌, ◌≤◌, ◌+◌, ℕ, [], List, length, map, Some, refl, sym, ap}
+use Rattle.std.proofs.Common.{◌≡◌, ◌∙◌, ◌≤◌, ◌+◌, [], List, length, map, Some, refl, sym, ap}
 use Rattle.std.proofs.Common.{subst, arith}
 use Rattle.std.specs.Prelude.{All}
 use Rattle.std.proofs.lemmas.List.{length-map}
 use Rattle.std.proofs.lemmas.List.Elements.{All-nil}
 use Rattle.cnf.specs.Literal.{Literal}
 use Rattle.cnf.specs.Bits.{assignment_of}
-use Rattle.clauses.specs.Slots.{Slots, live_clauses}
+use Rattle.clauses.specs.Slots.{live_clauses}
 use Rattle.clauses.proofs.Laws.{live_map}
 use Rattle.lrat_log.specs.declared.lines.Name.{Name}
 use Rattle.lrat_log.specs.Steps.{StaysLogOver, given_of}
 use Rattle.lrat_log.proofs.Laws.{clauses_given}
-use Rattle.eliminate.specs.Elimination.{IsWhole, IsFree, StackState, SatisfiesAll, Removed, extended}
+use Rattle.eliminate.specs.Elimination.{IsWhole, IsFree, StackState, SatisfiesAll, Removed}
+use Rattle.eliminate.specs.Elimination.{extended}
 use Rattle.cdcl_search.specs.declared.input.Input.{Input}
 use Rattle.cdcl.proofs.FirstRun.{IsLeft, left_long, left_live, left_numbers, plain_runs}
 use Rattle.cdcl.proofs.FirstRun.{whole_input, whole_left, whole_plain}
@@ -100,6 +101,7 @@ returns-clause-runs c =
     stays refl refl (omega arith)
     (subst (All (λ (r : Removed). IsFree p.frozen.items r.variable)) (sym w.none_removed)
     (All-nil (λ (r : Removed). IsFree p.frozen.items r.variable)))
-    (λ bits few all. subst (λ (rs : List Removed). SatisfiesAll (assignment_of (extended rs bits)) cs)
+    (λ bits few all. subst (λ (rs : List Removed). SatisfiesAll (assignment_of (extended rs bits))
+    cs)
     (sym w.none_removed) (subst (SatisfiesAll (assignment_of bits)) (same at) all))
     (whole_plain p cs c.keep_whole.new.store.slots refl c.in_ok-given.ensures.ok (same at))

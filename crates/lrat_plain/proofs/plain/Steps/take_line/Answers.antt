@@ -21,9 +21,11 @@ returns-in-Malformed-clause-goes g c =
     let read = subst (λ f. IsReadAs ts f c.read.new.self) c.in-Malformed.is c.in_ok-read.ensures in
     let e = c.put_made.ensures in
     let r = c.put_made.result in
-    ok_weaker _ _ r (ok_both _ _ r (ok_both _ _ r e.names e.last) (ok_both _ _ r e.formula e.certificate))
+    ok_weaker _ _ r (ok_both _ _ r (ok_both _ _ r e.names e.last) (ok_both _ _ r e.formula
+    e.certificate))
     (λ h. word_goes c.args.self.now c.judge.new.self ts c.in_ok-judge.ensures.judged
-    c.judge.ensures.rest _ e.machine c.read.new.self _ read c.requires h.0.0 h.0.1 _ _ _ h.1.0 h.1.1)
+    c.judge.ensures.rest _ e.machine c.read.new.self _ read c.requires h.0.0 h.0.1 _ _ _ h.1.0
+    h.1.1)
 
 pub returns-in-Malformed-clause-steady : goal.returns-in-Malformed-clause-steady
 returns-in-Malformed-clause-steady g c =
@@ -33,7 +35,8 @@ returns-in-Malformed-clause-steady g c =
     let r = c.put_made.result in
     ok_weaker _ _ r (ok_both _ _ r (ok_both _ _ r e.names e.last) e.small)
     (λ h. word_steady c.args.self.now c.judge.new.self ts c.in_ok-judge.ensures.judged
-    c.judge.ensures.rest _ e.machine c.read.new.self (g.F.Write.contents c.args.formula.now) read c.requires
+    c.judge.ensures.rest _ e.machine c.read.new.self (g.F.Write.contents c.args.formula.now) read
+    c.requires
     h.0.0 h.0.1 h.1)
 
 pub returns-in-Addition-clause-goes : goal.returns-in-Addition-clause-goes
