@@ -1,17 +1,18 @@
 -- Which learned clauses are deleted, by tiers of LBD, and when.
 use Rattle.std.specs.Prelude.{◌≡◌, ℕ, ◌+◌, ◌-◌, ◌*◌, ◌/◌, nat_lt, Bool, false, List, [], ◌∷◌, ◌++◌}
-use Rattle.std.specs.Prelude.{length, map, All, fold, if◌then◌else◌, IsPermutation, IsSortedBy}
+use Rattle.std.specs.Prelude.{min, length, map, All, fold, if◌then◌else◌, IsPermutation, IsSortedBy}
 use Rattle.std.specs.List.Sorted.{IsStableBy}
 use Rattle.std.specs.Ordering.{nat_cmp, ordering_then, is_lt}
 use Rattle.cdcl_order.specs.Standings.{StandingsState, standing_at, with_standing}
 use Rattle.cdcl_order.specs.declared.deletions.Candidate.{Candidate}
 use Rattle.cdcl_order.specs.declared.deletions.Ranked.{Ranked}
 use Rattle.cdcl_order.specs.declared.deletions.TheConstants.{FIRST_DELETION, DELETION_STEP}
+use Rattle.cdcl_order.specs.declared.deletions.TheConstants.{DELETION_STEPS}
 use Rattle.cdcl_order.specs.declared.standings.TheConstants.{KEPT}
 
--- so many long learned clauses are live when the next deletion comes
+-- so many conflicts come between the last deletion and the next one
 abbrev pub due_at : ℕ → ℕ
-due_at deletions = FIRST_DELETION + DELETION_STEP * deletions
+due_at deletions = FIRST_DELETION + DELETION_STEP * min deletions DELETION_STEPS
 
 -- Clauses that are spared.
 

@@ -61,9 +61,13 @@ then_later = refl
 waits_longer : (restarted gone_on).wait ≡ 2000
 waits_longer = refl
 
--- the second deletion comes at 300 clauses more than the first
-second : due_at 1 ≡ 2300
+-- the second deletion comes after 100 conflicts more than the first, and the time between two has
+-- an end
+second : due_at 1 ≡ 1100
 second = refl
+
+longest : due_at 1000 ≡ 5000
+longest = refl
 
 -- the variables 1 and 2 were decided, 3 followed on level 2
 abbrev two_levels : List Assigned

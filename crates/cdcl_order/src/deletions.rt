@@ -8,11 +8,14 @@ use crate::standings::{ClauseStanding, KEPT, Standings};
 use clauses::store::CRef;
 use std::alloc::{AllocError, Global};
 
-/// The first deletion comes at so many long learned clauses.
-const FIRST_DELETION: u64 = 2000;
+/// The first deletion comes after so many conflicts.
+const FIRST_DELETION: u64 = 1000;
 
-/// Each further one at so many more.
-const DELETION_STEP: u64 = 300;
+/// Each further one after so many more than the one before.
+const DELETION_STEP: u64 = 100;
+
+/// So often the time between two deletions grows.
+const DELETION_STEPS: u64 = 40;
 
 /// A learned clause that may be deleted.
 #[derive(Drop)]
@@ -34,13 +37,11 @@ pub(crate) struct Ranked {
     reference: CRef,
 }
 
-/// Whether it is time to delete, where so many long learned clauses are live after so many
-/// deletions.
-pub(crate) fn is_due(live: usize, deletions: u64) -> bool
-    ensures { IsTrue result ↔ due_at deletions ≤ live }
+/// Whether it is time to delete, where so many conflicts came since the last of so many deletions.
+pub(crate) fn is_due(conflicts: u64, deletions: u64) -> bool
+    ensures { IsTrue result ↔ due_at deletions ≤ conflicts }
 {
-    let live = live as u64;
-    live >= FIRST_DELETION && (live - FIRST_DELETION) / DELETION_STEP >= deletions
+    conflicts >= FIRST_DELETION + DELETION_STEP * deletions.min(DELETION_STEPS)
 }
 
 /// Of these clauses, the older first, those that are to go. Where memory is refused some may have

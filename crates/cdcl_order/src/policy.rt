@@ -40,6 +40,8 @@ pub struct Policy {
     long: usize,
     // How often clauses were chosen for deletion.
     deletions: u64,
+    // How many conflicts came since then, up to 2^64 - 1.
+    since: u64,
     // How many literals were put back, up to 2^64 - 1.
     undone: u64,
     // How often the search has restarted, up to 2^64 - 1.
@@ -83,6 +85,7 @@ impl Policy {
             standings: Standings::new(alloc),
             long: 0,
             deletions: 0,
+            since: 0,
             undone: 0,
             restarts: 0,
         })
@@ -164,6 +167,7 @@ impl Policy {
         self.order.decay();
         self.phases.count();
         self.pace.count();
+        self.since = self.since.saturating_add(1);
         for reason in reasons {
             self.note_use(engine, store, *reason);
         }
@@ -246,7 +250,7 @@ impl Policy {
 
     /// Whether it is time to delete learned clauses.
     pub fn is_deletion_due(&self) -> bool {
-        is_due(self.long, self.deletions)
+        is_due(self.since, self.deletions)
     }
 
     /// Those to delete of these learned clauses, the older first, of more than two literals each.
@@ -262,6 +266,7 @@ impl Policy {
         ensures same_view { self.new ≡ self.old }
     {
         self.deletions = self.deletions.saturating_add(1);
+        self.since = 0;
         choose(alloc, &mut self.standings, candidates)
     }
 
