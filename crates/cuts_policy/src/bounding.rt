@@ -10,11 +10,11 @@
 ghost use Rattle.std.specs.Prelude.{◌<◌, ⊤};
 ghost use Rattle.cnf.specs.declared.limits.TheConstants.{VARIABLE_LIMIT};
 
-use crate::desk::{Desk, DeskFault};
-use crate::tables::{at, set};
 use cdcl::guide::{Advice, Guide};
 use cdcl_search::search::Search;
 use cnf::types::Lit;
+use cuts_cores::desk::{Desk, DeskFault};
+use cuts_cores::tables::{at, set};
 use std::alloc::{AllocError, Global};
 
 /// A literal of the trail that costs something.

@@ -4,13 +4,6 @@
 #![tactic(auto)]
 
 mod bounding;
-mod citing;
-mod cores;
-mod counting;
-pub mod desk;
-mod items;
 mod linear_bounds;
 pub mod rounds;
-mod shortening;
-mod tables;
 mod walks;

@@ -11,12 +11,12 @@
 // round, and where few are, less.
 
 use crate::bounding::fix_dear;
-use crate::citing::Citing;
-use crate::desk::{Descent, Desk, DeskFault};
-use crate::tables::set;
 use adder::relaxations::Relaxation;
 use cnf::clause_list::ClauseList;
 use cnf::types::Lit;
+use cuts_cores::cores::Cores;
+use cuts_cores::desk::{Descent, Desk, DeskFault};
+use cuts_cores::tables::set;
 use cuts_linear::branching::BranchGuide;
 use cuts_linear::diving::DiveGuide;
 use cuts_linear::facts::Facts;
@@ -158,7 +158,7 @@ impl LinearBounds {
         &mut self,
         desk: &mut D,
         weights: &[Relaxation],
-        citing: &mut Citing,
+        cores: &mut Cores,
         share: u64,
     ) -> Result<(), DeskFault>
         ensures follows { (first : D) → D.follows first desk.old → D.follows first desk.new }
@@ -181,8 +181,8 @@ impl LinearBounds {
                 Node::new(alloc, facts)
             }
         };
-        self.take_counts(desk, &mut node.facts, citing.facts())?;
-        let ended = self.search(desk, &mut node, groups, citing, visits, most);
+        self.take_counts(desk, &mut node.facts, cores.facts())?;
+        let ended = self.search(desk, &mut node, groups, cores, visits, most);
         self.node = Some(node);
         ended
     }
@@ -207,7 +207,7 @@ impl LinearBounds {
         desk: &mut D,
         node: &mut Node,
         groups: Option<Groups>,
-        citing: &mut Citing,
+        cores: &mut Cores,
         visits: u64,
         most: u64,
     ) -> Result<(), DeskFault>
@@ -220,8 +220,8 @@ impl LinearBounds {
                 self.solve_root(desk, node, most.min(ROOT_AGAIN))?;
             }
         }
-        citing.forget();
-        tell_root(desk, node, citing)?;
+        cores.forget_form();
+        tell_root(desk, node, cores)?;
         if desk.is_refuted() {
             return Ok(());
         }
@@ -388,7 +388,7 @@ fn find_groups<D: Desk>(
 }
 
 /// Proposes the form of level 0, says what it is worth, and fixes what is too dear under it.
-fn tell_root<D: Desk>(desk: &mut D, node: &Node, citing: &mut Citing) -> Result<(), DeskFault>
+fn tell_root<D: Desk>(desk: &mut D, node: &Node, cores: &mut Cores) -> Result<(), DeskFault>
     ensures follows { (first : D) → D.follows first desk.old → D.follows first desk.new }
 {
     if !desk.has_solution() {
@@ -399,7 +399,7 @@ fn tell_root<D: Desk>(desk: &mut D, node: &Node, citing: &mut Citing) -> Result<
     if !desk.form(line.scale(), line.facts())? {
         return Ok(());
     }
-    citing.tell_bound(desk)?;
+    cores.tell_bound(desk)?;
     fix_dear(desk)
 }
 

@@ -13,14 +13,14 @@
 ghost use Rattle.std.specs.Prelude.{◌≡◌, ◌⊎◌, OnOk};
 
 use crate::bounding::BoundGuide;
-use crate::cores::{Cores, Course};
-use crate::desk::{Descent, Desk, DeskFault};
 use crate::linear_bounds::LinearBounds;
-use crate::tables::set;
 use crate::walks::Walks;
 use adder::relaxations::Relaxation;
 use cdcl::assumptions::Assumptions;
 use cdcl::outcome::{Passed, Share};
+use cuts_cores::cores::{Cores, Course};
+use cuts_cores::desk::{Descent, Desk, DeskFault};
+use cuts_cores::tables::set;
 use std::alloc::{AllocError, Global};
 
 /// The first turns assign about so many literals.
@@ -123,7 +123,7 @@ fn begin<D: Desk>(
         if has_begun(desk) {
             break;
         }
-        linear.turn(desk, weights, &mut cores.counting.citing, share)?;
+        linear.turn(desk, weights, cores, share)?;
         if has_begun(desk) {
             break;
         }
@@ -181,7 +181,7 @@ fn round<D: Desk>(
     match course {
         Course::GoesOn | Course::Over => {
             walks.turn(desk, share)?;
-            linear.turn(desk, weights, &mut cores.counting.citing, share)?;
+            linear.turn(desk, weights, cores, share)?;
             let before = cores.gap(desk);
             descend(desk, cores, part_of(others, parts.descents))?;
             parts.descents = judge(parts.descents, before, cores.gap(desk));

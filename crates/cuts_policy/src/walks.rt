@@ -6,7 +6,7 @@
 // A walk costs no unit of the budget, so all walks together make at most so many visits for each
 // propagation. A visit takes some 13 ns, and a propagation some 170 with all that goes with it.
 
-use crate::desk::{Desk, DeskFault};
+use cuts_cores::desk::{Desk, DeskFault};
 use improve_local::kinds::WalkKind;
 
 /// So many visits go with each propagation of the other parts of a turn.

@@ -8,8 +8,8 @@ use Rattle.std.proofs.lemmas.List.Elements.{All-nil, All-push, All-pop, All-map,
 use Rattle.cnf.specs.Problem.{Problem}
 use Rattle.cnf.specs.declared.limits.TheConstants.{NUMBER_LIMIT}
 use Rattle.cdcl_order.proofs.Laws.{with_seen_none}
-use Rattle.cuts_policy.specs.declared.desk.DeskFault.{DeskFault}
-use Rattle.cuts_policy.specs.declared.desk.DeskFault.TheVariants.{Memory, Progress}
+use Rattle.cuts_cores.specs.declared.desk.DeskFault.{DeskFault}
+use Rattle.cuts_cores.specs.declared.desk.DeskFault.TheVariants.{Memory, Progress}
 use Rattle.improve.specs.Improving.{IsSolution, IsCostOfSome}
 use Rattle.improve.specs.Watch.{AreShown, costs_shown}
 use Rattle.improve.specs.declared.found.ImproveFault.{ImproveFault}

@@ -7,8 +7,8 @@ use Rattle.cnf.specs.Problem.{Problem}
 use Rattle.cnf.specs.declared.limits.TheConstants.{NUMBER_LIMIT}
 use Rattle.cdcl_order.specs.Budgets.{BudgetState, WaivesAs, left_of}
 use Rattle.cdcl_order.specs.Watch.{Sight, Better, with_seen}
-use Rattle.cuts_policy.specs.declared.desk.DeskFault.{DeskFault}
-use Rattle.cuts_policy.specs.declared.desk.DeskFault.TheVariants.{Memory, Progress}
+use Rattle.cuts_cores.specs.declared.desk.DeskFault.{DeskFault}
+use Rattle.cuts_cores.specs.declared.desk.DeskFault.TheVariants.{Memory, Progress}
 use Rattle.cuts_solver.specs.Solving.{SolverState}
 use Rattle.improve.specs.Progress.{Telling, with_told, with_failed}
 use Rattle.improve.specs.Improving.{IsSolution, AreFalling}

@@ -8,7 +8,7 @@ ghost use Rattle.improve_cuts.specs.Sessions.{EndsWithout, IsFaultOf, found_by};
 
 use crate::session::Session;
 use bound::weighted::weights;
-use cuts_policy::desk::{Desk, DeskFault};
+use cuts_cores::desk::{Desk, DeskFault};
 use cuts_policy::rounds::search;
 use improve::found::ImproveFault;
 use improve::progress::Progress;

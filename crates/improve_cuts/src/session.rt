@@ -14,7 +14,7 @@ use cdcl::assumptions::Assumptions;
 use cdcl::budget::Budget;
 use cdcl::guide::Guide;
 use cnf::types::{Formula, Instance, Lit};
-use cuts_policy::desk::{Descent, Desk, DeskFault, Trial, Walked};
+use cuts_cores::desk::{Descent, Desk, DeskFault, Trial, Walked};
 use cuts_solver::solver::{Assumed, CutsSolver, SolverEnd};
 use forms::state::Forms;
 use forms::types::NamedFact;

@@ -1,5 +1,5 @@
 -- The desk came from the first one by its calls alone.
-use Rattle.cuts_policy.proofs.counting.Counting.grow_for_solution.Given as goal
+use Rattle.cuts_cores.proofs.counting.Counting.grow_for_solution.Given as goal
 
 abbrev pub invariant-loop : goal.invariant-loop
 invariant-loop g l = record {

@@ -59,7 +59,7 @@ pub enum DeskFault {
 }
 
 impl From<AllocError> for DeskFault {
-    ghost use Rattle.cuts_policy.specs.declared.desk.DeskFault.TheVariants.{Memory};
+    ghost use Rattle.cuts_cores.specs.declared.desk.DeskFault.TheVariants.{Memory};
 
     ghost from_gives = { λ _ fault. fault ≡ Memory };
 

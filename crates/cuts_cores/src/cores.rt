@@ -1,17 +1,17 @@
-// Lower bounds by cores, stratified and weight-aware, with counts that grow. It is OLL (Andres,
-// Kaufmann, Matheis and Schaub, "Unsatisfiability-based optimization in clasp", 2012), as for soft
-// cardinality constraints (Morgado, Dodaro and Marques-Silva, "Core-Guided MaxSAT with Soft
-// Cardinality Constraints", 2014).
-//
-// In a stratum all relaxation literals and outputs with a rest of at least the threshold are
-// assumed false (stratification: Ansótegui, Bonet and Levy, "Improving SAT-Based Weighted MaxSAT
-// Solvers", 2012). A core takes the least rest of its literals; where one of them is the last
-// output of a count, that gets the next one. What is too dear to be true in anything cheaper than
-// the best solution is fixed by a cut under the form of the cores (hardening, of the same paper).
-//
-// One search of a stratum finds many cores: it passes over each assumption that is false where
-// those before it hold, and what explains it is a core. They are shortened and taken one after the
-// other, as long as all their literals have a rest. Made disjoint beforehand they were worth less.
+//! Lower bounds by cores, stratified and weight-aware, with counts that grow. It is OLL (Andres,
+//! Kaufmann, Matheis and Schaub, "Unsatisfiability-based optimization in clasp", 2012), as for soft
+//! cardinality constraints (Morgado, Dodaro and Marques-Silva, "Core-Guided MaxSAT with Soft
+//! Cardinality Constraints", 2014).
+//!
+//! In a stratum all relaxation literals and outputs with a rest of at least the threshold are
+//! assumed false (stratification: Ansótegui, Bonet and Levy, "Improving SAT-Based Weighted MaxSAT
+//! Solvers", 2012). A core takes the least rest of its literals; where one of them is the last
+//! output of a count, that gets the next one. What is too dear to be true in anything cheaper than
+//! the best solution is fixed by a cut under the form of the cores (hardening, of the same paper).
+//!
+//! One search of a stratum finds many cores: it passes over each assumption that is false where
+//! those before it hold, and what explains it is a core. They are shortened and taken one after the
+//! other, as long as all their literals have a rest. Made disjoint beforehand they were worth less.
 use crate::counting::Counting;
 use crate::desk::{Desk, DeskFault, Trial};
 use crate::items::Items;
@@ -22,6 +22,7 @@ use cdcl::assumptions::Assumptions;
 use cdcl::outcome::{Passed, Share};
 use cnf::clause_list::ClauseList;
 use cnf::types::Lit;
+use forms::types::NamedFact;
 use std::alloc::{AllocError, Global};
 
 /// What explains the assumptions that are passed over in one search has about so many literals for
@@ -30,7 +31,7 @@ const PASSED: usize = 4;
 
 /// How a turn of a part of the search goes on.
 #[derive(Clone, Copy, Debug, PartialEq, Eq, Drop)]
-pub(crate) enum Course {
+pub enum Course {
     /// There is more to do in this turn.
     GoesOn,
     /// Its share is spent, or it knows nothing more to do.
@@ -41,11 +42,11 @@ pub(crate) enum Course {
 
 /// The search for cores.
 #[derive(Drop)]
-pub(crate) struct Cores {
+pub struct Cores {
     // What may be assumed false.
     items: Items,
     // The cores so far, and their form.
-    pub(crate) counting: Counting,
+    counting: Counting,
     // What has at least so much as its rest is assumed false; 0 before the first stratum.
     threshold: u64,
     // What the cores are worth together: no solution costs less.
@@ -56,11 +57,7 @@ pub(crate) struct Cores {
 
 impl Cores {
     /// No core yet.
-    pub(crate) fn new(
-        alloc: Global,
-        weights: &[Relaxation],
-        last: u32,
-    ) -> Result<Self, AllocError> {
+    pub fn new(alloc: Global, weights: &[Relaxation], last: u32) -> Result<Self, AllocError> {
         let mut items = Items::new(alloc, weights, last)?;
         let lower = items.pay_both();
         Ok(Cores {
@@ -73,12 +70,22 @@ impl Cores {
     }
 
     /// What the best solution costs beyond what the cores are worth.
-    pub(crate) fn gap<D: Desk>(&self, desk: &D) -> u64 {
+    pub fn gap<D: Desk>(&self, desk: &D) -> u64 {
         desk.cost().saturating_sub(self.lower)
     }
 
+    /// The facts of the cores' form.
+    pub fn facts(&self) -> &[NamedFact] {
+        self.counting.citing.facts()
+    }
+
+    /// Another form is the present one.
+    pub fn forget_form(&mut self) {
+        self.counting.citing.forget();
+    }
+
     /// Looks for cores until about so many literals were assigned.
-    pub(crate) fn turn<D: Desk>(&mut self, desk: &mut D, share: u64) -> Result<Course, DeskFault>
+    pub fn turn<D: Desk>(&mut self, desk: &mut D, share: u64) -> Result<Course, DeskFault>
         ensures follows { (first : D) → D.follows first desk.old → D.follows first desk.new }
     {
         let end = desk.propagations().saturating_add(share);
@@ -107,7 +114,7 @@ impl Cores {
     }
 
     /// Says what the present form is worth, where that is more than what was said.
-    pub(crate) fn tell_bound<D: Desk>(&mut self, desk: &mut D) -> Result<(), DeskFault>
+    pub fn tell_bound<D: Desk>(&mut self, desk: &mut D) -> Result<(), DeskFault>
         ensures follows { (first : D) → D.follows first desk.old → D.follows first desk.new }
     {
         if desk.is_refuted() {
@@ -130,7 +137,7 @@ impl Cores {
     }
 
     /// The form of the cores becomes the present one; answers whether it has.
-    pub(crate) fn cite_cores<D: Desk>(&mut self, desk: &mut D) -> Result<bool, DeskFault>
+    pub fn cite_cores<D: Desk>(&mut self, desk: &mut D) -> Result<bool, DeskFault>
         ensures follows { (first : D) → D.follows first desk.old → D.follows first desk.new }
     {
         self.counting.citing.cite_cores(desk)
@@ -138,7 +145,7 @@ impl Cores {
 
     /// The present form comes to say what the solution costs that the search has ended at, by more
     /// outputs or as the cost itself; answers whether it has changed.
-    pub(crate) fn mend_form<D: Desk>(&mut self, desk: &mut D) -> Result<bool, DeskFault>
+    pub fn mend_form<D: Desk>(&mut self, desk: &mut D) -> Result<bool, DeskFault>
         ensures follows { (first : D) → D.follows first desk.old → D.follows first desk.new }
     {
         if self.counting.grow_for_solution(desk, &mut self.items)? {
