@@ -99,14 +99,15 @@ impl Citing {
         lower > self.told && desk.learned() >= self.next
     }
 
-    /// Says what the present form is worth, where that is more than what was said.
+    /// Says what the present form is worth, where that is more than what was said. After cuts that
+    /// holds up to the best cost only.
     pub(crate) fn tell_bound<D: Desk>(&mut self, desk: &mut D) -> Result<(), DeskFault>
         ensures follows { (first : D) → D.follows first desk.old → D.follows first desk.new }
     {
         let learned = desk.learned();
         self.next = learned.saturating_add(learned / PART).saturating_add(1);
         let worth = match desk.forms().bound() {
-            Ok(Some(worth)) => worth,
+            Ok(Some(worth)) => worth.min(desk.cost()),
             _ => 0,
         };
         if worth > self.told && desk.bound(worth)? {
