@@ -1,7 +1,7 @@
 // The present form: that of the cores, which is the cost less the facts of their counts, each as
 // many times as its core is worth, so that its literals cost that much less and its outputs that
-// much (the reformulation of OLL, as one linear form); or the cost itself. Lines are written only
-// for what is new.
+// much (the reformulation of OLL, as one linear form); the cost itself; or one of other facts.
+// Lines are written only for what is new.
 
 use crate::desk::{Desk, DeskFault};
 use forms::types::NamedFact;
@@ -14,8 +14,8 @@ const PART: u64 = 100;
 /// What the present form is.
 #[derive(Clone, Copy, Debug, PartialEq, Eq, Drop)]
 enum Present {
-    /// There is none yet.
-    None,
+    /// One of other facts, or none yet.
+    Other,
     /// The cost itself.
     Cost,
     /// That of the cores, with so many of their facts.
@@ -25,13 +25,13 @@ enum Present {
 /// What the log was told of forms and bounds.
 #[derive(Drop)]
 pub(crate) struct Citing {
-    // The facts of the cores' form.
+    // The facts of the cores' form, in the order of their cores.
     facts: Vec<NamedFact>,
     // The present form.
     present: Present,
-    // The greatest bound that was told.
+    // The greatest bound that was told, up to the best cost; 0 before the first one.
     told: u64,
-    // The next one is told in the course of a turn once so many clauses were learned.
+    // The next one is told in the course of a turn once so many clauses were learned, from 0.
     next: u64,
 }
 
@@ -40,7 +40,7 @@ impl Citing {
     pub(crate) fn new(alloc: Global) -> Self {
         Citing {
             facts: Vec::new(alloc),
-            present: Present::None,
+            present: Present::Other,
             told: 0,
             next: 0,
         }
@@ -61,9 +61,25 @@ impl Citing {
         &self.facts
     }
 
-    /// Another form is the present one.
-    pub(crate) fn forget(&mut self) {
-        self.present = Present::None;
+    /// The greatest bound that was told; 0 before the first one.
+    pub(crate) fn told(&self) -> u64 {
+        self.told
+    }
+
+    /// So many times the cost, less these facts, becomes the present form; answers whether it is.
+    pub(crate) fn cite_other<D: Desk>(
+        &mut self,
+        desk: &mut D,
+        scale: u64,
+        facts: &[NamedFact],
+    ) -> Result<bool, DeskFault>
+        ensures follows { (first : D) → D.follows first desk.old → D.follows first desk.new }
+    {
+        let is_right = desk.form(scale, facts)?;
+        if is_right {
+            self.present = Present::Other;
+        }
+        Ok(is_right)
     }
 
     /// The form of the cores becomes the present one, with all facts so far; answers whether it is.
@@ -74,7 +90,7 @@ impl Citing {
         let is_right = match self.present {
             Present::Cores(count) if count >= all => true,
             Present::Cores(count) => desk.form_more(self.facts.get(count..).unwrap_or(&[]))?,
-            Present::None | Present::Cost => desk.form(1, &self.facts)?,
+            Present::Other | Present::Cost => desk.form(1, &self.facts)?,
         };
         if is_right {
             self.present = Present::Cores(all);

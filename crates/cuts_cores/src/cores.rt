@@ -47,11 +47,11 @@ pub struct Cores {
     items: Items,
     // The cores so far, and their form.
     counting: Counting,
-    // What has at least so much as its rest is assumed false; 0 before the first stratum.
+    // What has at least so much as its rest is assumed false, from 1; 0 before the first stratum.
     threshold: u64,
-    // What the cores are worth together: no solution costs less.
+    // What the cores are worth together, from 0: no solution costs less.
     lower: u64,
-    // Whether no further core can be looked for.
+    // Whether no further core is looked for.
     is_over: bool,
 }
 
@@ -79,9 +79,9 @@ impl Cores {
         self.counting.citing.facts()
     }
 
-    /// Another form is the present one.
-    pub fn forget_form(&mut self) {
-        self.counting.citing.forget();
+    /// The greatest bound that was told; 0 before the first one.
+    pub fn told(&self) -> u64 {
+        self.counting.citing.told()
     }
 
     /// Looks for cores until about so many literals were assigned.
@@ -141,6 +141,18 @@ impl Cores {
         ensures follows { (first : D) → D.follows first desk.old → D.follows first desk.new }
     {
         self.counting.citing.cite_cores(desk)
+    }
+
+    /// So many times the cost, less these facts, becomes the present form; answers whether it has.
+    pub fn cite_other<D: Desk>(
+        &mut self,
+        desk: &mut D,
+        scale: u64,
+        facts: &[NamedFact],
+    ) -> Result<bool, DeskFault>
+        ensures follows { (first : D) → D.follows first desk.old → D.follows first desk.new }
+    {
+        self.counting.citing.cite_other(desk, scale, facts)
     }
 
     /// The present form comes to say what the solution costs that the search has ended at, by more

@@ -29,7 +29,7 @@ const SHOW_CONFLICTS: u64 = 1000;
 struct Core {
     // What it is worth, from 1: so much each output of its count costs, from the second on.
     weight: u64,
-    // One of these is true.
+    // Two literals or more, of which one is true.
     lits: Vec<Lit>,
     // The number of its count, from 1; 0 where it has none.
     count: u64,
@@ -38,9 +38,9 @@ struct Core {
 /// A count that has too few outputs.
 #[derive(Clone, Copy, Drop)]
 struct Lack {
-    // The place of its core.
+    // The place of its core, from 0.
     core: usize,
-    // How many outputs it should have.
+    // How many outputs it should have: more than it has.
     outputs: usize,
 }
 
@@ -49,9 +49,9 @@ struct Lack {
 pub(crate) struct Counting {
     // All cores so far.
     cores: Vec<Core>,
-    // Those before this place have their counts, but for those that there was no room for.
+    // Those before this place, from 0, have their counts, but where there was no room for one.
     counted: usize,
-    // Outputs that wait for the stratum's next solution, each with what it costs.
+    // Outputs that wait for the stratum's next solution, each with what it costs, from 1.
     fresh: Vec<Relaxation>,
     // The form of the cores.
     pub(crate) citing: Citing,

@@ -11,13 +11,13 @@ use std::alloc::{AllocError, Global};
 /// Literals that cost something, each with its rest.
 #[derive(Drop)]
 pub(crate) struct Items {
-    // By literal: what is left of its weight.
+    // By literal: what is left of its weight, from 0.
     rests: Vec<u64>,
     // By literal: whether it stands in the list.
     listed: Vec<bool>,
     // The literals with a rest; some may have lost it since they came.
     list: Vec<Lit>,
-    // By variable: one more than the place of the core whose output it is, or 0.
+    // By variable: one more than the place of the core whose output it is; 0 where it is none.
     origins: Vec<u32>,
     // By literal: false, but while literals are looked up.
     marks: Vec<bool>,

@@ -20,7 +20,7 @@ use std::alloc::{AllocError, Global};
 /// A literal of the trail that costs something.
 #[derive(Clone, Copy, Drop)]
 struct Paid {
-    // Its place on the trail.
+    // Its place on the trail, from 0.
     place: usize,
     // What it costs, from 1.
     weight: u64,
@@ -31,15 +31,15 @@ struct Paid {
 pub(crate) struct BoundGuide {
     // By literal: what it costs where it is true, up to one more than the limit.
     weights: Vec<u64>,
-    // More than this is too much.
+    // More than this is too much; any number from 0.
     limit: u64,
-    // So many literals of the trail were looked at.
+    // So many literals of the trail were looked at, up to all.
     seen: usize,
-    // What the costly ones among them cost together.
+    // What the costly ones among them cost together, from 0.
     sum: u128,
     // The costly ones among them, in the order of the trail.
     paid: Vec<Paid>,
-    // The last cut.
+    // The last cut: literals that are false; none before the first one.
     cut: Vec<Lit>,
     // It stops once the search has so many propagations; at 0 at once.
     until: u64,

@@ -5,5 +5,6 @@
 
 mod bounding;
 mod linear_bounds;
+mod root;
 pub mod rounds;
 mod walks;

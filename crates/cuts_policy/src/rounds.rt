@@ -68,68 +68,112 @@ pub fn search<D: Desk>(desk: &mut D, weights: &[Relaxation]) -> Result<(), DeskF
     ensures ended { OnOk result (D.refuted desk.new ⊎ (D.left desk.new ≡ 0)) }
     ensures follows { (first : D) → D.follows first desk.old → D.follows first desk.new }
 {
-    let mut cores = Cores::new(desk.allocator(), weights, desk.last())?;
-    let mut linear = LinearBounds::new(desk.allocator());
-    begin(desk, weights, &mut cores, &mut linear)?;
-    let mut walks = Walks::new();
-    let mut parts = Parts {
-        cores: PARTS,
-        descents: PARTS,
-    };
-    let mut share = FIRST;
-    let mut left = desk.left();
-    while left > 0 {
-        if desk.is_refuted() {
-            return Ok(());
-        }
-        round(
-            desk,
-            weights,
-            &mut cores,
-            &mut walks,
-            &mut linear,
-            &mut parts,
-            share,
-        )?;
-        share = share.saturating_add(share / 2);
-        desk.charge(left - 1);
-        left = desk.left();
-    }
-    Ok(())
+    let mut rounds = Rounds::new(desk.allocator(), weights, desk.last())?;
+    rounds.run(desk)
 }
 
-/// Decisions try the best solution first. Where there is none, a first one is looked for: by
-/// decisions that try what costs nothing, and by plain ones, in turns with the relaxation.
-fn begin<D: Desk>(
-    desk: &mut D,
-    weights: &[Relaxation],
-    cores: &mut Cores,
-    linear: &mut LinearBounds,
-) -> Result<(), DeskFault>
-    ensures follows { (first : D) → D.follows first desk.old → D.follows first desk.new }
-{
-    if desk.has_solution() {
-        desk.suggest_best();
-        return Ok(());
+/// What goes on from round to round.
+#[derive(Drop)]
+struct Rounds<'w> {
+    // The literals that cost something, with what they cost.
+    weights: &'w [Relaxation],
+    // The search for cores.
+    cores: Cores,
+    // The linear relaxation.
+    linear: LinearBounds,
+    // The walks.
+    walks: Walks,
+    // What the parts of the next round get.
+    parts: Parts,
+}
+
+impl<'w> Rounds<'w> {
+    /// Before the first round, with room for variables up to `last`.
+    fn new(alloc: Global, weights: &'w [Relaxation], last: u32) -> Result<Self, AllocError> {
+        Ok(Rounds {
+            weights,
+            cores: Cores::new(alloc, weights, last)?,
+            linear: LinearBounds::new(alloc),
+            walks: Walks::new(),
+            parts: Parts {
+                cores: PARTS,
+                descents: PARTS,
+            },
+        })
     }
-    let alloc = desk.allocator();
-    let cheap = cheap_values(alloc, weights, desk.last())?;
-    let plain = Vec::from_elem(alloc, false, cheap.len())?;
-    let mut share = FIRST_SOLUTION;
-    for turn in 0..u64::MAX {
-        let values = if turn % 2 == 0 { &cheap } else { &plain };
-        desk.suggest(values);
-        search_freely(desk, share)?;
-        if has_begun(desk) {
-            break;
+
+    /// A first solution, and then rounds, until nothing is cheaper than the best solution, or the
+    /// budget is spent.
+    fn run<D: Desk>(&mut self, desk: &mut D) -> Result<(), DeskFault>
+        ensures ended { OnOk result (D.refuted desk.new ⊎ (D.left desk.new ≡ 0)) }
+        ensures follows { (first : D) → D.follows first desk.old → D.follows first desk.new }
+    {
+        self.begin(desk)?;
+        let mut share = FIRST;
+        let mut left = desk.left();
+        while left > 0 {
+            if desk.is_refuted() {
+                return Ok(());
+            }
+            self.round(desk, share)?;
+            share = share.saturating_add(share / 2);
+            desk.charge(left - 1);
+            left = desk.left();
         }
-        linear.turn(desk, weights, cores, share)?;
-        if has_begun(desk) {
-            break;
-        }
-        share = share.saturating_add(share / 2);
+        Ok(())
     }
-    Ok(())
+
+    /// Decisions try the best solution first. Where there is none, a first one is looked for: by
+    /// decisions that try what costs nothing, and by plain ones, in turns with the relaxation.
+    fn begin<D: Desk>(&mut self, desk: &mut D) -> Result<(), DeskFault>
+        ensures follows { (first : D) → D.follows first desk.old → D.follows first desk.new }
+    {
+        if desk.has_solution() {
+            desk.suggest_best();
+            return Ok(());
+        }
+        let alloc = desk.allocator();
+        let cheap = cheap_values(alloc, self.weights, desk.last())?;
+        let plain = Vec::from_elem(alloc, false, cheap.len())?;
+        let mut share = FIRST_SOLUTION;
+        for turn in 0..u64::MAX {
+            let values = if turn % 2 == 0 { &cheap } else { &plain };
+            desk.suggest(values);
+            search_freely(desk, share)?;
+            if has_begun(desk) {
+                break;
+            }
+            self.linear
+                .turn(desk, self.weights, &mut self.cores, share)?;
+            if has_begun(desk) {
+                break;
+            }
+            share = share.saturating_add(share / 2);
+        }
+        Ok(())
+    }
+
+    /// Cores, then walks, the relaxation, and solutions, for a share of propagations each.
+    fn round<D: Desk>(&mut self, desk: &mut D, share: u64) -> Result<(), DeskFault>
+        ensures follows { (first : D) → D.follows first desk.old → D.follows first desk.new }
+    {
+        let before = self.cores.gap(desk);
+        let others = part_of(share, self.linear.others());
+        let course = self.cores.turn(desk, part_of(others, self.parts.cores))?;
+        self.parts.cores = judge(self.parts.cores, before, self.cores.gap(desk));
+        match course {
+            Course::GoesOn | Course::Over => {
+                self.walks.turn(desk, share)?;
+                self.linear
+                    .turn(desk, self.weights, &mut self.cores, share)?;
+                let before = self.cores.gap(desk);
+                descend(desk, &mut self.cores, part_of(others, self.parts.descents))?;
+                self.parts.descents = judge(self.parts.descents, before, self.cores.gap(desk));
+            }
+            Course::Ended => {}
+        }
+        self.cores.tell_bound(desk)
+    }
 }
 
 /// Whether there is a first solution, or none to look for.
@@ -160,35 +204,6 @@ fn cheap_values(alloc: Global, weights: &[Relaxation], last: u32) -> Result<Vec<
         set(&mut values, place, weight.lit.is_negated());
     }
     Ok(values)
-}
-
-/// Cores, then walks, and then solutions, for a share of propagations each.
-fn round<D: Desk>(
-    desk: &mut D,
-    weights: &[Relaxation],
-    cores: &mut Cores,
-    walks: &mut Walks,
-    linear: &mut LinearBounds,
-    parts: &mut Parts,
-    share: u64,
-) -> Result<(), DeskFault>
-    ensures follows { (first : D) → D.follows first desk.old → D.follows first desk.new }
-{
-    let before = cores.gap(desk);
-    let others = part_of(share, linear.others());
-    let course = cores.turn(desk, part_of(others, parts.cores))?;
-    parts.cores = judge(parts.cores, before, cores.gap(desk));
-    match course {
-        Course::GoesOn | Course::Over => {
-            walks.turn(desk, share)?;
-            linear.turn(desk, weights, cores, share)?;
-            let before = cores.gap(desk);
-            descend(desk, cores, part_of(others, parts.descents))?;
-            parts.descents = judge(parts.descents, before, cores.gap(desk));
-        }
-        Course::Ended => {}
-    }
-    cores.tell_bound(desk)
 }
 
 /// Looks for solutions below the best one, until about so many literals were assigned.

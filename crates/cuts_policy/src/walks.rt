@@ -53,7 +53,7 @@ struct Way {
     kind: WalkKind,
     // Their part of the visits of a turn, from `LEAST` to `MOST` thousandths.
     part: u64,
-    // So many visits for each literal of the instance, at least.
+    // So many visits for each literal of the instance, at least: one of the constants.
     least: u64,
 }
 
@@ -83,7 +83,7 @@ pub(crate) struct Walks {
     priced: Way,
     // Those whose clauses only become heavier.
     growing: Way,
-    // How many visits all of them made but the first one.
+    // How many visits all of them made but the first one, from 0.
     visits: u64,
     // Whether there was a first one.
     has_begun: bool,

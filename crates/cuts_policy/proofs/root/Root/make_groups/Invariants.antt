@@ -1,8 +1,8 @@
 -- The desk came from the first one by its calls alone.
-use Rattle.cuts_policy.proofs.rounds.begin.Given as goal
+use Rattle.cuts_policy.proofs.root.Root.make_groups.Given as goal
 
-abbrev pub invariant-loop-turn : goal.invariant-loop-turn
-invariant-loop-turn g l = record {
+abbrev pub invariant-loop-place : goal.invariant-loop-place
+invariant-loop-place g l = record {
   follows : (first : g.row.D.Denot) → g.D.Desk.follows first l.fn.desk
       → g.D.Desk.follows first l.desk;
 }

@@ -1,6 +1,6 @@
 -- The desk came from the first one by its calls alone, and what is left of the budget is known.
 use Rattle.std.proofs.Common.{◌≡◌}
-use Rattle.cuts_policy.proofs.rounds.search.Given as goal
+use Rattle.cuts_policy.proofs.rounds.Rounds.run.Given as goal
 
 abbrev pub invariant-loop-left : goal.invariant-loop-left
 invariant-loop-left g l = record {
