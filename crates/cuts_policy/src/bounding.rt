@@ -17,6 +17,10 @@ use cuts_cores::desk::{Desk, DeskFault};
 use cuts_cores::tables::{at, set};
 use std::alloc::{AllocError, Global};
 
+/// A literal of a cut counts as so many propagations: its text, its mark in the analysis and its
+/// place in a learned clause. On 16,000 soft clauses nine tenths of the time went there.
+const EACH: u64 = 1;
+
 /// A literal of the trail that costs something.
 #[derive(Clone, Copy, Drop)]
 struct Paid {
@@ -41,7 +45,8 @@ pub(crate) struct BoundGuide {
     paid: Vec<Paid>,
     // The last cut: literals that are false; none before the first one.
     cut: Vec<Lit>,
-    // It stops once the search has so many propagations; at 0 at once.
+    // It stops once the search has so many propagations, less `EACH` for each literal of a cut; at 0
+    // at once.
     until: u64,
 }
 
@@ -62,6 +67,11 @@ impl BoundGuide {
             cut: Vec::new(alloc),
             until,
         }))
+    }
+
+    /// It stops once the search has so many propagations.
+    pub(crate) fn until(&self) -> u64 {
+        self.until
     }
 
     /// Looks at what came to the trail.
@@ -215,6 +225,8 @@ impl Guide for BoundGuide {
             return Ok(Advice::Free);
         }
         let levels = self.make_cut(search)?;
+        let work = (self.cut.len() as u64).saturating_mul(EACH);
+        self.until = self.until.saturating_sub(work);
         Ok(Advice::Cut(Some(levels)))
     }
 

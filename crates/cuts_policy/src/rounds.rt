@@ -109,6 +109,7 @@ impl<'w> Rounds<'w> {
         ensures follows { (first : D) → D.follows first desk.old → D.follows first desk.new }
     {
         self.begin(desk)?;
+        self.walks.begin(desk)?;
         let mut share = FIRST;
         let mut left = desk.left();
         while left > 0 {
@@ -210,10 +211,10 @@ fn cheap_values(alloc: Global, weights: &[Relaxation], last: u32) -> Result<Vec<
 fn descend<D: Desk>(desk: &mut D, cores: &mut Cores, share: u64) -> Result<(), DeskFault>
     ensures follows { (first : D) → D.follows first desk.old → D.follows first desk.new }
 {
-    let end = desk.propagations().saturating_add(share);
+    let mut until = desk.propagations().saturating_add(share);
     cores.cite_cores(desk)?;
     for _ in 0..u64::MAX {
-        if desk.propagations() >= end || !descend_once(desk, cores, end)? {
+        if desk.propagations() >= until || !descend_once(desk, cores, &mut until)? {
             return Ok(());
         }
     }
@@ -222,15 +223,21 @@ fn descend<D: Desk>(desk: &mut D, cores: &mut Cores, share: u64) -> Result<(), D
 
 /// Looks for a solution below the best one, until there were so many propagations; answers whether
 /// to go on from where that has led.
-fn descend_once<D: Desk>(desk: &mut D, cores: &mut Cores, until: u64) -> Result<bool, DeskFault>
+fn descend_once<D: Desk>(
+    desk: &mut D,
+    cores: &mut Cores,
+    until: &mut u64,
+) -> Result<bool, DeskFault>
     ensures follows { (first : D) → D.follows first desk.old → D.follows first desk.new }
 {
-    let Some(mut guide) = BoundGuide::new(desk, until)? else {
+    let Some(mut guide) = BoundGuide::new(desk, *until)? else {
         desk.cut(&[])?;
         return Ok(false);
     };
     desk.suggest_best();
-    match desk.descend(&mut guide)? {
+    let descent = desk.descend(&mut guide)?;
+    *until = guide.until();
+    match descent {
         Descent::Cheaper => Ok(true),
         Descent::NoCheaper => cores.mend_form(desk),
         Descent::Refuted | Descent::Stopped | Descent::Spent => Ok(false),

@@ -37,10 +37,17 @@ const LEAST_GROWING: u64 = 20;
 /// A walk makes no more than so many visits for each literal.
 const MOST_EACH: u64 = 1000;
 
-/// The first priced walk makes so many visits for each literal,
+/// The walk from a first solution makes so many visits for each literal: enough to have a cost by
+/// which the first cores can fix literals, and little beside what they take.
+const FIRST_EACH: u64 = 20;
+
+/// and so many at most.
+const FIRST: u64 = 1_000_000;
+
+/// The priced walk after the first cores makes so many visits for each literal,
 const BEGINNING_EACH: u64 = 120;
 
-/// and so many at most. They are beside what goes with propagations.
+/// and so many at most. Both are beside what goes with propagations.
 const BEGINNING: u64 = 10_000_000;
 
 /// All walks may make as many visits as if there were so many propagations more.
@@ -106,6 +113,15 @@ impl Walks {
             visits: 0,
             has_begun: false,
         }
+    }
+
+    /// A short priced walk, from a first solution.
+    pub(crate) fn begin<D: Desk>(&mut self, desk: &mut D) -> Result<(), DeskFault>
+        ensures follows { (first : D) → D.follows first desk.old → D.follows first desk.new }
+    {
+        let most = desk.size().saturating_mul(FIRST_EACH);
+        walk_for(desk, &mut self.priced, most.min(FIRST))?;
+        Ok(())
     }
 
     /// A walk of each kind, as one of the turns that have about so many propagations each.

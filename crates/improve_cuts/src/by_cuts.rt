@@ -24,8 +24,7 @@ use std::io::Write;
 /// proves what is answered.
 ///
 /// The bits of `start` satisfy the hard clauses, and there may be more of them than variables. They
-/// are the first solution, made cheaper by the local search. Where nothing is left of the budget,
-/// no solution is found.
+/// are the first solution. Where nothing is left of the budget, no solution is found.
 ///
 /// # Errors
 ///

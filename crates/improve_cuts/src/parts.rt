@@ -1,15 +1,13 @@
 // What a session does with one of its parts.
 ghost use Rattle.std.specs.Prelude.{◌≡◌, ◌≤◌};
 ghost use Rattle.cdcl_order.specs.Budgets.{left_of};
-ghost use Rattle.improve.specs.Improving.{IsSolution};
-ghost use Rattle.improve.specs.Standing.{AreFeasible};
 ghost use Rattle.improve_cuts.specs.Sessions.{cost_of};
 
 use cdcl::budget::Budget;
 use cnf::limits::NUMBER_LIMIT;
-use cnf::types::{Instance, Lit};
+use cnf::types::Lit;
 use forms::state::Forms;
-use improve::solutions::{Solution, price, price_polished};
+use improve::solutions::Solution;
 
 /// What the best solution costs; 2^62 while there is none.
 pub fn cost_in(best: &Option<Solution>) -> u64
@@ -37,15 +35,4 @@ pub fn spend_to(budget: &mut Budget, most: u64)
     while budget.left() > most {
         budget.count_learned();
     }
-}
-
-/// The solution that these bits begin with; the first one is made cheaper by the local search.
-pub fn price_met(instance: &Instance, bits: Vec<bool>, is_first: bool) -> Solution
-    requires { AreFeasible instance.now bits.items }
-    ensures { IsSolution instance.now result.bits.items result.cost }
-{
-    if is_first {
-        return price_polished(instance, bits);
-    }
-    price(instance, bits)
 }

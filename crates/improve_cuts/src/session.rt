@@ -7,7 +7,7 @@ ghost use Rattle.improve.specs.Progress.{CanFail};
 ghost use Rattle.improve.specs.Standing.{AreFeasible};
 ghost use Rattle.improve_cuts.specs.Sessions.{LeadsTo, cost_of, same_prop};
 
-use crate::parts::{cost_in, last_output, price_met, spend_to};
+use crate::parts::{cost_in, last_output, spend_to};
 use crate::walks::Walks;
 use bound::weighted::weighted_formula;
 use cdcl::assumptions::Assumptions;
@@ -20,7 +20,7 @@ use forms::state::Forms;
 use forms::types::NamedFact;
 use improve::progress::Progress;
 use improve::search::tell;
-use improve::solutions::Solution;
+use improve::solutions::{Solution, price};
 use improve::watch::Watch;
 use improve_local::kinds::WalkKind;
 use std::alloc::{AllocError, Global};
@@ -77,7 +77,7 @@ impl<'i, 's, 'b, 'p, 'k, 'm, 'w, W: Write + Drop, T: Progress, K: Watch> Session
     }
 
     /// Takes the solution that these bits begin with, and keeps it if it is cheaper than the best
-    /// one; whether it is. The first one is made cheaper by the local search.
+    /// one; whether it is.
     pub fn meet(&mut self, bits: Vec<bool>) -> Result<bool, DeskFault>
         requires feasible { AreFeasible self.old.instance.now bits.items }
         requires left { 0 < left_of self.old.budget.now }
@@ -86,8 +86,7 @@ impl<'i, 's, 'b, 'p, 'k, 'm, 'w, W: Write + Drop, T: Progress, K: Watch> Session
             → ⟦<Session<'i, 's, 'b, 'p, 'k, 'm, 'w, W, T, K> as Desk>⟧.follows first self.old
             → ⟦<Session<'i, 's, 'b, 'p, 'k, 'm, 'w, W, T, K> as Desk>⟧.follows first self.new }
     {
-        let is_first = self.best.is_none();
-        let solution = price_met(self.instance, bits, is_first);
+        let solution = price(self.instance, bits);
         if solution.cost >= cost_in(self.best) {
             return Ok(false);
         }
