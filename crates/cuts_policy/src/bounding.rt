@@ -45,8 +45,8 @@ pub(crate) struct BoundGuide {
     paid: Vec<Paid>,
     // The last cut: literals that are false; none before the first one.
     cut: Vec<Lit>,
-    // It stops once the search has so many propagations, less `EACH` for each literal of a cut; at 0
-    // at once.
+    // It stops once the search has so many propagations, less `EACH` for each literal of a cut; at
+    // 0 at once.
     until: u64,
 }
 
