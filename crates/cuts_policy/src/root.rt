@@ -1,7 +1,7 @@
 // Level 0 of the linear relaxation, from turn to turn. It is solved from where the last turn left
 // it, at first with what the cores are worth as the multipliers of their counts: it begins with
-// their bound. The multipliers in whole numbers are a form line, which is long. So it is proposed
-// only where it is worth more than what was told, or some value is too dear beside it.
+// their bound. The multipliers in whole numbers are a form line. It is proposed where it is worth
+// more than what was told, or some value is too dear beside it, and else it would be in vain.
 
 use crate::bounding::fix_dear;
 use cnf::types::Lit;
