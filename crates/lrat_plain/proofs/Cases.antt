@@ -51,8 +51,29 @@ module _ (cost : Option ℕ) (s t : CutsState) where
   plain_line [] e none some = absurd (some refl)
   plain_line (u ∷ us) e none some = plain_at u us s.ended (word_of u) e none
 
+  word_at : (u : List ℕ) (us : List (List ℕ)) (b : Bool) (o : Option Word)
+      (line : Option WordLine) → ended_or u us b o ≡ Ok t → line_by us o ≡ Some line
+      → judged_word cost line s ≡ Ok t
+  word_at u us true o line e is = absurd (cc)
+  word_at u us false None line e is = absurd (cc)
+  word_at u us false (Some w) line e is =
+      let same : after_word w us ≡ line = cc in ap (λ x. judged_word cost x s) (sym same) ∙ e
+
+  -- one that begins with a word
+  pub word_line : (ts : List (List ℕ)) (line : Option WordLine) → judged_line cost s ts ≡ Ok t
+      → word_line_of ts ≡ Some line → judged_word cost line s ≡ Ok t
+  word_line [] line e is = absurd (cc)
+  word_line (u ∷ us) line e is = word_at u us s.ended (word_of u) line e is
+
+  -- behind the empty clause none has a token
+  pub trailing : (ts : List (List ℕ)) → judged_line cost s ts ≡ Ok t → s.ended ≡ true → ts ≡ []
+  trailing [] e on = refl
+  trailing (u ∷ us) e on =
+      let f : Err TrailingLine ≡ Ok t = sym (ap (λ b. ended_or u us b (word_of u)) on) ∙ e in
+      absurd (cc)
+
   -- one that is neither an addition nor a deletion begins with a word
-  no_plain : (ts : List (List ℕ)) → judged_line cost s ts ≡ Ok t → (ts ≡ [] → ⊥)
+  pub no_plain : (ts : List (List ℕ)) → judged_line cost s ts ≡ Ok t → (ts ≡ [] → ⊥)
       → line_of ts ≡ Malformed → word_line_of ts ≡ None → ⊥
   no_plain ts e some bad none =
       let p : Err LineForm ≡ Ok t = ap (λ x. judged_plain x s) (sym bad)
@@ -82,7 +103,7 @@ module _ (cost : Option ℕ) (s t : CutsState) where
       none_of None e = refl
       none_of (Some f) e = absurd (cc)
 
-      no_fault : rup_fault (live_of s.last s.live) id c hints ≡ None
+      pub no_fault : rup_fault (live_of s.last s.live) id c hints ≡ None
       no_fault = none_of (rup_fault (live_of s.last s.live) id c hints) judged
 
       pub addition_state : t ≡ put id c s
@@ -127,13 +148,17 @@ module _ (cost : Option ℕ) (s t : CutsState) where
       by_left None = Err DeadId
       by_left (Some es) = Ok (record s { live = es })
 
-      last_of : (o : Option Listed) → by_left o ≡ Ok t → t.last ≡ s.last
-      last_of None e = absurd (cc)
-      last_of (Some es) e =
-          let same : record s { live = es } ≡ t = cc in ap (λ (x : CutsState). x.last) (sym same)
+      left_of : (o : Option Listed) → deleted_from s.live ids ≡ o → by_left o ≡ Ok t
+          → (es : Listed) × (deleted_from s.live ids ≡ Some es) × (record s { live = es } ≡ t)
+      left_of None q e = absurd (cc)
+      left_of (Some es) q e = let same : record s { live = es } ≡ t = cc in (es, q, same)
+
+      pub deletion_state : (es : Listed) × (deleted_from s.live ids ≡ Some es)
+          × (record s { live = es } ≡ t)
+      deletion_state = left_of (deleted_from s.live ids) refl deletes
 
       pub deletion_last : t.last ≡ s.last
-      deletion_last = last_of (deleted_from s.live ids) deletes
+      deletion_last = ap (λ (x : CutsState). x.last) (sym deletion_state.2)
 
       module _ (n : Names) where
         pub deletion_made : made_by ts s t ≡ []
@@ -147,6 +172,30 @@ module _ (cost : Option ℕ) (s t : CutsState) where
         deletion_lines = rw (deletes_no_word, parsed) refl
 
 -- a line that begins with a word, and makes these clauses
+module _ (s t : CutsState) (ts : List (List ℕ)) (line : Option WordLine)
+    (is : word_line_of ts ≡ Some line) (made : List (List Literal)) (puts : Puts s made t) where
+  pub made_are : made_by ts s t ≡ made
+  made_are = rw is (made_put s t made puts)
+
+  made_is : made_by ts s t ≡ map (λ e. e.1) (drop (length s.live) t.live)
+  made_is = rw is refl
+
+  module _ (n : Names) where
+    names_is : names_after n ts s t ≡ named_all s.last (length (made_by ts s t)) n
+    names_is = rw is (ap (λ (z : List (List Literal)). named_all s.last (length z) n) made_is)
+
+    pub names_are : names_after n ts s t ≡ named_all s.last (length made) n
+    names_are =
+        names_is ∙ ap (λ (z : List (List Literal)). named_all s.last (length z) n) made_are
+
+    pub lines_are : lines_by n ts s t
+        ≡ ending (named_all s.last (length made) n) t.last t.ended
+    lines_are =
+        let e : lines_by n ts s t ≡ ending (names_after n ts s t) t.last t.ended =
+        rw is (ap (λ z. ending z t.last t.ended) names_is) in
+        e ∙ ap (λ z. ending z t.last t.ended) names_are
+
+-- so does a machine that read a line which is neither an addition nor a deletion
 module _ (old new : MachineState) (ts : List (List ℕ)) (j : Judges old ts new)
     (some : ts ≡ [] → ⊥) (bad : line_of ts ≡ Malformed) where
   word_is : (o : Option (Option WordLine)) → word_line_of ts ≡ o
@@ -166,35 +215,20 @@ module _ (old new : MachineState) (ts : List (List ℕ)) (j : Judges old ts new)
   puts = subst made_if word.1 j.made
 
   pub word_made : made_by ts old.state new.state ≡ new.made
-  word_made = rw (word.1) (made_put old.state new.state new.made puts)
+  word_made = made_are old.state new.state ts word.0 word.1 new.made puts
 
   pub word_last : (new.state).last ≡ (old.state).last + length new.made
   word_last = puts.last
 
-  made_is : made_by ts old.state new.state
-      ≡ map (λ e. e.1) (drop (length (old.state).live) (new.state).live)
-  made_is = rw (word.1) refl
-
   module _ (n : Names) where
-    names_are : names_after n ts old.state new.state
-        ≡ named_all (old.state).last (length (made_by ts old.state new.state)) n
-    names_are = rw (word.1) (ap (λ (z : List (List Literal)). named_all (old.state).last (length z)
-        n) made_is)
-
     pub word_names : names_after n ts old.state new.state
         ≡ named_all (old.state).last (length new.made) n
-    word_names =
-        names_are
-        ∙ ap (λ (z : List (List Literal)). named_all (old.state).last (length z) n) word_made
+    word_names = names_are old.state new.state ts word.0 word.1 new.made puts n
 
     pub word_lines : lines_by n ts old.state new.state
         ≡ ending (named_all (old.state).last (length new.made) n) (new.state).last
         (new.state).ended
-    word_lines =
-        let e : lines_by n ts old.state new.state
-        ≡ ending (names_after n ts old.state new.state) (new.state).last (new.state).ended =
-        rw (word.1) (ap (λ z. ending z (new.state).last (new.state).ended) names_are) in
-        e ∙ ap (λ z. ending z (new.state).last (new.state).ended) word_names
+    word_lines = lines_are old.state new.state ts word.0 word.1 new.made puts n
 
 -- names keep what they are over
 pub forgotten_same : (ids : List ℕ) (n : Names)

@@ -5,3 +5,15 @@ mod Cases
 mod Taking
 mod Running
 mod Wholes
+mod LawPlaces
+mod LawHints
+mod LawLists
+mod LawNumbers
+mod LawStands
+mod LawDeletes
+mod LawWords
+mod LawCases
+mod LawSteps
+mod LawBegins
+mod LawLines
+mod PlainLaws

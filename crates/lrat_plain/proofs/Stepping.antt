@@ -22,7 +22,8 @@ judges old new ts s = record {
   lines = s.lines;
 }
 
-abbrev line_by : ℕ → Result CutsState Cause → (CutsState → Result CutsState (Cause × ℕ))
+-- where the line is right, what comes of it
+abbrev pub line_by : ℕ → Result CutsState Cause → (CutsState → Result CutsState (Cause × ℕ))
     → Result CutsState (Cause × ℕ)
 line_by n (Err f) next = Err (f, n)
 line_by n (Ok t) next = next t
@@ -43,11 +44,11 @@ fault_of old new ts cause n s e = λ f k is more.
     judged_more old ts more (Err cause) s.judged
     ∙ ap (λ (c : Cause). Err (c, old.lines + 1)) same ∙ ap (λ m. Err (f, m)) line
 
-abbrev made_if : Result CutsState Cause → (CutsState → List (List Literal)) → List (List Literal)
+abbrev pub made_if : Result CutsState Cause → (CutsState → List (List Literal)) → List (List Literal)
 made_if (Err f) next = []
 made_if (Ok t) next = next t
 
-abbrev lines_if : Result CutsState Cause → (CutsState → List ProofLine) → List ProofLine
+abbrev pub lines_if : Result CutsState Cause → (CutsState → List ProofLine) → List ProofLine
 lines_if (Err f) next = []
 lines_if (Ok t) next = next t
 

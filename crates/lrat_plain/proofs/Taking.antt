@@ -1,5 +1,5 @@
 -- What is put of a right line, by what was read of it.
-use Rattle.std.proofs.Common.{◌≡◌, ℕ, ◌+◌, ◌<◌, ◌≤◌, Bool, false}
+use Rattle.std.proofs.Common.{◌≡◌, ℕ, ◌+◌, ◌<◌, ◌≤◌, false}
 use Rattle.std.proofs.Common.{List, [], ◌∷◌, ◌++◌, length, map, Option}
 use Rattle.std.proofs.Common.{refl, sym, ◌∙◌, ap, subst, append-nil, arith}
 use Rattle.std.specs.List.{flat_map}
@@ -25,6 +25,7 @@ use Rattle.lrat_plain.proofs.Cases.{addition_lines, addition_made, addition_name
 use Rattle.lrat_plain.proofs.Cases.{addition_state, deletion_last, deletion_lines, deletion_made}
 use Rattle.lrat_plain.proofs.Cases.{deletion_names, forgotten_same, named_same, word_last}
 use Rattle.lrat_plain.proofs.Cases.{word_lines, word_made, word_names}
+use Rattle.lrat_plain.proofs.Naming.{map_ids}
 use Rattle.lrat_plain.proofs.Stepping.{judged_next, lines_next, made_next}
 use Rattle.lrat_plain.proofs.Texts.{passed_as}
 
@@ -32,10 +33,6 @@ use Rattle.lrat_plain.proofs.Texts.{passed_as}
 abbrev AreOver : Names → Names → ℕ → Type 0
 AreOver old new count =
     (new.given ≡ old.given) × (new.all ≡ old.all) × (new.made ≡ old.made + count)
-
-map_ids : (f : ℕ → ℕ) (hs : List (Bool × ℕ)) → map (λ h. f h.1) hs ≡ map f (map (λ h. h.1) hs)
-map_ids f [] = refl
-map_ids f (h ∷ hs) = ap (λ z. f h.1 ∷ z) (map_ids f hs)
 
 module _ (old mid : Steps) (ts : List (List ℕ)) (j : Judges old.machine ts mid.machine)
     (rest : mid ≡ record old { machine = mid.machine }) (new : Steps)

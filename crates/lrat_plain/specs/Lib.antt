@@ -3,3 +3,4 @@ pub mod Names
 pub mod Plain
 pub mod Steps
 pub mod Runs
+pub mod Law

@@ -3,6 +3,7 @@
 #![tactic(auto)]
 
 pub mod faults;
+pub mod law;
 mod names;
 pub mod plain;
 mod spelling;
