@@ -319,7 +319,7 @@ struct Outline<'a> {
 }
 
 /// The second pass: writes the formula with all clauses that the lines make, and the plain
-/// certificate over it. Neither writer is flushed.
+/// certificate over it, which refutes it as `law` says. Neither writer is flushed.
 ///
 /// # Errors
 ///
