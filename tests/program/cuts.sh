@@ -376,7 +376,7 @@ done
 call encode --profile 3 --proof tea.lrat tea.wcnf 3
 expect 'encode of a certificate' 0 $'p cnf 2 2\n1 2 0\n0' ''
 with solve --proof proof tea.wcnf
-expect 'solve in the profile of the environment' 30 $'o 3\ns OPTIMUM FOUND\nv 10' ''
+expect 'solve in the profile of the environment' 30 $'o 4\no 3\ns OPTIMUM FOUND\nv 10' ''
 with check tea.wcnf tea.result proof
 expect 'solve in the profile of the environment: certificate' 0 YES ''
 with solve --profile 1 tea.wcnf
