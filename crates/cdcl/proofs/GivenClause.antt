@@ -18,7 +18,7 @@ use Rattle.lrat_log.specs.Steps.{IsBaseOf, StaysLogOver, given_of}
 use Rattle.cdcl_search.specs.declared.search.Search.{Search}
 use Rattle.cdcl_search.specs.declared.input.Input.{Input}
 use Rattle.cdcl_search.specs.Giving.{IsFreshName, IsFrozen, GivesOne, Takes}
-use Rattle.cdcl_search.specs.Running.{IsInput, Runs}
+use Rattle.cdcl_search.specs.Running.{is_refuted, IsInput, Runs}
 use Rattle.cdcl.specs.Outcomes.{IsSolver}
 use Rattle.cdcl_search.proofs.Laws.{log_given, based_given}
 
@@ -85,17 +85,16 @@ lines_given p q n c ls gives small stays =
 -- What the solver is then.
 
 pub gives_solver : (s t : Search) (p q : Input) (n : Name) (c : List Literal) (ls : List LogLine)
-    (refuted failed : Bool) → IsSolver s p ls refuted failed → failed ≡ false → GivesOne p q n c
+    (failed : Bool) → IsSolver s p ls failed → failed ≡ false → GivesOne p q n c
     → IsFreshName p.given n → IsId (number_in n)
     → All (IsFrozen (p.frozen).items) c → has_repeat c ≡ false → is_tautology c ≡ false
-    → All (λ l. 0 < l.variable) c → (refuted ≡ false → Takes s t p q n c)
-    → IsSolver t q ls refuted failed
-gives_solver s t p q n c ls refuted failed i works gives fresh id fixed once apart ones takes =
+    → All (λ l. 0 < l.variable) c → (is_refuted ls ≡ false → Takes s t p q n c)
+    → IsSolver t q ls failed
+gives_solver s t p q n c ls failed i works gives fresh id fixed once apart ones takes =
     let small = frozen_small (p.frozen).items c fixed ones in
     record {
       input = input_gives p q n c i.input gives fresh once apart ones small;
       lines = lines_given p q n c ls gives small i.lines;
-      refuted_is = i.refuted_is;
       running =
           λ f u. takes u ls (record {
             fresh = fresh;
@@ -106,13 +105,12 @@ gives_solver s t p q n c ls refuted failed i works gives fresh id fixed once apa
           }) i.input.first_within (i.running f u);
     }
 
-pub fails_solver : (s t : Search) (p q : Input) (ls : List LogLine) (refuted failed : Bool)
-    → IsSolver s p ls refuted failed → q ≡ p → IsSolver t q ls refuted true
-fails_solver s t p q ls refuted failed i same =
-    subst (λ x. IsSolver t x ls refuted true) (sym same) (record {
+pub fails_solver : (s t : Search) (p q : Input) (ls : List LogLine) (failed : Bool)
+    → IsSolver s p ls failed → q ≡ p → IsSolver t q ls true
+fails_solver s t p q ls failed i same =
+    subst (λ x. IsSolver t x ls true) (sym same) (record {
       input = i.input;
       lines = i.lines;
-      refuted_is = i.refuted_is;
       running = λ f u. absurd (true≢false f);
     })
 

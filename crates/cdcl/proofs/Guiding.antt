@@ -1,10 +1,11 @@
--- Turns of a guided search.
-use Rattle.std.proofs.Common.{◌≡◌, ℕ, ◌+◌, ◌≤◌, cond, List, [], ◌∷◌, ◌++◌, Option}
-use Rattle.std.proofs.Common.{Some, None, length, inl, inr, refl, sym, ◌∙◌, ap, subst, arith}
+-- Turns of a search, and what they write.
+use Rattle.std.proofs.Common.{◌≡◌, ℕ, ◌+◌, ◌≤◌, Bool, true, false, cond, List, [], ◌∷◌, ◌++◌}
+use Rattle.std.proofs.Common.{Option, Some, None, length, inl, inr, refl, sym, ◌∙◌, ap, subst, arith}
 use Rattle.std.proofs.Common.{append_assoc}
-use Rattle.std.specs.Prelude.{Result, Ok, IsErr, IfSome, IfNone}
-use Rattle.std.proofs.lemmas.Bool.{false≢true}
+use Rattle.std.specs.Prelude.{Result, Ok, IsErr, IfSome, IfNone, All}
+use Rattle.std.proofs.lemmas.Bool.{false≢true, true≢false}
 use Rattle.std.proofs.lemmas.List.Elements.{All-nil, All-cons, All-append, All-weaker}
+use Rattle.std.proofs.lemmas.List.Elements.{All-head, All-tail}
 use Rattle.std.proofs.lemmas.List.Sums.{sum_by-append, sum_by-cons}
 use Rattle.std.proofs.lemmas.Result.{IfOk-weaker, IfOk-from_err}
 use Rattle.cnf.specs.Literal.{Literal}
@@ -80,6 +81,42 @@ open_join given a b c m n v w = record {
       λ base above. follow_append given base a v.more w.more (v.follows base above)
       (subst (λ x. FollowByRup given base x w.more) v.grows (w.follows base above));
 }
+
+-- Where no line of the log came from outside.
+
+no_axiom : (k : Bool) → ◌≡◌ {A = ℕ} (cond k 1 0) 0 → k ≡ false
+no_axiom true e = absurd (omega (arith, e))
+no_axiom false e = refl
+
+plain_lines : (ls : List LogLine) → axiom_count ls ≡ 0 → All IsGuidedLine ls
+    → All IsLearnedOrShort ls × TakesNoAxiom ls
+plain_lines [] none lines = (All-nil IsLearnedOrShort, tt)
+plain_lines (l ∷ ls) none lines =
+    let one = sum_by-cons (λ (k : LogLine). cond (is_axiom k.kind) 1 0) l ls in
+    let own = no_axiom (is_axiom l.kind) (omega (arith, one, none)) in
+    let rest =
+    plain_lines ls (omega (arith, one, none)) (All-tail IsGuidedLine l ls lines) in
+    elim (All-head IsGuidedLine l ls lines) [
+      | inl outside ↦ absurd (true≢false (sym outside ∙ own))
+      | inr h ↦ (All-cons IsLearnedOrShort l ls h rest.0, (own, rest.1))
+    ]
+
+pub plain_writes : (given : Given) (a b : List LogLine) (n : ℕ) → axiom_count b ≡ 0
+    → WritesOpen given a b n → Writes given a b n
+plain_writes given a b n none w =
+    let parts = sum_by-append (λ (l : LogLine). cond (is_axiom l.kind) 1 0) a w.more in
+    let all : axiom_count (a ++ w.more) ≡ 0 = ap axiom_count (sym w.grows) ∙ none in
+    let more : axiom_count w.more ≡ 0 = omega (arith, parts, all) in
+    let lines = plain_lines w.more more w.lines in
+    record {
+      more = w.more;
+      grows = w.grows;
+      short = lines.0;
+      learned_is = let spent = w.spent_is in omega (arith, more, spent);
+      new = w.new;
+      own = lines.1;
+      follows = w.follows;
+    }
 
 -- What is paid.
 

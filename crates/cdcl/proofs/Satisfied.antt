@@ -25,7 +25,11 @@ use Rattle.lrat_log.specs.Log.{LogLine, Given}
 use Rattle.lrat_log.specs.Steps.{log_live}
 use Rattle.eliminate.specs.Elimination.{StackState, extended}
 use Rattle.cdcl.specs.Solving.{SatisfyGiven, IsLiveRefuted}
+use Rattle.cdcl.specs.Guiding.{IsRefutedAtOnce}
+use Rattle.cdcl_search.specs.declared.input.Input.{Input}
+use Rattle.cdcl_search.specs.declared.search.Search.{Search}
 use Rattle.cdcl_search.specs.Invariant.{Tables, NamesStore, KeepsPlain, IsRunning}
+use Rattle.cdcl_search.specs.Running.{Runs}
 use Rattle.clauses.proofs.Laws.{not_refuted}
 use Rattle.cdcl_search.proofs.Laws.{value_agrees}
 
@@ -162,7 +166,7 @@ answer_sat e slots stack t frozen first given ls bits r fixpoint long values sma
     (small k d lt).from_one (small k d lt).small (all k d lt)
 
 -- hints refute nothing where no clause is false or unit
-pub answer_open : (e : EngineState) (slots : Slots) (names : List Name) (given : Given)
+answer_open : (e : EngineState) (slots : Slots) (names : List Name) (given : Given)
     (ls : List LogLine) → NamesStore slots names given ls → IsFixpoint slots (literals_of e.trail)
     → IsLiveRefuted given ls → ⊥
 answer_open e slots names given ls n fixpoint w =
@@ -170,7 +174,16 @@ answer_open e slots names given ls n fixpoint w =
     (λ i c at. let z = (n.live w.0 w.1).only i c at in fixpoint z.0 c z.1) w.2 w.3
 
 -- nor is the empty clause live there
-pub plain_open : (slots : Slots) (A : List Literal) (first : ℕ) (given : Given)
+plain_open : (slots : Slots) (A : List Literal) (first : ℕ) (given : Given)
     → KeepsPlain slots first given → IsFixpoint slots A
     → IsRefutedByHints (map (λ g. g.1) (take first given)) ⊎ Contains (map (λ g. g.1) given) [] → ⊥
 plain_open slots A first given plain fixpoint h = let w = plain h in (fixpoint w.0 [] w.1).0 tt
+
+pub not_at_once : (s : Search) (p : Input) (ls : List LogLine) → Runs s p ls
+    → IsFixpoint (s.store).slots (literals_of (s.engine).trail) → IsRefutedAtOnce p ls → ⊥
+not_at_once s p ls r fixpoint (inl live) =
+    answer_open s.engine (s.store).slots (s.names).items p.given ls r.running.recorded.names
+    fixpoint live
+not_at_once s p ls r fixpoint (inr plain) =
+    plain_open (s.store).slots (literals_of (s.engine).trail) p.first p.given
+    r.running.recorded.plain fixpoint plain

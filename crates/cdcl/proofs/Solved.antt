@@ -1,9 +1,10 @@
 -- What a solver answers, from what its search does.
-use Rattle.std.proofs.Common.{◌≡◌, ℕ, ◌+◌, true, false, Bool, List, ◌++◌, length, refl, sym, ◌∙◌}
-use Rattle.std.proofs.Common.{ap, subst, arith}
-use Rattle.std.specs.Prelude.{Ok, Err}
+use Rattle.std.proofs.Common.{◌≡◌, ℕ, ◌+◌, true, false, Bool, List, [], ◌++◌, length, take, map}
+use Rattle.std.proofs.Common.{◌⊎◌, inl, inr, refl, sym, ◌∙◌, ap, subst, arith}
+use Rattle.std.specs.Prelude.{Ok, Err, Contains}
 use Rattle.std.specs.declared.alloc.AllocError.{AllocError}
 use Rattle.std.proofs.lemmas.Bool.{both_ways, false≢true}
+use Rattle.cnf.specs.Refute.{IsRefutedByHints}
 use Rattle.lrat_log.specs.Log.{LogLine}
 use Rattle.lrat_log.specs.Steps.{IsAcceptedLog, StaysLogOver, AddsNoEmptyClause, IsBaseOf}
 use Rattle.lrat_log.specs.Steps.{LearnsNew, nothing_exempt, learned_count}
@@ -17,9 +18,11 @@ use Rattle.cdcl.specs.declared.outcome.SolveFault.TheVariants.{Memory, Failed}
 use Rattle.cdcl.specs.Solving.{SolverState, Solves, lines_since, OnSat, OnUnsat, OnLimit}
 use Rattle.cdcl.specs.Solving.{SatisfyGiven, IsLiveRefuted, Answer, answer_count}
 use Rattle.cdcl_search.specs.Running.{is_refuted, Writes, IsInput, StaysOpen}
+use Rattle.cdcl.specs.Guiding.{IsRefutedAtOnce, axiom_count}
 use Rattle.cdcl.specs.Outcomes.{IsAnswer, PaysFor}
-use Rattle.cdcl.proofs.Answered.{seen_given, given_seen, log_now, ended_log, plain_unsat, view_of}
+use Rattle.cdcl.proofs.Answered.{seen_given, given_seen, log_now, ended_log, view_of}
 use Rattle.cdcl.proofs.Answered.{answered_open, since_more, written_short}
+use Rattle.cdcl.proofs.Guiding.{plain_writes}
 use Rattle.cdcl_search.proofs.Laws.{stays_written, writes_none}
 
 -- what an answer says
@@ -44,13 +47,13 @@ limit_of : (s : Search) (p : Input) (ls : List LogLine) (b : BudgetState) (o : O
     → IsAnswer s p ls b o → OnLimit (Ok o) (left_of b ≡ 0)
 limit_of s p ls b (Sat bits) a = tt
 limit_of s p ls b Unsat a = tt
-limit_of s p ls b Limit a = a.spent
+limit_of s p ls b Limit a = a.1
 
 open_of : (s : Search) (p : Input) (ls : List LogLine) (b : BudgetState) (o : Outcome)
     → IsAnswer s p ls b o → (◌≡◌ {A = Answer} (Ok o) (Ok Unsat) → ⊥) → AddsNoEmptyClause ls
 open_of s p ls b (Sat bits) a other = a.runs.running.recorded.log.unrefuted
 open_of s p ls b Unsat a other = absurd (other refl)
-open_of s p ls b Limit a other = a.runs.running.recorded.log.unrefuted
+open_of s p ls b Limit a other = a.0.running.recorded.log.unrefuted
 
 -- What is written, as a caller sees it.
 module _ (p : Input) (before after : List LogLine) (n : ℕ) (i : IsInput p)
@@ -82,27 +85,29 @@ module _ {S : Type 0} (lines : S → List LogLine) {p : Input} {sink : S} {faile
     {old : SolverState S} (i : IsInput p) (same : view_of p sink failed ≡ old) where
   -- the search has answered
   pub has_answered : (s : Search) (more : S) (had left : BudgetState)
-      (o seen : Outcome) → o ≡ seen → failed ≡ false → is_refuted (lines sink) ≡ false
+      (o : Outcome) → failed ≡ false → is_refuted (lines sink) ≡ false
       → StaysLogOver (length (p.frozen).items) p.given (lines sink)
-      → IsAnswer s p (lines more) left o → (IsLiveRefuted p.given (lines sink) → o ≡ Unsat)
+      → IsAnswer s p (lines more) left o → (IsRefutedAtOnce p (lines sink) → o ≡ Unsat)
+      → axiom_count (lines more) ≡ 0
       → PaysFor {E = AllocError} (Ok o) p.given (lines sink) (lines more) had left
-      → Solves (Ok seen) old (view_of p more failed) (lines old.sink) (lines more) had left
-  has_answered s more had left o seen is works unrefuted stays a live pays =
+      → Solves (Ok o) old (view_of p more failed) (lines old.sink) (lines more) had left
+  has_answered s more had left o works unrefuted stays a at_once own pays =
       let before = lines sink in
       let after = lines more in
-      let w = pays.1 in
+      let w = plain_writes p.given before after pays.0 own pays.1 in
       let now : StaysLogOver (length (p.frozen).items) p.given after =
       stays_written (length (p.frozen).items) p.given before after pays.0 stays w
       (answered_open s p after left o a) in
-      subst (λ x. Solves (Ok x) old (view_of p more failed) (lines old.sink) after had left) is
-      (subst (λ (v : SolverState S). Solves (Ok o) v (view_of p more failed) (lines v.sink) after
+      subst (λ (v : SolverState S). Solves (Ok o) v (view_of p more failed) (lines v.sink) after
       had left) same (record {
         sat = sat_of s p after left o i a;
         unsat = unsat_of s p after left o i now a;
         limit = limit_of s p after left o a;
-        refuted = λ h. ap Ok (plain_unsat s p after left o i a h);
+        refuted =
+            λ h. ap Ok (at_once (inr (subst (λ g. IsRefutedByHints (map (λ x. x.1)
+            (take p.first p.given)) ⊎ Contains (map (λ x. x.1) g) []) (given_seen p i) h)));
         propagates =
-            λ h. ap Ok (live (subst (λ g. IsLiveRefuted g before) (given_seen p i) h));
+            λ h. ap Ok (at_once (inl (subst (λ g. IsLiveRefuted g before) (given_seen p i) h)));
         again = λ on f. absurd (both_ways (is_refuted before) unrefuted on);
         failed = (λ e. absurd (cc), λ f. absurd (both_ways failed works f));
         fails = (λ e. absurd (false≢true e), λ f. absurd (both_ways failed works f));
@@ -118,18 +123,19 @@ module _ {S : Type 0} (lines : S → List LogLine) {p : Input} {sink : S} {faile
         answers =
             ap (λ (b : BudgetState). b.answers) pays.2 ∙ ap (λ k. had.answers + k) (count_same o);
         same_limit = ap (λ (b : BudgetState). b.limit) pays.2;
-      }))
+      })
 
   -- memory was refused
   pub has_refused : (more : S) (had left : BudgetState)
       → failed ≡ false → is_refuted (lines sink) ≡ false
       → StaysLogOver (length (p.frozen).items) p.given (lines sink) → StaysOpen p (lines more)
+      → axiom_count (lines more) ≡ 0
       → PaysFor {E = SolveFault} (Err Memory) p.given (lines sink) (lines more) had left
       → Solves (Err Memory) old (view_of p more true) (lines old.sink) (lines more) had left
-  has_refused more had left works unrefuted stays left_open pays =
+  has_refused more had left works unrefuted stays left_open own pays =
       let before = lines sink in
       let after = lines more in
-      let w = pays.1 in
+      let w = plain_writes p.given before after pays.0 own pays.1 in
       let now : StaysLogOver (length (p.frozen).items) p.given after =
       stays_written (length (p.frozen).items) p.given before after pays.0 stays w left_open.stays in
       subst (λ (v : SolverState S). Solves (Err Memory) v (view_of p more true) (lines v.sink) after

@@ -1,10 +1,10 @@
--- How a guided search ends, and what its parts promise. Where memory was refused, its log stays
--- open.
-use Rattle.std.specs.Prelude.{◌≡◌, ℕ, ◌+◌, ◌<◌, ◌≤◌, List, ◌++◌, length, count_by, Option, Result}
-use Rattle.std.specs.Prelude.{IfOk, OnErr, IfSome, IfNone, All, ◌⊎◌, true}
+-- How a search ends, and what its parts promise. Where memory was refused, its log stays open.
+use Rattle.std.specs.Prelude.{◌≡◌, ℕ, ◌+◌, ◌<◌, ◌≤◌, List, [], ◌++◌, length, count_by, take, map}
+use Rattle.std.specs.Prelude.{Option, Result, IfOk, OnErr, IfSome, IfNone, All, Contains, ◌⊎◌, true}
 use Rattle.std.specs.declared.vec.Vec.{Vec}
 use Rattle.std.specs.declared.alloc.Global.{Global}
 use Rattle.cnf.specs.Literal.{Literal}
+use Rattle.cnf.specs.Refute.{IsRefutedByHints}
 use Rattle.propagate.specs.Trail.{literals_of}
 use Rattle.analyze.specs.Analyzer.{IsFixpoint}
 use Rattle.cdcl_order.specs.Budgets.{BudgetState, left_of}
@@ -21,6 +21,7 @@ use Rattle.cdcl.specs.declared.guided.GuidedEnd.{GuidedEnd}
 use Rattle.cdcl.specs.declared.guided.GuidedEnd.TheVariants.{Satisfied, Refuted, Stopped, Spent}
 use Rattle.cdcl.specs.declared.guided.Taking.{Taking}
 use Rattle.cdcl.specs.declared.guided.Taking.TheVariants.{Refused, Taken, Ended}
+use Rattle.cdcl.specs.Solving.{IsLiveRefuted}
 use Rattle.cdcl.specs.Turns.{IsSatisfied, GoesOn}
 
 abbrev pub axiom_count : List LogLine → ℕ
@@ -44,6 +45,13 @@ pub record WritesOpen (given : Given) (before after : List LogLine) (spent : ℕ
 abbrev pub PaysOpen : Given → List LogLine → List LogLine → BudgetState → BudgetState → Type 0
 PaysOpen given before after old new = (n : ℕ) × WritesOpen given before after n
     × (new ≡ record old { learned = old.learned + n; waived = new.waived })
+
+-- propagation alone refutes what is live, or the clauses that were given first, or the empty clause
+-- was given
+abbrev pub IsRefutedAtOnce : Input → List LogLine → Type 0
+IsRefutedAtOnce p ls = IsLiveRefuted p.given ls
+    ⊎ (IsRefutedByHints (map (λ g. g.1) (take p.first p.given))
+    ⊎ Contains (map (λ g. g.1) p.given) [])
 
 -- the guide stopped it where no clause is false or unit, and each literal of level 0 has a clause
 -- of its own

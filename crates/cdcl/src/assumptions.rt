@@ -167,12 +167,6 @@ impl Guide for Assumptions {
         self.follow(search)
     }
 
-    fn cut(&self) -> &[Lit] {
-        &[]
-    }
-
-    fn refused(&mut self) {}
-
     fn explained(&mut self, _falsified: Lit, clause: &[Lit]) -> Result<(), AllocError> {
         self.next = self.next.saturating_add(1);
         self.passed.room = self.passed.room.saturating_sub(clause.len());
@@ -189,9 +183,5 @@ impl Guide for Assumptions {
 
     fn kept_levels(&self) -> usize {
         self.opened.len()
-    }
-
-    fn may_delete(&self) -> bool {
-        true
     }
 }

@@ -1,13 +1,16 @@
-// The loop of a search that a guide leads: propagate, then learn from a conflict or ask the guide.
-// Clauses may come from outside the log while it runs, as the guide hands them out and the sink
-// takes them. Each of them costs a unit of the budget, as a learned one does. So a search is
-// bounded by its budget and the variables without a value, whatever the guide says. The watch can
-// end it, as it waives what is left of the budget.
-ghost use Rattle.std.specs.Prelude.{◌≡◌, ◌+◌, ◌*◌, ◌<◌, ◌≤◌, true, false, length, OnOk};
+// The loop of a search (Handbook of Satisfiability, chapter on conflict-driven clause learning):
+// propagate, then learn from a conflict or ask the guide what to decide. It restarts where its
+// policy says so, which is only after a clause was learned since it last did. Clauses may come from
+// outside the log while it runs, as the guide hands them out and the sink takes them. Each of them
+// costs a unit of the budget, as a learned one does. So a search is bounded by its budget and the
+// variables without a value, whatever the guide says. The watch can end it, as it waives what is
+// left of the budget.
+ghost use Rattle.std.specs.Prelude.{◌≡◌, ◌+◌, ◌*◌, ◌<◌, ◌≤◌, true, false, length, Ok, OnOk, IfOk};
+ghost use Rattle.std.specs.Prelude.{Some};
 ghost use Rattle.cnf.specs.Literal.{negation};
 ghost use Rattle.cnf.specs.Marks.{mark_of, HasPlace};
 ghost use Rattle.cnf.specs.declared.limits.TheConstants.{VARIABLE_LIMIT};
-ghost use Rattle.propagate.specs.Trail.{literals_of};
+ghost use Rattle.propagate.specs.Trail.{literals_of, depth_of};
 ghost use Rattle.propagate.specs.Fits.{IsFalseClause, IsWithin};
 ghost use Rattle.analyze.specs.Analyzer.{IsFixpoint};
 ghost use Rattle.cdcl_order.specs.Budgets.{WaivesAs, left_of};
@@ -15,11 +18,11 @@ ghost use Rattle.cdcl_search.specs.Invariant.{zero_of};
 ghost use Rattle.cdcl_search.specs.Running.{Runs, IsReady, CanDecide, KeepsRunning, EngineMoves};
 ghost use Rattle.cdcl_search.specs.Parts.{LearnsNothing, Reduces};
 ghost use Rattle.lrat_log.specs.Axioms.{IsNewClause};
-ghost use Rattle.cdcl.specs.Guiding.{GuidedEnds, GuidedTurns, TakesCut};
+ghost use Rattle.cdcl.specs.Guiding.{GuidedEnds, GuidedTurns, TakesCut, IsRefutedAtOnce};
+ghost use Rattle.cdcl.specs.declared.guided.GuidedEnd.TheVariants.{Refuted, Stopped};
 
 use crate::budget::Budget;
 use crate::guide::{Advice, Guide};
-use crate::searching::pay_learned;
 use crate::watch::SearchWatch;
 use cdcl_order::watch::heed;
 use cdcl_search::axioms::take_axiom;
@@ -34,7 +37,7 @@ use cnf::types::Lit;
 use lrat_log::sink::Sink;
 use std::alloc::AllocError;
 
-/// How a guided search ended.
+/// How a search ended.
 #[derive(Clone, Copy, Debug, PartialEq, Eq, Drop)]
 pub enum GuidedEnd {
     /// Each variable has a value, and no clause is false. The guide was asked with all values
@@ -76,6 +79,9 @@ pub fn search_guided<S: Sink, G: Guide, W: SearchWatch>(
     requires runs { Runs search.old input.now (S.lines sink.old) }
     ensures search { GuidedEnds result search.new input.now (S.lines sink.old) (S.lines sink.new)
         budget.old budget.new }
+    ensures at_once { IfOk result (λ end.
+        IsRefutedAtOnce input.now (S.lines sink.old) → end ≡ Refuted) }
+    ensures stops { result ≡ Ok Stopped → G.may_stop }
     ensures follows { (first : G) → G.follows first guide.old → G.follows first guide.new }
     ensures sink_follows { (first : S) → S.follows first sink.old → S.follows first sink.new }
     ensures same_seen { W.seen watch.new ≡ W.seen watch.old }
@@ -107,6 +113,9 @@ fn round<S: Sink, G: Guide, W: SearchWatch>(
     requires runs { Runs search.old input.now (S.lines sink.old) }
     ensures turns { GuidedTurns result search.old search.new input.now (S.lines sink.old)
         (S.lines sink.new) budget.old budget.new }
+    ensures at_once { depth_of search.old.engine.trail ≡ 0 → IfOk result (λ next.
+        IsRefutedAtOnce input.now (S.lines sink.old) → next ≡ Some Refuted) }
+    ensures stops { result ≡ Ok (Some Stopped) → G.may_stop }
     ensures follows { (first : G) → G.follows first guide.old → G.follows first guide.new }
     ensures sink_follows { (first : S) → S.follows first sink.old → S.follows first sink.new }
     ensures same_seen { W.seen watch.new ≡ W.seen watch.old }
@@ -132,6 +141,9 @@ fn on_conflict<S: Sink, G: Guide, W: SearchWatch>(
     requires conflict { IsFalseClause search.old.store.slots search.old.engine conflict }
     ensures turns { GuidedTurns result search.old search.new input.now (S.lines sink.old)
         (S.lines sink.new) budget.old budget.new }
+    ensures flat { depth_of search.old.engine.trail ≡ 0
+        → IfOk result (λ next. next ≡ Some Refuted) }
+    ensures stops { result ≡ Ok (Some Stopped) → G.may_stop }
     ensures follows { (first : G) → G.follows first guide.old → G.follows first guide.new }
     ensures sink_follows { (first : S) → S.follows first sink.old → S.follows first sink.new }
     ensures same_seen { W.seen watch.new ≡ W.seen watch.old }
@@ -151,6 +163,23 @@ fn on_conflict<S: Sink, G: Guide, W: SearchWatch>(
     Ok(None)
 }
 
+/// Counts a clause that was learned, shows the watch how far the search has come, and takes from
+/// the budget what it waives.
+fn pay_learned<W: SearchWatch>(search: &Search, budget: &mut Budget, watch: &mut W)
+    requires { 0 < left_of budget.old }
+    ensures pays { budget.new ≡ record budget.old {
+      learned = budget.old.learned + 1;
+      waived = budget.new.waived;
+    } }
+    ensures more { budget.old.waived ≤ budget.new.waived }
+    ensures same_seen { W.seen watch.new ≡ W.seen watch.old }
+    ensures waives { WaivesAs budget.old budget.new (W.waived watch.old) (W.waived watch.new) }
+{
+    budget.count_learned();
+    watch.learned(&search.policy.report(budget));
+    heed(budget, watch);
+}
+
 /// Restarts, or does what the guide says, if something is left of the budget.
 fn on_fixpoint<S: Sink, G: Guide>(
     search: &mut Search,
@@ -164,6 +193,7 @@ fn on_fixpoint<S: Sink, G: Guide>(
     requires fixpoint { IsFixpoint search.old.store.slots (literals_of search.old.engine.trail) }
     ensures turns { GuidedTurns result search.old search.new input.now (S.lines sink.old)
         (S.lines sink.new) budget.old budget.new }
+    ensures stops { result ≡ Ok (Some Stopped) → G.may_stop }
     ensures kept { budget.new.waived ≡ budget.old.waived }
     ensures follows { (first : G) → G.follows first guide.old → G.follows first guide.new }
     ensures sink_follows { (first : S) → S.follows first sink.old → S.follows first sink.new }
@@ -195,6 +225,7 @@ fn go_on<S: Sink, G: Guide>(
     requires left { 0 < left_of budget.old }
     ensures turns { GuidedTurns result search.old search.new input.now (S.lines sink.old)
         (S.lines sink.new) budget.old budget.new }
+    ensures stops { result ≡ Ok (Some Stopped) → G.may_stop }
     ensures kept { budget.new.waived ≡ budget.old.waived }
     ensures follows { (first : G) → G.follows first guide.old → G.follows first guide.new }
     ensures sink_follows { (first : S) → S.follows first sink.old → S.follows first sink.new }
@@ -213,6 +244,7 @@ fn go_on<S: Sink, G: Guide>(
 fn ask<G: Guide>(search: &mut Search, guide: &mut G) -> Result<Advice, AllocError>
     requires ready { IsReady search.old }
     ensures unchanged { search.new ≡ search.old }
+    ensures stops { result ≡ Ok Advice.Stop → G.may_stop }
     ensures follows { (first : G) → G.follows first guide.old → G.follows first guide.new }
 {
     for _ in 0..search.engine.variables() {
@@ -262,6 +294,7 @@ fn decide<S: Sink, G: Guide>(
     requires left { 0 < left_of budget.now }
     ensures turns { GuidedTurns result search.old search.new input.now (S.lines sink.old)
         (S.lines sink.new) budget.now budget.now }
+    ensures stops { result ≡ Ok (Some Stopped) → G.may_stop }
     ensures sink_follows { (first : S) → S.follows first sink.old → S.follows first sink.new }
 {
     if !decide_open(search, lit) {
@@ -311,6 +344,7 @@ fn branch<S: Sink, G: Guide>(
     requires left { 0 < left_of budget.now }
     ensures turns { GuidedTurns result search.old search.new input.now (S.lines sink.old)
         (S.lines sink.new) budget.now budget.now }
+    ensures stops { result ≡ Ok (Some Stopped) → G.may_stop }
     ensures sink_follows { (first : S) → S.follows first sink.old → S.follows first sink.new }
 {
     if !search.branch() {
@@ -356,6 +390,7 @@ fn cut<S: Sink, G: Guide>(
     requires left { 0 < left_of budget.old }
     ensures turns { GuidedTurns result search.old search.new input.now (S.lines sink.old)
         (S.lines sink.new) budget.old budget.new }
+    ensures stops { result ≡ Ok (Some Stopped) → G.may_stop }
     ensures kept { budget.new.waived ≡ budget.old.waived }
     ensures follows { (first : G) → G.follows first guide.old → G.follows first guide.new }
     ensures sink_follows { (first : S) → S.follows first sink.old → S.follows first sink.new }

@@ -10,7 +10,6 @@ pub mod core_finding;
 pub mod guide;
 pub mod guided;
 pub mod outcome;
-mod searching;
 pub mod solver;
 mod tally;
 pub mod whole;

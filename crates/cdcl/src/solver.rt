@@ -6,15 +6,17 @@ ghost use Rattle.lrat_log.specs.Steps.{IsLogOver, learned_count, IsShortLine};
 ghost use Rattle.cdcl_order.specs.Budgets.{WaivesAs};
 ghost use Rattle.cdcl.specs.declared.outcome.Outcome.TheVariants.{Unsat};
 ghost use Rattle.cdcl_search.specs.Running.{Runs, IsInput, StaysOpen};
+ghost use Rattle.cdcl.specs.Guiding.{IsRefutedAtOnce};
 ghost use Rattle.cdcl.specs.Outcomes.{IsAnswer, PaysFor};
-ghost use Rattle.cdcl.specs.Solving.{Solves, given_to, SameGiven, GivesMore, IsLiveRefuted};
+ghost use Rattle.cdcl.specs.Solving.{Solves, given_to, SameGiven, GivesMore};
 ghost use Rattle.cdcl.specs.Solving.{lines_since};
 ghost use Rattle.cdcl_search.specs.Giving.{IsFreshName, IsFrozen};
 
 use crate::answers::bits;
 use crate::budget::Budget;
+use crate::guide::Undirected;
+use crate::guided::{GuidedEnd, search_guided};
 use crate::outcome::{Outcome, SolveFault};
-use crate::searching::{End, run};
 use crate::tally::Tally;
 use crate::watch::{SearchWatch, Unwatched};
 use cdcl_search::given::GivenClauses;
@@ -34,14 +36,12 @@ use std::mem::replace;
 /// Clauses may be added between two searches, and each search goes on with what was learned before.
 #[derive(Drop)]
 pub struct Solver<S: Sink> {
-    // What it works on; after `refuted` or `failed` it is not used.
+    // What it works on; once the empty clause was added, or after `failed`, it is not used.
     search: Search,
     // What it was given.
     input: Input,
     // What its lines go to.
-    sink: S,
-    // Whether the empty clause was added. It stays so.
-    refuted: bool,
+    tally: Tally<S>,
     // Whether memory was refused, or the search was given back. It stays so.
     failed: bool,
 }
@@ -60,11 +60,11 @@ impl<S: Sink> Model for Solver<S> {
       };
       added = drop s.input.first s.input.given;
       frozen = s.input.frozen.items;
-      sink = s.sink;
+      sink = s.tally.sink;
       failed = s.failed;
     } };
 
-    ghost invariant = { λ s. IsSolver s.search s.input (S.lines s.sink) s.refuted s.failed };
+    ghost invariant = { λ s. IsSolver s.search s.input (S.lines s.tally.sink) s.failed };
 }
 
 impl<S: Sink> Solver<S> {
@@ -116,7 +116,6 @@ impl<S: Sink> Solver<S> {
         let first = given.len();
         tally.is_short();
         let search = start(store, &mut stack, tally.additions)?;
-        let Tally { sink, refuted, .. } = tally;
         Ok(Solver {
             search,
             input: Input {
@@ -125,8 +124,7 @@ impl<S: Sink> Solver<S> {
                 first,
                 given,
             },
-            sink,
-            refuted,
+            tally,
             failed: false,
         })
     }
@@ -142,7 +140,7 @@ impl<S: Sink> Solver<S> {
     pub fn sink(&self) -> &S
         ensures { result.now ≡ self.now.sink }
     {
-        &self.sink
+        &self.tally.sink
     }
 
     /// The lines, once the solver is done with.
@@ -152,7 +150,7 @@ impl<S: Sink> Solver<S> {
         // A call of `drop` is proved once for each type, and the end of a scope field by field.
         drop(self.search);
         drop(self.input);
-        self.sink
+        self.tally.sink
     }
 
     /// Gives back the memory of the search, for whoever needs only the lines and the clauses from
@@ -204,7 +202,7 @@ impl<S: Sink> Solver<S> {
         match give(
             &mut self.search,
             &mut self.input,
-            self.refuted,
+            self.tally.refuted,
             number,
             lits,
         ) {
@@ -230,7 +228,7 @@ impl<S: Sink> Solver<S> {
     pub fn suggest(&mut self, values: &[bool])
         ensures same_view { self.new ≡ self.old }
     {
-        if self.failed || self.refuted {
+        if self.failed || self.tally.refuted {
             return;
         }
         self.search.suggest(values);
@@ -270,16 +268,17 @@ impl<S: Sink> Solver<S> {
         if self.failed {
             return Err(SolveFault::Failed);
         }
-        if self.refuted {
+        if self.tally.refuted {
             return Ok(Outcome::Unsat);
         }
-        match answer(&mut self.search, &self.input, &mut self.sink, budget, watch) {
-            Ok(Outcome::Sat(bits)) => Ok(Outcome::Sat(bits)),
-            Ok(Outcome::Limit) => Ok(Outcome::Limit),
-            Ok(Outcome::Unsat) => {
-                self.refuted = true;
-                Ok(Outcome::Unsat)
-            }
+        match answer(
+            &mut self.search,
+            &self.input,
+            &mut self.tally,
+            budget,
+            watch,
+        ) {
+            Ok(outcome) => Ok(outcome),
             Err(_) => {
                 self.failed = true;
                 Err(SolveFault::Memory)
@@ -292,29 +291,31 @@ impl<S: Sink> Solver<S> {
 fn answer<S: Sink, W: SearchWatch>(
     search: &mut Search,
     input: &Input,
-    sink: &mut S,
+    tally: &mut Tally<S>,
     budget: &mut Budget,
     watch: &mut W,
 ) -> Result<Outcome, AllocError>
-    requires runs { Runs search.old input.now (S.lines sink.old) }
+    requires runs { Runs search.old input.now (S.lines tally.old.sink) }
     requires input { IsInput input.now }
-    ensures answers { IfOk result (IsAnswer search.new input.now (S.lines sink.new) budget.new) }
-    ensures propagates { IfOk result (λ o.
-        IsLiveRefuted input.now.given (S.lines sink.old) → o ≡ Unsat) }
-    ensures pays { PaysFor result input.now.given (S.lines sink.old) (S.lines sink.new)
-        budget.old budget.new }
-    ensures err { OnErr result (StaysOpen input.now (S.lines sink.new)) }
+    ensures answers { IfOk result
+        (IsAnswer search.new input.now (S.lines tally.new.sink) budget.new) }
+    ensures at_once { IfOk result (λ o.
+        IsRefutedAtOnce input.now (S.lines tally.old.sink) → o ≡ Unsat) }
+    ensures pays { PaysFor result input.now.given (S.lines tally.old.sink)
+        (S.lines tally.new.sink) budget.old budget.new }
+    ensures err { OnErr result (StaysOpen input.now (S.lines tally.new.sink)) }
     ensures same_seen { W.seen watch.new ≡ W.seen watch.old }
     ensures waives { WaivesAs budget.old budget.new (W.waived watch.old) (W.waived watch.new) }
 {
-    let end = run(search, input, sink, budget, watch)?;
+    let end = search_guided(search, input, tally, &mut Undirected, budget, watch)?;
     match end {
-        End::Satisfied => {
+        GuidedEnd::Satisfied => {
             let bits = bits(search, input)?;
             budget.count_answer();
             Ok(Outcome::Sat(bits))
         }
-        End::Refuted => Ok(Outcome::Unsat),
-        End::Spent => Ok(Outcome::Limit),
+        GuidedEnd::Refuted => Ok(Outcome::Unsat),
+        GuidedEnd::Spent => Ok(Outcome::Limit),
+        GuidedEnd::Stopped => unreachable!(),
     }
 }

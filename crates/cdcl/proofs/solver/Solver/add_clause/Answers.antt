@@ -11,8 +11,8 @@ use Rattle.cdcl.proofs.solver.Solver.add_clause.Goals.{In-Ok, In-Err}
 
 -- the clause was given
 gives : (g : _) (c : In-Ok g)
-    → IsSolver c.give.new.search c.give.new.input (g.S.Sink.lines c.self.inside.sink)
-    c.self.inside.refuted c.self.inside.failed
+    → IsSolver c.give.new.search c.give.new.input (g.S.Sink.lines c.self.inside.tally.sink)
+    c.self.inside.failed
 gives g c =
     let p = c.self.inside.input in
     let seen =
@@ -25,21 +25,20 @@ gives g c =
     let fixed =
     subst (λ s. All (IsFrozen s.frozen) c.args.lits.now) (sym c.self.view_is) c.requires.frozen in
     gives_solver c.self.inside.search c.give.new.search p c.give.new.input
-    (Formula c.get-number.result) c.args.lits.now (g.S.Sink.lines c.self.inside.sink)
-    c.self.inside.refuted c.self.inside.failed
-    c.self.invariant c.if-self.false c.in-Ok.ensures.given fresh (
+    (Formula c.get-number.result) c.args.lits.now (g.S.Sink.lines c.self.inside.tally.sink)
+    c.self.inside.failed c.self.invariant c.if-self.false c.in-Ok.ensures.given fresh (
       c.get-number.ensures.from_one,
       c.get-number.ensures.small,
     ) fixed c.requires.no_repeat
-    c.requires.no_tautology c.ask_variables.ensures c.in-Ok.ensures.takes
+    c.requires.no_tautology c.ask_variables.ensures
+    (λ u. c.in-Ok.ensures.takes (c.self.inside.tally.told ∙ u))
 
 -- memory was refused
 fails : (g : _) (c : In-Err g)
-    → IsSolver c.give.new.search c.give.new.input (g.S.Sink.lines c.self.inside.sink)
-    c.self.inside.refuted true
+    → IsSolver c.give.new.search c.give.new.input (g.S.Sink.lines c.self.inside.tally.sink) true
 fails g c =
     fails_solver c.self.inside.search c.give.new.search c.self.inside.input c.give.new.input
-    (g.S.Sink.lines c.self.inside.sink) c.self.inside.refuted c.self.inside.failed
+    (g.S.Sink.lines c.self.inside.tally.sink) c.self.inside.failed
     c.self.invariant c.in-Err.ensures.unchanged
 
 pub returns-then-self-clause-lines : goal.returns-then-self-clause-lines
@@ -48,7 +47,7 @@ returns-then-self-clause-lines g c =
 
 pub give-requires-clause-can : goal.give-requires-clause-can
 give-requires-clause-can g c = λ u.
-    let runs = c.self.invariant.running c.if-self.false u in
+    let runs = c.self.invariant.running c.if-self.false (sym c.self.inside.tally.told ∙ u) in
     let fixed =
     subst (λ s. All (IsFrozen s.frozen) c.args.lits.now) (sym c.self.view_is) c.requires.frozen in
     record {
@@ -58,8 +57,8 @@ give-requires-clause-can g c = λ u.
         named = runs.running.recorded.names.as_many;
       };
       within = frozen_within c.self.inside.search c.self.inside.input
-          (g.S.Sink.lines c.self.inside.sink) c.args.lits.now c.self.invariant.input runs fixed
-          c.ask_variables.ensures;
+          (g.S.Sink.lines c.self.inside.tally.sink) c.args.lits.now c.self.invariant.input runs
+          fixed c.ask_variables.ensures;
     }
 
 pub invariant_of-self : goal.invariant_of-self
@@ -71,9 +70,9 @@ invariant_of-self-in-Err g c = fails g (goal.at.invariant_of-self-in-Err g c).In
 pub returns-in-Ok-clause-lines : goal.returns-in-Ok-clause-lines
 returns-in-Ok-clause-lines g c =
     let ok = gives g (goal.at.returns-in-Ok-clause-lines g c).In-Ok in
-    log_now c.give.new.input (g.S.Sink.lines c.self.inside.sink) ok.input ok.lines
+    log_now c.give.new.input (g.S.Sink.lines c.self.inside.tally.sink) ok.input ok.lines
 
 pub returns-in-Err-clause-lines : goal.returns-in-Err-clause-lines
 returns-in-Err-clause-lines g c =
     let bad = fails g (goal.at.returns-in-Err-clause-lines g c).In-Err in
-    log_now c.give.new.input (g.S.Sink.lines c.self.inside.sink) bad.input bad.lines
+    log_now c.give.new.input (g.S.Sink.lines c.self.inside.tally.sink) bad.input bad.lines

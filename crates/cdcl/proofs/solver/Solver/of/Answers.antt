@@ -107,12 +107,11 @@ invariant_of-result g c =
       lines =
           subst (λ x. StaysLogOver (length c.args.frozen.items) x ls)
           (sym c.in_ok-given.ensures.ok) stays;
-      refuted_is = c.eliminate.new.sink.told;
       running =
           λ works not_refuted. first_runs c.in_ok-search.search p ls cs slots
           c.eliminate.new.sink.additions c.in_ok-stack.stack c.in_ok-search.ensures.names
           c.in_ok-search.ensures.started rest c.in_ok-given.ensures.ok
-          firsts stays (sym c.eliminate.new.sink.told ∙ not_refuted) c.eliminate.new.sink.counted
+          firsts stays not_refuted c.eliminate.new.sink.counted
           few
           (subst (λ f. All (λ r. IsFree f r.variable) (c.in_ok-stack.stack).removed) (sym frozen)
           leaves.not_frozen)

@@ -7,9 +7,8 @@ pub invariant_of-self : goal.invariant_of-self
 invariant_of-self g c = record {
   input = c.self.invariant.input;
   lines = c.self.invariant.lines;
-  refuted_is = c.self.invariant.refuted_is;
   running = λ works goes.
       runs_chosen c.self.inside.search c.weigh.new.self c.self.inside.input
-      (g.S.Sink.lines c.self.inside.sink) (ap (λ x. x.variables) c.weigh.ensures.same_view)
+      (g.S.Sink.lines c.self.inside.tally.sink) (ap (λ x. x.variables) c.weigh.ensures.same_view)
       (c.self.invariant.running works goes);
 }
