@@ -11,7 +11,7 @@ use Rattle.std.proofs.lemmas.Grind.{drop_more_same}
 use Rattle.std.proofs.lemmas.List.Edits.{map_over_more}
 use Rattle.std.proofs.lemmas.List.Filters.{FiltersInPlace, FiltersInPlace-all}
 use Rattle.std.proofs.lemmas.List.Filters.{FiltersInPlace-more_no, FiltersInPlace-more_set}
-use Rattle.std.proofs.lemmas.Option.{get_or_from_slice_get}
+use Rattle.std.proofs.lemmas.Option.{get_or_from_slice_get, slice_get_within}
 use Rattle.flat_rows.specs.Rows.{row_at, with_row, closed_row}
 
 module _ {A : Type 0} where
@@ -215,3 +215,16 @@ rows_more f old new i lt h =
     ) in
     let within : i < length new = omega arith in
     map_over_more f old new i (row_at new i) lt h (get_or_default new i [] (row_at new i) within)
+
+-- a row that is copied has one entry more of the other one
+pub copied_more : {A : Type 0} (old new : List (List A)) (i n : ℕ) (xs : List A) (x : A)
+    → i < length old → new ≡ with_row old i (take n xs) → slice_get xs n ≡ Some x
+    → with_row new i (row_at new i ++ x ∷ []) ≡ with_row old i (take (n + 1) xs)
+copied_more old new i n xs x lt same found =
+    let there : row_at new i ≡ take n xs =
+    ap (λ rows. row_at rows i) same ∙ get_or-set_same old i (take n xs) [] lt in
+    ap (λ row. with_row new i (row ++ x ∷ [])) there
+    ∙ ap (λ rows. with_row rows i (take n xs ++ x ∷ [])) same
+    ∙ set-set old i (take n xs) (take n xs ++ x ∷ [])
+    ∙ ap (λ y. with_row old i (take n xs ++ y ∷ [])) (sym (get_or_from_slice_get xs n x x found))
+    ∙ ap (with_row old i) (sym (take_more xs n x (slice_get_within xs n x found)))

@@ -191,6 +191,66 @@ impl<T: Copy> FlatRows<T> {
         Ok(())
     }
 
+    /// Where less than a quarter of the places in use have an entry, moves all rows to a smaller
+    /// block, side by side, each with room for half as many entries again. Rows that have shrunk
+    /// keep their room otherwise, and those that moved have left places behind.
+    ///
+    /// # Errors
+    ///
+    /// `AllocError` where memory was refused. All is then as it was.
+    pub fn pack(&mut self) -> Result<(), AllocError>
+        ensures rows { self.new.rows ≡ self.old.rows }
+        ensures err { OnErr result (self.new ≡ self.old) }
+    {
+        if self.used == 0 || !self.is_sparse() {
+            return Ok(());
+        }
+        let fill = self.block.get(0);
+        let packed = self.packed(&fill)?;
+        *self = packed;
+        Ok(())
+    }
+
+    /// Whether less than a quarter of the places in use have an entry.
+    fn is_sparse(&self) -> bool {
+        let mut entries: usize = 0;
+        for head in &self.heads {
+            entries = entries.saturating_add(head.length as usize);
+        }
+        entries < self.used / 4
+    }
+
+    /// The same rows side by side, each with room for half as many entries again.
+    fn packed(&self, fill: &T) -> Result<Self, AllocError>
+        ensures { IfOk result (λ packed. packed.rows ≡ self.now.rows) }
+    {
+        let alloc = *self.heads.allocator();
+        let mut rooms = Vec::new(alloc);
+        for head in &self.heads {
+            rooms.push(head.length.saturating_add(head.length / 2))?;
+        }
+        let mut packed = FlatRows::new(alloc, self.rows())?;
+        packed.make_rooms(&rooms, fill)?;
+        for row in 0..self.rows() {
+            packed.copy_row(row, self)?;
+        }
+        Ok(packed)
+    }
+
+    /// The row becomes that of the other one.
+    fn copy_row(&mut self, row: usize, other: &Self) -> Result<(), AllocError>
+        requires here { row < length self.old.rows }
+        requires there { row < length other.now.rows }
+        ensures { OnOk result (self.new.rows
+            ≡ with_row self.old.rows row (row_at other.now.rows row)) }
+    {
+        self.truncate(row, 0);
+        for i in 0..other.len(row) {
+            self.push(row, other.get(row, i))?;
+        }
+        Ok(())
+    }
+
     /// Adds the entry where its row has room, and says whether it had.
     #[inline]
     fn put(&mut self, row: usize, entry: &T) -> bool

@@ -177,13 +177,15 @@ impl WatchPool {
         self.truncate(row, write);
     }
 
-    /// Puts the new reference of its clause into each entry.
+    /// Puts the new reference of its clause into each entry. Then rows that lie far apart move
+    /// together, if there is memory for that.
     pub fn rename(&mut self, moves: &Moves)
         ensures { self.new ≡ named_rows moves.now self.old }
     {
         for row in 0..self.rows() {
             self.rename_row(row, moves);
         }
+        let _ = self.rows.pack();
     }
 
     fn rename_row(&mut self, row: usize, moves: &Moves)
