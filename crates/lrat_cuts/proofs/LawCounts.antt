@@ -1,5 +1,5 @@
 -- New counts, and further outputs of counts, in what holds of the forms.
-use Rattle.std.proofs.Common.{◌≡◌, ℕ, ◌+◌, ◌-◌, ◌<◌, ◌≤◌, false, List, [], ◌∷◌, ◌++◌, length, refl}
+use Rattle.std.proofs.Common.{◌≡◌, ℕ, ◌+◌, ◌-◌, ◌≤◌, false, List, [], ◌∷◌, ◌++◌, length, refl}
 use Rattle.std.proofs.Common.{sym, ◌∙◌, subst, arith}
 use Rattle.std.proofs.lemmas.Int.{ints}
 use Rattle.std.proofs.lemmas.List.Sums.{sum_by_push}
@@ -21,7 +21,7 @@ use Rattle.linear.specs.Linear.{true_count}
 use Rattle.linear.specs.Costs.{CostForm, widened, width_of}
 use Rattle.linear.proofs.Laws.{agrees_widened, value_widened, widened_wide, widened_width}
 use Rattle.bound.proofs.Laws.{weighted_same}
-use Rattle.forms.specs.Forms.{Numbered, Count, Group, last_of}
+use Rattle.forms.specs.Forms.{Numbered, Count, Group}
 use Rattle.lrat_cuts.proofs.LawMeaning.{FormHolds, IsCheap, IsCountBelow, IsItemBelow, IsLow}
 use Rattle.lrat_cuts.proofs.LawMeaning.{IsMeant, Means, slack}
 

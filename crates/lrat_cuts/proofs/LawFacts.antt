@@ -1,6 +1,6 @@
 -- Form lines, in what holds of the forms.
 use Rattle.std.proofs.Common.{◌≡◌, ℕ, zero, suc, pos, negsuc, ◌+ℤ◌, ◌-ℤ◌, ◌*ℤ◌, ◌≤ℤ◌, ◌+◌, ◌-◌, ◌*◌}
-use Rattle.std.proofs.Common.{◌<◌, ◌≤◌, Bool, true, false, if◌then◌else◌, nat_le, List, [], ◌∷◌}
+use Rattle.std.proofs.Common.{◌<◌, ◌≤◌, true, false, nat_le, List, [], ◌∷◌}
 use Rattle.std.proofs.Common.{Option, Some, None, Ok, length, sum_by, set, get_or, slice_get, inl}
 use Rattle.std.proofs.Common.{inr, refl, sym, ◌∙◌, ap, subst, arith}
 use Rattle.std.proofs.lemmas.Int.{ints}

@@ -13,6 +13,8 @@ mod LawLines
 mod LawStart
 mod LawSound
 mod LawWorth
+mod LawKept
+mod LawLimits
 mod LawVerdicts
 mod Putting
 mod Judging

@@ -41,7 +41,7 @@ put_all-forms : (cs : List (List Literal)) (s : CutsState)
 put_all-forms [] s = refl
 put_all-forms (c ∷ cs) s = put_all-forms cs (put (s.last + 1) c s)
 
-put_all-worth : (cs : List (List Literal)) (s : CutsState) → (put_all cs s).worth ≡ s.worth
+pub put_all-worth : (cs : List (List Literal)) (s : CutsState) → (put_all cs s).worth ≡ s.worth
 put_all-worth [] s = refl
 put_all-worth (c ∷ cs) s = put_all-worth cs (put (s.last + 1) c s)
 

@@ -198,6 +198,20 @@ impl CutsBase {
         &self.forms
     }
 
+    /// The id of the last clause that came.
+    pub(crate) fn last(&self) -> u64
+        ensures { result ≡ self.now.last }
+    {
+        self.clauses.last()
+    }
+
+    /// The counts and groups, and the present form. The live clauses are dropped.
+    pub(crate) fn into_forms(self) -> Forms
+        ensures { result ≡ self.forms }
+    {
+        self.forms
+    }
+
     /// Says the limits of the state; it does nothing.
     pub(crate) fn limits(&self)
         ensures { self.now.forms.variables < VARIABLE_LIMIT }

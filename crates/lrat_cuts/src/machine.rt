@@ -233,6 +233,20 @@ impl CutsMachine {
         self.base.forms()
     }
 
+    /// The id of the last clause that came.
+    pub fn last(&self) -> u64
+        ensures { result ≡ self.now.state.last }
+    {
+        self.base.last()
+    }
+
+    /// The counts and groups so far, and the present form. The live clauses are dropped.
+    pub fn into_forms(self) -> Forms
+        ensures { result ≡ self.state.forms }
+    {
+        self.base.into_forms()
+    }
+
     /// Whether the empty clause was added, or a cut.
     pub fn has_ended(&self) -> bool
         ensures { result ≡ self.now.state.ended }

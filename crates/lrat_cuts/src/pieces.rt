@@ -4,13 +4,14 @@
 //! kept.
 ghost use Rattle.std.specs.Prelude.{◌≡◌, ℕ, ◌+◌, ◌<◌, ◌≤◌, ◌^◌, true, false, List, [], ◌∷◌, ◌++◌};
 ghost use Rattle.std.specs.Prelude.{length, Option, None, Ok, Err, IfOk, OnOk, OnErr, IfSome};
-ghost use Rattle.std.specs.Prelude.{IsErr, IsOk, IsSome, ◌↔◌};
+ghost use Rattle.std.specs.Prelude.{IfNone, IsErr, IsOk, IsSome, ◌↔◌};
 ghost use Rattle.std.specs.Str.Lines.{strip_carriage_return};
 ghost use Rattle.cnf.specs.Problem.{Problem};
 ghost use Rattle.cnf.specs.declared.limits.TheConstants.{NUMBER_LIMIT};
 ghost use Rattle.text.specs.Text.{IsNoFeed};
 ghost use Rattle.lrat_cuts.specs.Pieces.{HasJudged, Holds, Judges};
-ghost use Rattle.lrat_cuts.specs.Verdict.{cuts_lower, cuts_verdict, judged_text, verdict_of};
+ghost use Rattle.lrat_cuts.specs.Verdict.{cuts_lower, cuts_verdict, ended_part, judged_text};
+ghost use Rattle.lrat_cuts.specs.Verdict.{verdict_of};
 
 use crate::machine::CutsMachine;
 use crate::verdicts::{Cause, FeedFault, LowerVerdict, Verdict};
@@ -244,6 +245,29 @@ impl CutsChecker {
         // It may be counted as a line now: kept as well, there would be more than was fed.
         self.rest.clear();
         judged.map_err(|_| FeedFault::Memory)
+    }
+
+    /// The checker behind the lines that a line feed has ended; what follows the last one is
+    /// dropped. None where one of them is faulty.
+    ///
+    /// # Errors
+    ///
+    /// `Failed` where memory was refused before.
+    pub fn into_ended(self) -> Result<Option<CutsMachine>, FeedFault>
+        ensures state { IfOk result (λ ended. IfSome ended (λ m. (p : Problem) (bytes : List ℕ)
+            → HasJudged self None p bytes
+            → judged_text None p (ended_part bytes) ≡ Ok m.state)) }
+        ensures faulty { IfOk result (λ ended. IfNone ended (IsSome (self.reading).refused)) }
+        ensures failed { (result ≡ Err FeedFault.Failed) ↔ (self.failed ≡ true) }
+        ensures only { OnErr result (result ≡ Err FeedFault.Failed) }
+    {
+        if self.failed {
+            return Err(FeedFault::Failed);
+        }
+        match self.refused {
+            Some(_) => Ok(None),
+            None => Ok(Some(self.machine)),
+        }
     }
 
     /// What the lines prove that a line feed has ended. What follows the last one is dropped.

@@ -109,7 +109,7 @@ own_chain base before old new (l ∷ ls) w own = (
 )
 
 -- lines behind others
-open_split : (base before : ℕ) (old new : Live) (ls ms : List LogLine)
+pub open_split : (base before : ℕ) (old new : Live) (ls ms : List LogLine)
     → OpenChain base before old (ls ++ ms) new
     → (mid : Live) × OpenChain base before old ls mid
     × OpenChain base (before + added_count ls) mid ms new

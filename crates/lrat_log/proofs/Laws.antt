@@ -4,7 +4,8 @@ pub use Rattle.lrat_log.proofs.Additions.{additions_cons, additions_few, additio
 pub use Rattle.lrat_log.proofs.Additions.{last_numbered}
 pub use Rattle.lrat_log.proofs.Additions.{numbered_on-append}
 pub use Rattle.lrat_log.proofs.Axioms.{LiveChain, axiom_adds, follow_append, live_chain, open_log}
-pub use Rattle.lrat_log.proofs.Axioms.{open_steps_push, own_append, own_log, stays_open, stays_own}
+pub use Rattle.lrat_log.proofs.Axioms.{live_end, open_split, open_steps_push, own_append, own_log}
+pub use Rattle.lrat_log.proofs.Axioms.{stays_open, stays_own}
 pub use Rattle.lrat_log.proofs.GivenNumbers.{base_more, base_of, clauses_given, given_at-given_of}
 pub use Rattle.lrat_log.proofs.GivenNumbers.{given_on, numbered_right}
 pub use Rattle.lrat_log.proofs.Growing.{base_front, chain_join, ids_covered, live_after-append}
@@ -16,7 +17,7 @@ pub use Rattle.lrat_log.proofs.Literals.{contains-negations, literal_eq-negation
 pub use Rattle.lrat_log.proofs.MoreGiven.{new_more, new_searched}
 pub use Rattle.lrat_log.proofs.Names.{steps_from_chain}
 pub use Rattle.lrat_log.proofs.NewLines.{first_new, none_new}
-pub use Rattle.lrat_log.proofs.Numbering.{given_below}
+pub use Rattle.lrat_log.proofs.Numbering.{given_below, none_of}
 pub use Rattle.lrat_log.proofs.RebasedLines.{learned_rebased, open_rebased}
 pub use Rattle.lrat_log.proofs.Rebasing.{accepts_of_log, steps_of_log}
 pub use Rattle.lrat_log.proofs.Refusals.{when_err}

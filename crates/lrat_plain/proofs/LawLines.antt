@@ -23,7 +23,8 @@ use Rattle.lrat_plain.proofs.Stepping.{line_by, lines_if, made_if}
 abbrev AreCorrect : Live → List ProofLine → Type 0
 AreCorrect live ls = (left : Live) × ChainByHints live ls left
 
-correct_on : (start mid : Live) (ls ms : List ProofLine) → ChainByHints start ls mid → AreCorrect mid ms
+correct_on : (start mid : Live) (ls ms : List ProofLine) → ChainByHints start ls mid
+    → AreCorrect mid ms
     → AreCorrect start (ls ++ ms)
 correct_on start mid [] ms e k = subst (λ x. AreCorrect x ms) e k
 correct_on start mid (l ∷ ls) ms w k =

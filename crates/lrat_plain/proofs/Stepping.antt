@@ -44,7 +44,8 @@ fault_of old new ts cause n s e = λ f k is more.
     judged_more old ts more (Err cause) s.judged
     ∙ ap (λ (c : Cause). Err (c, old.lines + 1)) same ∙ ap (λ m. Err (f, m)) line
 
-abbrev pub made_if : Result CutsState Cause → (CutsState → List (List Literal)) → List (List Literal)
+abbrev pub made_if : Result CutsState Cause → (CutsState → List (List Literal))
+    → List (List Literal)
 made_if (Err f) next = []
 made_if (Ok t) next = next t
 
