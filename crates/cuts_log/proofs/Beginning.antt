@@ -1,6 +1,6 @@
 -- A log before its first line.
 use Rattle.std.proofs.Common.{◌≡◌, ℕ, false, List, length, Option, refl, sym, ◌∙◌, ap, subst}
-use Rattle.std.proofs.Common.{arith}
+use Rattle.std.proofs.Common.{arith, ◌≤◌}
 use Rattle.cnf.specs.Formula.{Cnf}
 use Rattle.cnf.specs.Literal.{Literal}
 use Rattle.cnf.specs.Problem.{Problem}
@@ -8,10 +8,13 @@ use Rattle.cnf.specs.declared.limits.TheConstants.{NUMBER_LIMIT}
 use Rattle.bound.specs.Weighted.{weighted_cnf, weights_of}
 use Rattle.forms.specs.Forms.{Forms, forms_of}
 use Rattle.cuts_log.specs.declared.standing.Standing.{Standing}
-use Rattle.cuts_log.specs.Books.{BookState, begun_book}
+use Rattle.lrat_cuts.specs.Cuts.{CutsState}
+use Rattle.cuts_log.specs.Books.{BookState, begun_book, resumed_book}
 use Rattle.cuts_log.specs.Given.{FormulaState, all_live}
 use Rattle.cuts_log.specs.Logs.{IsKept}
-use Rattle.cuts_log.specs.Stands.{stand_of, with_clauses}
+use Rattle.cuts_log.specs.Stands.{stand_at, stand_of, with_clauses}
+use Rattle.cuts_log.specs.Starts.{IsStart}
+use Rattle.cuts_log.proofs.Starting.{same_stand, start_worth, starts_right}
 
 abbrev blank : FormulaState → Forms → Standing
 blank g f = record { forms = f; ended = false; formula = g }
@@ -43,7 +46,32 @@ begins_kept p base origin b s is size same =
       cost = NUMBER_LIMIT;
     }) = record {
       base = size;
+      start = starts_right p;
       cost = omega arith;
+      worth = omega (arith, start_worth p);
+      left = s;
+      taken = same ∙ same_stand p;
+      standing = λ _. refl;
+    } in subst Kept (sym is) first
+
+-- it goes on with what was judged before
+pub resumes_kept : (p : Problem) (t : CutsState) (base : ℕ) (origin : Option (List ℕ))
+    (b : BookState) (s : Standing) (cost : ℕ) → b ≡ resumed_book p t base origin
+    → base ≡ length (weighted_cnf p).clauses → s ≡ stand_at p t → IsStart p t
+    → cost ≤ NUMBER_LIMIT → cost ≡ t.worth
+    → IsKept (record { book = b; standing = s; cost = cost })
+resumes_kept p t base origin b s cost is size same start low worth =
+    let Kept : BookState → Type 0 =
+    λ x. IsKept (record { book = x; standing = s; cost = cost }) in
+    let first : IsKept (record {
+      book = resumed_book p t base origin;
+      standing = s;
+      cost = cost;
+    }) = record {
+      base = size;
+      start = start;
+      cost = low;
+      worth = omega (arith, worth);
       left = s;
       taken = same;
       standing = λ _. refl;

@@ -1,7 +1,7 @@
 -- The lines, the tokens and the text of events, with one more at the end.
 use Rattle.std.proofs.Common.{◌≡◌, ℕ, ◌+◌, ◌≤◌, List, [], ◌∷◌, ◌++◌, length, map, refl, sym, ◌∙◌}
 use Rattle.std.proofs.Common.{ap}
-use Rattle.std.proofs.Common.{arith, append-nil, length-append}
+use Rattle.std.proofs.Common.{arith, append-nil}
 use Rattle.std.specs.List.{flat_map}
 use Rattle.std.proofs.lemmas.Grind.{flat_map-append}
 use Rattle.cnf.specs.Literal.{Literal}
@@ -29,15 +29,6 @@ pub lines_of-push : (es : List Event) (e : Event) → lines_of (es ++ e ∷ []) 
 lines_of-push es e = flat_map-append lines_in es (e ∷ [])
     ∙ ap (λ z. lines_of es ++ z) (append-nil (lines_in e))
 
-pub lines_of-length : (es : List Event) (e : Event)
-    → length (lines_of (es ++ e ∷ [])) ≡ length (lines_of es) + length (lines_in e)
-lines_of-length es e = ap length (lines_of-push es e) ∙ length-append (lines_of es) (lines_in e)
-
-pub lines_of-added : (es : List Event) (e : Event)
-    → added_count (lines_of (es ++ e ∷ [])) ≡ added_count (lines_of es) + added_count (lines_in e)
-lines_of-added es e =
-    ap added_count (lines_of-push es e) ∙ added-append (lines_of es) (lines_in e)
-
 pub tokens_on-push : (base before : ℕ) (es : List Event) (e : Event)
     → tokens_on base before (es ++ e ∷ [])
     ≡ tokens_on base before es ++ tokens_at base (before + added_count (lines_of es)) e ∷ []
@@ -51,17 +42,15 @@ tokens_on-push base before (d ∷ es) e =
     ap (λ z. tokens_at base before d ∷ z) (tokens_on-push base next es e
     ∙ ap (λ n. tokens_on base next es ++ tokens_at base n e ∷ []) same)
 
-pub text_of-push : (base : ℕ) (es : List Event) (e : Event)
-    → text_of base es ++ spaced (tokens_at base (added_count (lines_of es)) e)
-    ≡ text_of base (es ++ e ∷ [])
-text_of-push base es e =
-    let same : 0 + added_count (lines_of es) ≡ added_count (lines_of es) = omega arith in
-    let last = spaced (tokens_at base (added_count (lines_of es)) e) in
-    sym (ap (flat_map spaced) (tokens_on-push base 0 es e
-    ∙ ap (λ n. tokens_on base 0 es ++ tokens_at base n e ∷ []) same)
-    ∙ flat_map-append spaced (tokens_on base 0 es)
-    (tokens_at base (added_count (lines_of es)) e ∷ [])
-    ∙ ap (λ z. text_of base es ++ z) (append-nil last))
+pub text_of-push : (base before : ℕ) (es : List Event) (e : Event)
+    → text_of base before es ++ spaced (tokens_at base (before + added_count (lines_of es)) e)
+    ≡ text_of base before (es ++ e ∷ [])
+text_of-push base before es e =
+    let last = spaced (tokens_at base (before + added_count (lines_of es)) e) in
+    sym (ap (flat_map spaced) (tokens_on-push base before es e)
+    ∙ flat_map-append spaced (tokens_on base before es)
+    (tokens_at base (before + added_count (lines_of es)) e ∷ [])
+    ∙ ap (λ z. text_of base before es ++ z) (append-nil last))
 
 pub added_few : (e : Event) → added_count (lines_in e) ≤ length (lines_in e)
 added_few e = additions_few (lines_in e)

@@ -1,24 +1,20 @@
 -- The lines of a log are judged one after the other.
 use Rattle.std.proofs.Common.{◌≡◌, ℕ, ◌+◌, false, List, [], ◌∷◌, map, Some, Ok, refl, sym, ◌∙◌}
-use Rattle.std.proofs.Common.{ap, Option, arith, length, subst, ◌≤◌}
+use Rattle.std.proofs.Common.{ap, Option, arith, length, subst}
 use Rattle.cnf.specs.Problem.{Problem}
-use Rattle.bound.specs.Weighted.{weighted_cnf, weights_of}
-use Rattle.forms.specs.Forms.{forms_of}
-use Rattle.cnf.specs.declared.limits.TheConstants.{NUMBER_LIMIT}
+use Rattle.bound.specs.Weighted.{weighted_cnf}
 use Rattle.lrat_log.specs.Log.{axiom_line}
 use Rattle.lrat_log.specs.Steps.{added_count}
 use Rattle.lrat_read.specs.WordTokens.{word_tokens}
-use Rattle.lrat_cuts.specs.Cuts.{CutsState, cuts_start, judged_line, judged_lines}
+use Rattle.lrat_cuts.specs.Cuts.{CutsState, judged_line, judged_lines}
 use Rattle.cuts_log.specs.declared.standing.Standing.{Standing}
 use Rattle.cuts_log.specs.Events.{Event, Plain, Word, tokens_at, tokens_on}
-use Rattle.cuts_log.specs.Judging.{AreLive, ArePlainRight, IsUpTo, LogsAreRight, StandsAs}
-use Rattle.cuts_log.specs.Given.{all_live}
-use Rattle.cuts_log.specs.Logs.{IsKept, LogState, events_of, problem_of}
-use Rattle.cuts_log.specs.Stands.{TakesAll, stand_of}
-use Rattle.cuts_log.proofs.JudgedWords.{put_all-stands, stands_on, stands_with, taken_told}
-use Rattle.cuts_log.proofs.JudgedWords.{with_clauses-formula}
-use Rattle.cuts_log.proofs.LiveClauses.{live_start}
-use Rattle.lrat_cuts.proofs.Laws.{put_all-live}
+use Rattle.cuts_log.specs.Books.{before_of}
+use Rattle.cuts_log.specs.Judging.{ArePlainRight, IsUpTo, LogsAreRight, StandsAs}
+use Rattle.cuts_log.specs.Logs.{IsKept, LogState, events_of, problem_of, start_of}
+use Rattle.cuts_log.specs.Stands.{TakesAll, stand_at}
+use Rattle.cuts_log.specs.Starts.{IsStart}
+use Rattle.cuts_log.proofs.JudgedWords.{stands_on, taken_told}
 
 -- what lines come to, where the checker stands at first as the log did
 abbrev AreJudged : Option ℕ → ℕ → ℕ → ℕ → CutsState → List Event → Standing → Type 0
@@ -65,38 +61,25 @@ lines_judged o cost base before n up s old new (Word w made ∷ es) e h p =
     )
 
 -- before the first line
-pub start_stands : (p : Problem) (base : ℕ) → base ≡ length (weighted_cnf p).clauses
-    → StandsAs base (cuts_start p) (stand_of p)
-start_stands p base size =
-    let cs = (weighted_cnf p).clauses in
-    let blank : CutsState = record {
-      live = [];
-      last = 0;
-      forms = forms_of (weighted_cnf p).variables (weights_of p);
-      ended = false;
-      worth = NUMBER_LIMIT;
-      proved = 0;
-    } in
-    let same = put_all-stands (all_live cs) cs blank in
-    let kept : (stand_of p).formula ≡ all_live cs =
-    with_clauses-formula cs (stands_with (all_live cs) blank) in record {
-      forms = ap (λ (x : Standing). x.forms) same;
-      ended = refl;
-      within = subst (λ x. length x.clauses ≤ base) (sym kept) (omega (arith, size));
-      formula = subst (λ x. AreLive x (cuts_start p).live) (sym kept)
-          (subst (AreLive (all_live cs)) (sym (put_all-live cs blank)) (live_start cs));
-    }
+pub start_stands : (p : Problem) (base : ℕ) (s : CutsState) → IsStart p s
+    → base ≡ length (weighted_cnf p).clauses → StandsAs base s (stand_at p s)
+start_stands p base s h size = record {
+  forms = refl;
+  ended = h.open_end;
+  within = omega (arith, size);
+  formula = h.formula;
+}
 
 pub log_judged : (o : Option ℕ) (l : LogState) → IsKept l → (l.book).failed ≡ false
     → IsUpTo l.cost o
-    → ArePlainRight o (l.book).base 0 (cuts_start (problem_of l)) (events_of l)
-    → (t : CutsState) × (judged_lines o (cuts_start (problem_of l)) 1
-    (tokens_on (l.book).base 0 (events_of l)) ≡ Ok t)
+    → ArePlainRight o (l.book).base (before_of l.book) (start_of l) (events_of l)
+    → (t : CutsState) × (judged_lines o (start_of l) 1
+    (tokens_on (l.book).base (before_of l.book) (events_of l)) ≡ Ok t)
     × (t.forms ≡ (l.standing).forms) × (t.ended ≡ (l.standing).ended)
 log_judged o l h works up p =
-    let j = lines_judged o l.cost (l.book).base 0 1 up (cuts_start (problem_of l))
-    (stand_of (problem_of l)) h.left (events_of l)
-    (start_stands (problem_of l) (l.book).base h.base) h.taken p in
+    let j = lines_judged o l.cost (l.book).base (before_of l.book) 1 up (start_of l)
+    (stand_at (problem_of l) (start_of l)) h.left (events_of l)
+    (start_stands (problem_of l) (l.book).base (start_of l) h.start h.base) h.taken p in
     let same = sym (h.standing works) in (
       j.0,
       j.1,

@@ -49,7 +49,7 @@ abbrev live_next : ℕ → ℕ → LogLine → Live → Live
 live_next base before l live = live_after live (numbered_line base before l ∷ [])
 
 -- as `FollowByRup`, from what is live
-abbrev Follow : ℕ → ℕ → Live → List LogLine → Type 0
+abbrev pub Follow : ℕ → ℕ → Live → List LogLine → Type 0
 Follow base before live [] = Unit {0}
 Follow base before live (l ∷ ls) =
     (is_delete l.kind ≡ false → is_axiom l.kind ≡ false → IsByRup base live.clause_at l)
@@ -285,7 +285,7 @@ plain_on o base before s live l ls line own st =
     ]
 
 -- clauses from outside
-axiom_is : (base before : ℕ) (old new : Live) (c : List Literal)
+pub axiom_is : (base before : ℕ) (old new : Live) (c : List Literal)
     → IsOpenStep base before old (axiom_line c) new
     → IsAddable old (base + before + 1) c × (new ≡ with_clause old (base + before + 1) c)
 axiom_is base before old new c (inl a) = (a.addable, a.live)

@@ -16,9 +16,9 @@ use Rattle.lrat_read.proofs.Laws.{word_line_read}
 use Rattle.lrat_cuts.proofs.Laws.{put_all-last, put_all-live}
 use Rattle.lrat_cuts.specs.Cuts.{CutsState, judged_line, judged_word, put, put_all}
 use Rattle.cuts_log.specs.declared.standing.Standing.{Standing}
-use Rattle.cuts_log.specs.Given.{FormulaState, formula_at}
+use Rattle.cuts_log.specs.Given.{AreLive, FormulaState, formula_at}
 use Rattle.lrat_cuts.specs.Cuts.{fact_of}
-use Rattle.cuts_log.specs.Judging.{AreLive, Follows, IsUpTo, StandsAs, WordsAreRight}
+use Rattle.cuts_log.specs.Judging.{Follows, IsUpTo, StandsAs, WordsAreRight}
 use Rattle.cuts_log.specs.Stands.{IsRightWord, TakesWord, with_clause, with_clauses}
 use Rattle.cuts_log.proofs.LiveClauses.{live_append}
 use Rattle.cuts_log.proofs.Tables.{form_more, group_more}

@@ -11,13 +11,14 @@ use Rattle.lrat_log.specs.Log.{LogLine}
 use Rattle.lrat_read.specs.Words.{WordLine, CountLine, MoreLine, GroupLine, FormLine, CutLine}
 use Rattle.lrat_read.specs.Words.{BoundLine}
 use Rattle.cuts_log.specs.declared.standing.Standing.{Standing}
-use Rattle.cuts_log.specs.Books.{BookState, FailsAt, IsBook, Notes, seen_next}
+use Rattle.cuts_log.specs.Books.{BookState, FailsAt, IsBook, Notes, log_lines, seen_next}
 use Rattle.cuts_log.specs.Events.{Event, Plain, TraceState, Word, lines_in, lines_of}
-use Rattle.cuts_log.specs.Logs.{Brings, IsKept, LogState, SameLog, events_of, lines_seen}
-use Rattle.cuts_log.specs.Logs.{problem_of}
+use Rattle.cuts_log.specs.Logs.{Brings, IsKept, LogState, SameLog, all_lines, events_of}
+use Rattle.cuts_log.specs.Logs.{lines_seen, problem_of, start_of}
 use Rattle.cuts_log.specs.Given.{formula_at}
-use Rattle.cuts_log.specs.Stands.{IsRightWord, Takes, TakesAll, stand_of}
-use Rattle.cuts_log.proofs.EventLines.{lines_of-push}
+use Rattle.cuts_log.specs.Stands.{IsRightWord, Takes, TakesAll, stand_at}
+use Rattle.cuts_log.specs.Starts.{IsStart, earlier_lines}
+use Rattle.cuts_log.proofs.Noting.{lines_more}
 
 pub takes_push : (cost : ℕ) (s mid new : Standing) (es : List Event) (e : Event)
     → TakesAll cost s es mid → Takes cost mid e new → TakesAll cost s (es ++ e ∷ []) new
@@ -58,9 +59,12 @@ with_cost l cost = record l { cost = cost }
 pub kept_lower : (l : LogState) (cost : ℕ) → cost ≤ l.cost → IsKept l → IsKept (with_cost l cost)
 kept_lower l cost le h = record {
   base = h.base;
+  start = h.start;
   cost = omega (arith, h.cost);
+  worth = omega (arith, le, h.worth);
   left = h.left;
-  taken = all_lower l.cost cost le (stand_of (problem_of l)) h.left (events_of l) h.taken;
+  taken = all_lower l.cost cost le (stand_at (problem_of l) (start_of l)) h.left (events_of l)
+      h.taken;
   standing = h.standing;
 }
 
@@ -70,49 +74,55 @@ pub kept_next : (l : LogState) (e : Event) (s : Standing) (b : BookState) → Is
     → b.base ≡ (l.book).base → IsKept (record { book = b; standing = s; cost = l.cost })
 kept_next l e s b h works t seen base =
     let es = events_of l in
-    let from = stand_of (problem_of l) in
+    let from = stand_at (problem_of l) (start_of l) in
     let next : Takes l.cost h.left e s = subst (λ z. Takes l.cost z e s) (h.standing works) t in
     let all : TakesAll l.cost from (es ++ e ∷ []) s = takes_push l.cost from h.left s es e h.taken
     next
     in
-    let Goes : TraceState → Type 0 = λ z. TakesAll l.cost (stand_of z.problem) z.events s in
+    let Goes : TraceState → Type 0 =
+    λ z. TakesAll l.cost (stand_at z.problem z.start) z.events s in
     let Based : TraceState → Type 0 = λ z. (l.book).base
     ≡ length (weighted_cnf z.problem).clauses in record {
       base = base ∙ subst Based (sym seen) h.base;
+      start = subst (λ (z : TraceState). IsStart z.problem z.start) (sym seen) h.start;
       cost = h.cost;
+      worth = subst (λ (z : TraceState). l.cost ≤ (z.start).worth) (sym seen) h.worth;
       left = s;
       taken = subst Goes (sym seen) all;
       standing = λ f. refl;
     }
 
 abbrev seen_in : BookState → List LogLine
-seen_in b = take b.lines (lines_of (b.seen).events)
+seen_in b = take b.lines (log_lines b)
 
 -- the lines that the search sees
-seen_whole : (b : BookState) → IsBook b → b.failed ≡ false → seen_in b ≡ lines_of (b.seen).events
-seen_whole b h w = take_all b.lines (lines_of (b.seen).events) (omega (arith, h.lines w))
+seen_whole : (b : BookState) → IsBook b → b.failed ≡ false → seen_in b ≡ log_lines b
+seen_whole b h w = take_all b.lines (log_lines b) (omega (arith, h.lines w))
+
+-- all lines, where one came more
+lines_next : (old new : BookState) (e : Event) → new.seen ≡ seen_next e old.seen
+    → new.base ≡ old.base → log_lines new ≡ log_lines old ++ lines_in e
+lines_next old new e seen base =
+    ap (λ (t : TraceState). earlier_lines new.base t.start ++ lines_of t.events) seen
+    ∙ ap (λ b. earlier_lines b (old.seen).start ++ lines_of ((old.seen).events ++ e ∷ [])) base
+    ∙ lines_more old e
 
 seen_more : (old new : BookState) (e : Event) → IsBook old → old.failed ≡ false → Notes e old new
     → seen_in new ≡ seen_in old ++ lines_in e
 seen_more old new e h w n =
-    let es = (old.seen).events in
-    let same : (new.seen).events ≡ es ++ e ∷ [] = ap (λ (t : TraceState). t.events) n.seen in
-    let lines : lines_of (new.seen).events ≡ lines_of es ++ lines_in e =
-    ap lines_of same ∙ lines_of-push es e in
-    let long : length (lines_of (new.seen).events) ≡ length (lines_of es) + length (lines_in e) =
-    ap length lines ∙ length-append (lines_of es) (lines_in e) in
-    take_all new.lines (lines_of (new.seen).events) (omega (arith, n.lines, h.lines w, long))
+    let lines = lines_next old new e n.seen n.base in
+    let long : length (log_lines new) ≡ length (log_lines old) + length (lines_in e) =
+    ap length lines ∙ length-append (log_lines old) (lines_in e) in
+    take_all new.lines (log_lines new) (omega (arith, n.lines, h.lines w, long))
     ∙ lines ∙ ap (λ z. z ++ lines_in e) (sym (seen_whole old h w))
 
 seen_same : (old new : BookState) (e : Event) → IsBook old → FailsAt e old new
     → seen_in new ≡ seen_in old
 seen_same old new e h f =
-    let es = (old.seen).events in
-    let within : old.lines ≤ length (lines_of es) = h.within in
-    ap (λ n. take n (lines_of (new.seen).events)) f.lines
-    ∙ ap (λ (t : TraceState). take old.lines (lines_of t.events)) f.seen
-    ∙ ap (take old.lines) (lines_of-push es e)
-    ∙ take-append-le old.lines (lines_of es) (lines_in e) within
+    let within : old.lines ≤ length (log_lines old) = h.within in
+    ap (λ n. take n (log_lines new)) f.lines
+    ∙ ap (take old.lines) (lines_next old new e f.seen f.base)
+    ∙ take-append-le old.lines (log_lines old) (lines_in e) within
 
 pub brings : (old : LogState) (s : Standing) (b : BookState) (e : Event) (more : List LogLine)
     → IsBook old.book → (old.book).failed ≡ false → Notes e old.book b → lines_in e ≡ more
@@ -129,12 +139,13 @@ lost old s b e h f = seen_same old.book b e h f
 
 pub short_seen : (l : LogState) → IsBook l.book → length (lines_seen l) < LINE_LIMIT
 short_seen l h =
-    let within : (l.book).lines ≤ length (lines_of (events_of l)) = h.within in
-    omega (arith, h.short, length-take-le (l.book).lines (lines_of (events_of l)) within)
+    let within : (l.book).lines ≤ length (all_lines l) = h.within in
+    omega (arith, h.short, length-take-le (l.book).lines (all_lines l) within)
 
 pub same_on : (first old new : LogState) → SameLog first old → SameLog old new → SameLog first new
 same_on first old new h n = record {
   problem = n.problem ∙ h.problem;
+  start = n.start ∙ h.start;
   origin = n.origin ∙ h.origin;
   cost = n.cost ∙ h.cost;
 }

@@ -13,6 +13,9 @@ mod JudgedWords
 mod JudgedLogs
 mod JudgedPlain
 mod JudgedSteps
+mod Starting
+mod EarlierLines
+mod BeforeTexts
 mod JudgedStart
 mod LogEnds
 mod LineWords

@@ -16,9 +16,8 @@ use Rattle.lrat_log.specs.declared.lines.Hint.{Hint}
 use Rattle.lrat_log.specs.declared.lines.Name.{Name}
 use Rattle.lrat_log.specs.declared.lines.Name.TheVariants.{Formula, Added}
 use Rattle.lrat_log.specs.Log.{HasNumber, id_of, name_of, number_in}
-use Rattle.cuts_log.specs.Given.{FormulaState, all_live, deleted, without_name}
+use Rattle.cuts_log.specs.Given.{AreLive, FormulaState, all_live, deleted, without_name}
 use Rattle.cuts_log.specs.Given.{without_names}
-use Rattle.cuts_log.specs.Judging.{AreLive}
 
 -- flags
 cleared_here : (xs : List Bool) (i : ℕ) → get_or (set xs i false) i false ≡ false

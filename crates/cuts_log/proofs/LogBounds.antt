@@ -1,26 +1,24 @@
 -- A log is judged right for no cost, too, and proves each lower bound that it tells.
 use Rattle.std.proofs.Common.{◌≡◌, ℕ, ◌+◌, ◌≤◌, List, [], ◌∷◌, map, Option, None, Ok, refl, sym}
-use Rattle.std.proofs.Common.{◌∙◌, ap, subst, arith, false}
+use Rattle.std.proofs.Common.{◌∙◌, ap, subst, arith}
 use Rattle.std.specs.List.{AllByRecursion}
 use Rattle.cnf.specs.Lrat.{Live}
-use Rattle.cnf.specs.Problem.{Problem}
-use Rattle.cnf.specs.declared.limits.TheConstants.{NUMBER_LIMIT}
-use Rattle.bound.specs.Weighted.{weighted_cnf, weights_of}
-use Rattle.forms.specs.Forms.{forms_of}
-use Rattle.lrat_log.specs.Log.{axiom_line, start_over}
-use Rattle.lrat_log.specs.Steps.{added_count, given_of}
+use Rattle.lrat_log.specs.Log.{axiom_line}
+use Rattle.lrat_log.specs.Steps.{added_count}
 use Rattle.lrat_read.specs.WordTokens.{word_tokens}
-use Rattle.lrat_cuts.specs.Cuts.{CutsState, cuts_start, judged_lines}
+use Rattle.lrat_cuts.specs.Cuts.{CutsState, judged_lines}
 use Rattle.cuts_log.specs.declared.standing.Standing.{Standing}
+use Rattle.cuts_log.specs.Books.{before_of, book_text}
 use Rattle.cuts_log.specs.Events.{Event, Plain, Word, lines_of, tokens_at, tokens_on}
 use Rattle.cuts_log.specs.Judging.{BoundsAreProved, IsProvedEvent, IsUpTo, StandsAs}
-use Rattle.cuts_log.specs.Logs.{events_of, problem_of}
-use Rattle.cuts_log.specs.Stands.{TakesAll, stand_of}
+use Rattle.cuts_log.specs.Logs.{events_of, problem_of, start_of}
+use Rattle.cuts_log.specs.Stands.{TakesAll, stand_at}
+use Rattle.cuts_log.proofs.BeforeTexts.{text_behind}
 use Rattle.cuts_log.proofs.JudgedLogs.{next_line, start_stands}
 use Rattle.cuts_log.proofs.JudgedStart.{start_right}
 use Rattle.cuts_log.proofs.JudgedSteps.{Stands, count_one, goes_same, plain_on, word_says}
 use Rattle.cuts_log.proofs.LogTexts.{text_tokens}
-use Rattle.cuts_log.proofs.Worths.{proved_more, put_all_rises}
+use Rattle.cuts_log.proofs.Worths.{proved_more}
 
 -- what lines come to, where cuts are worth the cost at first
 record Proves (o : Option ℕ) (cost base before n : ℕ) (s : CutsState) (es : List Event)
@@ -75,28 +73,18 @@ steps_prove o cost base before n up s old new (Word w made ∷ es) live same h s
       );
     }
 
-start_worth : (p : Problem) (cost : ℕ) → cost ≤ NUMBER_LIMIT → cost ≤ (cuts_start p).worth
-start_worth p cost le =
-    let blank : CutsState = record {
-      live = [];
-      last = 0;
-      forms = forms_of (weighted_cnf p).variables (weights_of p);
-      ended = false;
-      worth = NUMBER_LIMIT;
-      proved = 0;
-    } in
-    (put_all_rises cost (weighted_cnf p).clauses blank).0 le
-
 pub bounds_proved : BoundsAreProved
-bounds_proved l h book works log follows =
+bounds_proved l before h book works first log follows =
     let p = problem_of l in
+    let s = start_of l in
     let base = (l.book).base in
-    let start = start_over (given_of (weighted_cnf p).clauses) base in
-    let j = steps_prove None l.cost base 0 1 tt (cuts_start p) (stand_of p) h.left (events_of l)
-    start (start_stands p base h.base) h.taken (start_right l h book works log follows)
-    (start_worth p l.cost h.cost) in (
+    let right = start_right l h book works log follows in
+    let j = steps_prove None l.cost base (before_of l.book) 1 tt s (stand_at p s) h.left
+    (events_of l) right.0 (start_stands p base s h.start h.base) h.taken right.1 h.worth in (
       j.last,
-      ap (judged_lines None (cuts_start p) 1) (text_tokens l h book works log follows) ∙ j.judged,
+      text_behind None p before (book_text l.book) s j.last l.cost first.ended tt h.worth
+          (h.start).some first.judged
+          (ap (judged_lines None s 1) (text_tokens l h book works log follows) ∙ j.judged),
       j.stands.ended ∙ ap (λ (x : Standing). x.ended) (sym (h.standing works)),
       j.told,
     )

@@ -1,17 +1,20 @@
 -- A log whose lines stop at the empty clause, and have one, has ended.
-use Rattle.std.proofs.Common.{◌≡◌, ℕ, Bool, true, List, [], ◌∷◌, ◌++◌, map, refl, sym, ◌∙◌, ap}
+use Rattle.std.proofs.Common.{◌≡◌, ℕ, Bool, true, false, List, [], ◌∷◌, ◌++◌, map, refl, sym, ◌∙◌, ap}
 use Rattle.std.proofs.Common.{subst, inl, inr, ◌⊎◌}
 use Rattle.std.specs.List.{list_any}
 use Rattle.std.proofs.lemmas.Bool.{both_ways, cases_Bool, cond-false}
+use Rattle.std.proofs.lemmas.List.Folds.{list_any-append}
 use Rattle.cnf.specs.Clause.{is_empty_clause}
 use Rattle.cnf.specs.Literal.{Literal}
 use Rattle.lrat_log.specs.Log.{LogLine, axiom_line, is_delete}
-use Rattle.lrat_log.specs.Steps.{StopsAtEmptyClause, adds_empty_clause}
+use Rattle.lrat_log.specs.Steps.{AddsNoEmptyClause, StopsAtEmptyClause, adds_empty_clause}
 use Rattle.cuts_log.specs.declared.standing.Standing.{Standing}
 use Rattle.cuts_log.specs.Events.{Event, Plain, Word, lines_of}
 use Rattle.cuts_log.specs.Judging.{LogsEnd}
-use Rattle.cuts_log.specs.Logs.{events_of, problem_of}
-use Rattle.cuts_log.specs.Stands.{TakesAll, stand_of, with_clause, with_clauses, with_line}
+use Rattle.cuts_log.specs.Logs.{events_of, problem_of, start_of}
+use Rattle.cuts_log.specs.Stands.{TakesAll, stand_at, with_clause, with_clauses, with_line}
+use Rattle.cuts_log.specs.Starts.{earlier_lines}
+use Rattle.cuts_log.proofs.EarlierLines.{stops_behind}
 use Rattle.cuts_log.proofs.JudgedSteps.{ends_at, stops_on}
 
 -- no line follows, and the empty clause came last; or it is still to come
@@ -85,7 +88,22 @@ lines_end cost (Word w made ∷ es) s new t stops some =
       | inr h ↦ lines_end cost es mid new t.2 h.0 h.1
     ]
 
+-- no line that stands for what was written before adds the empty clause
+none_before : (ls : List LogLine) → AddsNoEmptyClause ls → list_any adds_empty_clause ls ≡ false
+none_before [] h = refl
+none_before (l ∷ ls) h = rw h.0 (none_before ls h.1)
+
 pub logs_end : LogsEnd
 logs_end l h book works stops some =
+    let base = (l.book).base in
+    let before = earlier_lines base (start_of l) in
+    let own = lines_of (events_of l) in
+    let open_lines : AddsNoEmptyClause before =
+    subst (λ b. AddsNoEmptyClause (earlier_lines b (start_of l))) (sym h.base)
+    (h.start).unrefuted in
+    let here : list_any adds_empty_clause own ≡ true =
+    rw (none_before before open_lines) at (sym (list_any-append adds_empty_clause before own)
+    ∙ some) in
     ap (λ (x : Standing). x.ended) (h.standing works)
-    ∙ lines_end l.cost (events_of l) (stand_of (problem_of l)) h.left h.taken stops some
+    ∙ lines_end l.cost (events_of l) (stand_at (problem_of l) (start_of l)) h.left h.taken
+    (stops_behind before own stops) here

@@ -1,11 +1,14 @@
 -- The lines of a log and their text.
-use Rattle.std.specs.Prelude.{◌≡◌, ℕ, ◌+◌, ◌<◌, ◌≤◌, Bool, true, false, List, [], ◌∷◌, ◌++◌, length}
-use Rattle.std.specs.Prelude.{Option}
+use Rattle.std.specs.Prelude.{◌≡◌, ℕ, ◌+◌, ◌-◌, ◌<◌, ◌≤◌, Bool, true, false, List, [], ◌∷◌, ◌++◌}
+use Rattle.std.specs.Prelude.{Option, length}
 use Rattle.cnf.specs.Problem.{Problem}
 use Rattle.lrat_log.specs.declared.log.TheConstants.{LINE_LIMIT}
+use Rattle.lrat_log.specs.Log.{LogLine}
 use Rattle.lrat_log.specs.Steps.{added_count}
+use Rattle.lrat_cuts.specs.Cuts.{CutsState, cuts_start}
 use Rattle.cuts_log.specs.Events.{Event, TraceState, lines_in, lines_of, text_of}
 use Rattle.cuts_log.specs.Outs.{OutState, Says, fresh}
+use Rattle.cuts_log.specs.Starts.{earlier_lines}
 
 pub record BookState : Type 0 where
   pub seen : TraceState
@@ -18,23 +21,46 @@ pub record BookState : Type 0 where
   -- no line comes any more
   pub failed : Bool
 
+-- how many clauses were added before the first line
+abbrev pub before_of : BookState → ℕ
+before_of b = ((b.seen).start).last - b.base
+
+-- all lines, with those that stand for what was written before
+abbrev pub log_lines : BookState → List LogLine
+log_lines b = earlier_lines b.base (b.seen).start ++ lines_of (b.seen).events
+
+-- the text of its own lines
+abbrev pub book_text : BookState → List ℕ
+book_text b = text_of b.base (before_of b) (b.seen).events
+
 pub record IsBook (b : BookState) : Type 0 where
   pub small : b.base < LINE_LIMIT
   pub short : b.lines < LINE_LIMIT
-  pub said : Says (fresh (b.seen).origin) (text_of b.base (b.seen).events) b.out
+  pub said : Says (fresh (b.seen).origin) (book_text b) b.out
   -- after a failed write there may be one line more, which the search does not see
-  pub within : b.lines ≤ length (lines_of (b.seen).events)
-  pub lines : b.failed ≡ false → b.lines ≡ length (lines_of (b.seen).events)
-  pub added : b.failed ≡ false → b.added ≡ added_count (lines_of (b.seen).events)
+  pub within : b.lines ≤ length (log_lines b)
+  pub lines : b.failed ≡ false → b.lines ≡ length (log_lines b)
+  pub added : b.failed ≡ false → b.added ≡ added_count (log_lines b)
   pub works : b.failed ≡ false → (b.out).failed ≡ false
 
 abbrev pub begun_book : Problem → ℕ → Option (List ℕ) → BookState
 begun_book p base origin = record {
-  seen = record { problem = p; origin = origin; events = [] };
+  seen = record { problem = p; start = cuts_start p; origin = origin; events = [] };
   out = fresh origin;
   base = base;
   lines = 0;
   added = 0;
+  failed = false;
+}
+
+-- it goes on there
+abbrev pub resumed_book : Problem → CutsState → ℕ → Option (List ℕ) → BookState
+resumed_book p s base origin = record {
+  seen = record { problem = p; start = s; origin = origin; events = [] };
+  out = fresh origin;
+  base = base;
+  lines = length (earlier_lines base s);
+  added = s.last - base;
   failed = false;
 }
 

@@ -9,6 +9,7 @@ use Rattle.lrat_log.specs.Log.{LogLine, axiom_line, numbered_line}
 use Rattle.lrat_log.specs.Steps.{added_count}
 use Rattle.lrat_read.specs.Words.{WordLine}
 use Rattle.lrat_read.specs.WordTokens.{word_tokens}
+use Rattle.lrat_cuts.specs.Cuts.{CutsState}
 
 pub data Event : Type 0 where
   -- an addition or a deletion
@@ -19,6 +20,8 @@ pub data Event : Type 0 where
 -- what a log has seen
 pub record TraceState : Type 0 where
   pub problem : Problem
+  -- what the checker has before the first line
+  pub start : CutsState
   -- what the writer had at first, if it is known
   pub origin : Option (List ℕ)
   -- the lines so far
@@ -42,6 +45,6 @@ tokens_on base before [] = []
 tokens_on base before (e ∷ es) =
     tokens_at base before e ∷ tokens_on base (before + added_count (lines_in e)) es
 
--- the text of the lines
-abbrev pub text_of : ℕ → List Event → List ℕ
-text_of base es = flat_map spaced (tokens_on base 0 es)
+-- the text of the lines, where so many clauses were added before the first one
+abbrev pub text_of : ℕ → ℕ → List Event → List ℕ
+text_of base before es = flat_map spaced (tokens_on base before es)

@@ -1,9 +1,10 @@
 -- The clauses of the formula that are live, as a log has them.
-use Rattle.std.specs.Prelude.{zero, suc, ◌-◌, Bool, true, false, List, [], ◌∷◌, length}
-use Rattle.std.specs.Prelude.{replicate, None, slice_get, slice_index_or, slice_set}
+use Rattle.std.specs.Prelude.{◌≡◌, ℕ, zero, suc, ◌-◌, Bool, true, false, List, [], ◌∷◌, length}
+use Rattle.std.specs.Prelude.{replicate, Some, None, slice_get, slice_index_or, slice_set}
 use Rattle.std.specs.Prelude.{if◌then◌else◌}
 use Rattle.cnf.specs.Literal.{Literal}
 use Rattle.cnf.specs.Refute.{Clauses}
+use Rattle.lrat_live.specs.Listed.{Listed, listed_at}
 use Rattle.lrat_log.specs.declared.lines.Hint.{Hint}
 use Rattle.lrat_log.specs.declared.lines.Name.{Name}
 use Rattle.lrat_log.specs.declared.lines.Name.TheVariants.{Formula, Added}
@@ -36,3 +37,8 @@ without_names (h ∷ hs) live = without_names hs (without_name (name_of h) live)
 -- the clauses that these name are live no more
 abbrev pub deleted : List Hint → FormulaState → FormulaState
 deleted hs f = record f { live = without_names hs f.live }
+
+-- each clause of the formula that the log has is live for the checker
+abbrev pub AreLive : FormulaState → Listed → Type 0
+AreLive f es =
+    (i : ℕ) (c : List Literal) → formula_at f i ≡ Some c → listed_at es i ≡ Some c

@@ -6,20 +6,20 @@ use Rattle.cnf.specs.Instance.{IsInstance}
 use Rattle.cnf.specs.Literal.{Assignment, Literal}
 use Rattle.cnf.specs.Problem.{IsFeasible, cost_under}
 use Rattle.bound.specs.Weighted.{weighted_cnf}
-use Rattle.lrat_live.specs.Listed.{Listed, listed_at, listed_from}
+use Rattle.lrat_live.specs.Listed.{listed_from}
+use Rattle.text.specs.Pieces.{IsEnded}
 use Rattle.lrat_log.specs.Axioms.{FollowByRup, IsOpenLogOver}
 use Rattle.lrat_log.specs.Log.{LogLine, axiom_line}
 use Rattle.lrat_log.specs.Steps.{StopsAtEmptyClause, added_count, adds_empty_clause, given_of}
 use Rattle.lrat_read.specs.Words.{WordLine, BoundLine}
 use Rattle.lrat_read.specs.WordTokens.{word_tokens}
-use Rattle.lrat_cuts.specs.Cuts.{CutsState, cuts_start, judged_line, judged_lines}
+use Rattle.lrat_cuts.specs.Cuts.{CutsState, judged_line, judged_lines}
 use Rattle.lrat_cuts.specs.Verdict.{judged_text}
 use Rattle.cuts_log.specs.declared.standing.Standing.{Standing}
-use Rattle.cuts_log.specs.Events.{Event, Plain, Word, lines_of, text_of, tokens_at}
-use Rattle.cuts_log.specs.Events.{tokens_on}
-use Rattle.cuts_log.specs.Books.{IsBook}
-use Rattle.cuts_log.specs.Given.{FormulaState, formula_at}
-use Rattle.cuts_log.specs.Logs.{IsKept, LogState, events_of, problem_of}
+use Rattle.cuts_log.specs.Events.{Event, Plain, Word, tokens_at, tokens_on}
+use Rattle.cuts_log.specs.Books.{IsBook, before_of, book_text}
+use Rattle.cuts_log.specs.Given.{AreLive}
+use Rattle.cuts_log.specs.Logs.{IsKept, LogState, all_lines, events_of, problem_of, start_of}
 use Rattle.cuts_log.specs.Stands.{TakesWord, with_line}
 
 -- the checker stands as the log does, with these clauses more
@@ -29,11 +29,6 @@ pub record Follows (old : CutsState) (made : List (List Literal)) (s : Standing)
   pub last : new.last ≡ old.last + length made
   pub forms : new.forms ≡ s.forms
   pub ended : new.ended ≡ s.ended
-
--- each clause of the formula that the log has is live for the checker
-abbrev pub AreLive : FormulaState → Listed → Type 0
-AreLive f es =
-    (i : ℕ) (c : List Literal) → formula_at f i ≡ Some c → listed_at es i ≡ Some c
 
 -- the checker stands as the log does, over a formula with so many clauses
 pub record StandsAs (base : ℕ) (t : CutsState) (s : Standing) : Type 0 where
@@ -74,45 +69,50 @@ WordsAreRight = (k cost : ℕ) → k ≤ cost → (s : CutsState) (old new : Sta
 -- where its additions and deletions are; and then the checker stands as it does
 abbrev pub LogsAreRight : Type 0
 LogsAreRight = (l : LogState) (k : ℕ) → IsKept l → (l.book).failed ≡ false → k ≤ l.cost
-    → ArePlainRight (Some k) (l.book).base 0 (cuts_start (problem_of l)) (events_of l)
-    → (t : CutsState) × (judged_lines (Some k) (cuts_start (problem_of l)) 1
-    (tokens_on (l.book).base 0 (events_of l)) ≡ Ok t)
+    → ArePlainRight (Some k) (l.book).base (before_of l.book) (start_of l) (events_of l)
+    → (t : CutsState) × (judged_lines (Some k) (start_of l) 1
+    (tokens_on (l.book).base (before_of l.book) (events_of l)) ≡ Ok t)
     × (t.forms ≡ (l.standing).forms) × (t.ended ≡ (l.standing).ended)
 
 -- so is one whose lines are steps apart from clauses from outside, and follow by their hints alone
 abbrev pub StepsAreRight : Type 0
 StepsAreRight = (l : LogState) (k : ℕ) → IsKept l → IsBook l.book → (l.book).failed ≡ false
     → k ≤ l.cost
-    → IsOpenLogOver (given_of (weighted_cnf (problem_of l)).clauses) (lines_of (events_of l))
+    → IsOpenLogOver (given_of (weighted_cnf (problem_of l)).clauses) (all_lines l)
     → FollowByRup (given_of (weighted_cnf (problem_of l)).clauses) (l.book).base []
-    (lines_of (events_of l))
-    → (t : CutsState) × (judged_lines (Some k) (cuts_start (problem_of l)) 1
-    (tokens_on (l.book).base 0 (events_of l)) ≡ Ok t)
+    (all_lines l)
+    → (t : CutsState) × (judged_lines (Some k) (start_of l) 1
+    (tokens_on (l.book).base (before_of l.book) (events_of l)) ≡ Ok t)
     × (t.forms ≡ (l.standing).forms) × (t.ended ≡ (l.standing).ended)
 
 -- one whose lines stop at the empty clause, and have one, has ended
 abbrev pub LogsEnd : Type 0
 LogsEnd = (l : LogState) → IsKept l → IsBook l.book → (l.book).failed ≡ false
-    → StopsAtEmptyClause (lines_of (events_of l))
-    → list_any adds_empty_clause (lines_of (events_of l)) ≡ true → (l.standing).ended ≡ true
+    → StopsAtEmptyClause (all_lines l)
+    → list_any adds_empty_clause (all_lines l) ≡ true → (l.standing).ended ≡ true
 
--- the text of one whose lines are steps, and follow, is judged right
+-- a text that leads the checker to the start of the log, whatever its cuts hold for
+pub record IsBefore (l : LogState) (text : List ℕ) : Type 0 where
+  pub judged : judged_text None (problem_of l) text ≡ Ok (start_of l)
+  pub ended : IsEnded text
+
+-- the text of one whose lines are steps, and follow, is judged right behind such a text
 abbrev pub TextsAreRight : Type 0
-TextsAreRight = (l : LogState) (k : ℕ) → IsKept l → IsBook l.book → (l.book).failed ≡ false
-    → k ≤ l.cost
-    → IsOpenLogOver (given_of (weighted_cnf (problem_of l)).clauses) (lines_of (events_of l))
+TextsAreRight = (l : LogState) (k : ℕ) (before : List ℕ) → IsKept l → IsBook l.book
+    → (l.book).failed ≡ false → k ≤ l.cost → IsBefore l before
+    → IsOpenLogOver (given_of (weighted_cnf (problem_of l)).clauses) (all_lines l)
     → FollowByRup (given_of (weighted_cnf (problem_of l)).clauses) (l.book).base []
-    (lines_of (events_of l))
+    (all_lines l)
     → (t : CutsState)
-    × (judged_text (Some k) (problem_of l) (text_of (l.book).base (events_of l)) ≡ Ok t)
+    × (judged_text (Some k) (problem_of l) (before ++ book_text l.book) ≡ Ok t)
     × (t.ended ≡ (l.standing).ended)
 
 -- where it has ended, nothing costs less than its cuts hold for
 abbrev pub NothingIsCheaper : Type 0
 NothingIsCheaper = (l : LogState) → IsKept l → IsBook l.book → (l.book).failed ≡ false
-    → IsOpenLogOver (given_of (weighted_cnf (problem_of l)).clauses) (lines_of (events_of l))
+    → IsOpenLogOver (given_of (weighted_cnf (problem_of l)).clauses) (all_lines l)
     → FollowByRup (given_of (weighted_cnf (problem_of l)).clauses) (l.book).base []
-    (lines_of (events_of l))
+    (all_lines l)
     → (l.standing).ended ≡ true → IsInstance (problem_of l)
     → (u : Assignment) → IsFeasible (problem_of l) u → l.cost ≤ cost_under (problem_of l) u
 
@@ -127,10 +127,11 @@ IsProvedEvent cost proved (Word w made) = IsProvedWord cost proved w
 
 -- the text is judged right for no cost, too, and proves each lower bound that it tells
 abbrev pub BoundsAreProved : Type 0
-BoundsAreProved = (l : LogState) → IsKept l → IsBook l.book → (l.book).failed ≡ false
-    → IsOpenLogOver (given_of (weighted_cnf (problem_of l)).clauses) (lines_of (events_of l))
+BoundsAreProved = (l : LogState) (before : List ℕ) → IsKept l → IsBook l.book
+    → (l.book).failed ≡ false → IsBefore l before
+    → IsOpenLogOver (given_of (weighted_cnf (problem_of l)).clauses) (all_lines l)
     → FollowByRup (given_of (weighted_cnf (problem_of l)).clauses) (l.book).base []
-    (lines_of (events_of l))
+    (all_lines l)
     → (t : CutsState)
-    × (judged_text None (problem_of l) (text_of (l.book).base (events_of l)) ≡ Ok t)
+    × (judged_text None (problem_of l) (before ++ book_text l.book) ≡ Ok t)
     × (t.ended ≡ (l.standing).ended) × AllByRecursion (IsProvedEvent l.cost t.proved) (events_of l)

@@ -2,6 +2,7 @@ pub mod Events
 pub mod Outs
 pub mod Facts
 pub mod Given
+pub mod Starts
 pub mod Stands
 pub mod Made
 pub mod Books

@@ -16,7 +16,7 @@ use Rattle.cuts_log.specs.declared.standing.Standing.{Standing}
 use Rattle.cuts_log.specs.Events.{Event, Plain, Word}
 use Rattle.cuts_log.specs.Given.{all_live, deleted, formula_at}
 use Rattle.lrat_log.specs.declared.lines.Hint.{Hint}
-use Rattle.lrat_cuts.specs.Cuts.{fact_of}
+use Rattle.lrat_cuts.specs.Cuts.{CutsState, fact_of}
 
 -- a clause is live
 abbrev pub with_clause : List Literal → Standing → Standing
@@ -78,3 +78,8 @@ stand_of p =
       formula = all_live (weighted_cnf p).clauses;
     } in
     record (with_clauses (weighted_cnf p).clauses blank) { ended = false }
+
+-- before the first line of a log that starts there
+abbrev pub stand_at : Problem → CutsState → Standing
+stand_at p s =
+    record { forms = s.forms; ended = false; formula = all_live (weighted_cnf p).clauses }

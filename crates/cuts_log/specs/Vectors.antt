@@ -30,7 +30,7 @@ abbrev events : List Event
 events = Word (FormLine (Some 1) []) [] ∷ Word (CutLine (n 2 ∷ [])) ((n 2 ∷ []) ∷ []) ∷ learned
     ∷ gone ∷ Word (BoundLine 3) [] ∷ Word (CutLine []) ([] ∷ []) ∷ []
 
-text : text_of 1 events
+text : text_of 1 0 events
     ≡ flat_map row (codes "form 1 0" ∷ codes "cut -2 0" ∷ codes "3 1 0 2 1 0" ∷ codes "3 d 2 0"
     ∷ codes "bound 3 0" ∷ codes "cut 0" ∷ [])
 unfolding digits
@@ -41,13 +41,13 @@ seen : length (lines_of events) ≡ 4
 seen = refl
 
 -- a count of two with one output makes two clauses
-behind : text_of 1 (Word (CountLine 1 (p 1 ∷ p 2 ∷ [])) ((n 1 ∷ p 3 ∷ []) ∷ (n 2 ∷ p 3 ∷ []) ∷ [])
+behind : text_of 1 0 (Word (CountLine 1 (p 1 ∷ p 2 ∷ [])) ((n 1 ∷ p 3 ∷ []) ∷ (n 2 ∷ p 3 ∷ []) ∷ [])
     ∷ Plain (record { kind = UnitKind; clause = p 3 ∷ []; hints = PlainHint (Added 2) ∷ [] }) ∷ [])
     ≡ flat_map row (codes "count 1 1 2 0" ∷ codes "4 3 0 3 0" ∷ [])
 unfolding digits
 behind = refl
 
-grouped : text_of 3 (Word (GroupLine (n 1 ∷ p 2 ∷ []) (3 ∷ [])) [] ∷ [])
+grouped : text_of 3 0 (Word (GroupLine (n 1 ∷ p 2 ∷ []) (3 ∷ [])) [] ∷ [])
     ≡ row (codes "group -1 2 0 3 0")
 unfolding digits
 grouped = refl

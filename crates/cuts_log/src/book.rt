@@ -4,12 +4,15 @@ ghost use Rattle.std.specs.Prelude.{IfOk, OnErr};
 ghost use Rattle.lrat_log.specs.declared.log.TheConstants.{LINE_LIMIT};
 ghost use Rattle.cuts_log.specs.Events.{lines_in};
 ghost use Rattle.cuts_log.specs.Books.{FailsAt, FailsToFlush, Flushed, IsBook, Notes};
-ghost use Rattle.cuts_log.specs.Books.{begun_book, failed_book};
+ghost use Rattle.cuts_log.specs.Books.{begun_book, failed_book, resumed_book};
+ghost use Rattle.cuts_log.specs.Starts.{earlier_lines};
+ghost use Rattle.bound.specs.Weighted.{weighted_cnf};
 
-use crate::events::{Beginning, Happens, Next};
+use crate::events::{Beginning, Happens, Next, Resuming};
 use crate::out::Out;
 use crate::trace::{Trace, seen};
 use cnf::types::Instance;
+use lrat_cuts::machine::CutsMachine;
 use lrat_log::log::LINE_LIMIT;
 use std::alloc::AllocError;
 use std::io::Write;
@@ -22,7 +25,8 @@ pub(crate) struct Book<W: Write> {
     out: Out<W>,
     // How many clauses the formula has, below 2^61: the ids of additions follow it.
     base: u64,
-    // How many lines the search sees, below 2^61: a clause that a word makes is one of them.
+    // How many lines the search sees, below 2^61: a clause that a word makes is one of them, and so
+    // is each that stands for what was written before.
     lines: usize,
     // How many of them add a clause.
     added: u64,
@@ -34,8 +38,12 @@ pub(crate) struct Book<W: Write> {
 
 impl<W: Write> Model for Book<W> {
     ghost use Rattle.cuts_log.specs.Books.{BookState, IsBook};
+    ghost use Rattle.std.specs.Coded.{codes};
+    ghost use Rattle.totalizer.specs.TreeCode.{tree_code};
 
     ghost Value = { BookState };
+
+    ghost coded = { Prim.hlevel (codes, tree_code) };
 
     ghost view = { λ b. record {
       seen = b.trace.state;
@@ -63,6 +71,7 @@ impl<W: Write + Drop> Book<W> {
     ///
     /// `AllocError` where they are 2^61 or more.
     pub(crate) fn new(instance: &Instance, base: usize, writer: W) -> Result<Self, AllocError>
+        requires base { base ≡ length (weighted_cnf instance.now).clauses }
         ensures { IfOk result (λ b. b ≡ begun_book instance.now base (W.contents writer)) }
     {
         if base >= LINE_LIMIT {
@@ -77,6 +86,43 @@ impl<W: Write + Drop> Book<W> {
             base: base as u64,
             lines: 0,
             added: 0,
+            failed: false,
+            trace,
+        })
+    }
+
+    /// It goes on with what the checker has judged, over a formula with so many clauses. So many
+    /// lines stand for that.
+    ///
+    /// # Errors
+    ///
+    /// `AllocError` where the clauses or the lines are 2^61 or more.
+    pub(crate) fn resume(
+        instance: &Instance,
+        machine: &CutsMachine,
+        base: usize,
+        lines: usize,
+        writer: W,
+    ) -> Result<Self, AllocError>
+        requires last { base ≤ machine.now.state.last }
+        requires lines { lines ≡ length (earlier_lines base machine.now.state) }
+        ensures { IfOk result (λ b. b
+            ≡ resumed_book instance.now machine.now.state base (W.contents writer)) }
+    {
+        if base >= LINE_LIMIT || lines >= LINE_LIMIT {
+            return Err(AllocError);
+        }
+        let trace = seen(&Resuming {
+            instance,
+            machine,
+            writer: &writer,
+        });
+        let base = base as u64;
+        Ok(Book {
+            out: Out::new(writer),
+            base,
+            lines,
+            added: machine.last() - base,
             failed: false,
             trace,
         })

@@ -4,6 +4,7 @@ ghost use Rattle.text.specs.Writing.{spaced};
 ghost use Rattle.lrat_log.specs.declared.log.TheConstants.{LINE_LIMIT};
 ghost use Rattle.lrat_log.specs.Steps.{added_count};
 ghost use Rattle.cuts_log.specs.Outs.{Says};
+ghost use Rattle.lrat_cuts.specs.Cuts.{cuts_start};
 ghost use Rattle.cuts_log.specs.Events.{Event, TraceState, lines_in, tokens_at};
 
 use crate::out::Out;
@@ -12,6 +13,7 @@ use crate::trace::{Shows, Trace};
 use cnf::clause_list::ClauseList;
 use cnf::types::{Instance, Lit};
 use forms::types::NamedFact;
+use lrat_cuts::machine::CutsMachine;
 use lrat_log::lines::{Hint, Kind};
 use std::io::Write;
 
@@ -47,7 +49,28 @@ pub(crate) struct Beginning<'a, W: Write> {
 impl<'a, W: Write> Shows for Beginning<'a, W> {
     ghost shown = { λ b. record {
       problem = b.instance.now;
+      start = cuts_start b.instance.now;
       origin = W.contents b.writer.now;
+      events = [];
+    } };
+}
+
+/// A log goes on with what a checker has judged.
+#[derive(Drop)]
+pub(crate) struct Resuming<'a, W: Write> {
+    /// What it is about.
+    pub(crate) instance: &'a Instance,
+    /// The checker, behind what it has judged.
+    pub(crate) machine: &'a CutsMachine,
+    /// Where it goes.
+    pub(crate) writer: &'a W,
+}
+
+impl<'a, W: Write> Shows for Resuming<'a, W> {
+    ghost shown = { λ r. record {
+      problem = r.instance.now;
+      start = (r.machine.now).state;
+      origin = W.contents r.writer.now;
       events = [];
     } };
 }

@@ -3,6 +3,7 @@
 #![tactic(auto)]
 
 mod book;
+mod earlier;
 mod events;
 mod given;
 pub mod law;

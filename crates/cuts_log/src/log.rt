@@ -7,8 +7,12 @@ ghost use Rattle.std.specs.Prelude.{◌≡◌, ◌≤◌, ◌∷◌, ◌++◌, t
 ghost use Rattle.std.specs.Prelude.{None, OnErr, Some};
 ghost use Rattle.lrat_log.specs.Log.{IsLine, axiom_line, is_axiom};
 ghost use Rattle.lrat_log.specs.Axioms.{IsNewClause};
+ghost use Rattle.std.specs.Prelude.{IfSome};
+ghost use Rattle.cuts_log.specs.Logs.{GoesOn};
+ghost use Rattle.cuts_log.specs.Starts.{IsReached, IsResumable};
 
 use crate::book::Book;
+use crate::earlier::{are_live, count_lines};
 use crate::events::{BoundLine, CountLine, CutLine, FormLine, GroupLine, MoreLine, PlainLine};
 use crate::given::FormulaClauses;
 use crate::standing::Standing;
@@ -18,7 +22,9 @@ use cnf::limits::NUMBER_LIMIT;
 use cnf::types::{Instance, Lit};
 use forms::state::Forms;
 use forms::types::NamedFact;
+use lrat_cuts::machine::CutsMachine;
 use lrat_log::lines::{Hint, Kind};
+use lrat_log::log::LINE_LIMIT;
 use lrat_log::sink::Sink;
 use std::alloc::AllocError;
 use std::io::Write;
@@ -57,7 +63,7 @@ impl<W: Write> Model for CutsLog<W> {
 
 impl<W: Write + Drop> CutsLog<W> {
     ghost use Rattle.cuts_log.specs.Books.{IsBook};
-    ghost use Rattle.cuts_log.specs.Logs.{HasBegun, IsKept, SameLog, lines_seen};
+    ghost use Rattle.cuts_log.specs.Logs.{HasBegun, HasResumed, IsKept, SameLog, lines_seen};
 
     /// A log over the clauses of the instance and of its relaxation. Cuts have to hold in all
     /// solutions, until there is one.
@@ -87,6 +93,39 @@ impl<W: Write + Drop> CutsLog<W> {
             standing,
             cost: NUMBER_LIMIT,
         })
+    }
+
+    /// A log that goes on with what a checker has judged, for a writer that puts its lines behind
+    /// that. Cuts have to hold in the solutions for which those before hold. None where no line can
+    /// follow, where a cut holds for no cost, or where a clause of the formula is live no more.
+    ///
+    /// # Errors
+    ///
+    /// `AllocError` where memory was refused, or where ids would be 2^61 or more.
+    pub fn resume(
+        instance: &Instance,
+        machine: CutsMachine,
+        writer: W,
+    ) -> Result<Option<Self>, AllocError>
+        requires reached { IsReached instance.now machine.state }
+        ensures { IfOk result (λ found. IfSome found
+            (HasResumed instance.now machine.state (W.contents writer))) }
+    {
+        let begun = go_on(instance, &machine, writer);
+        let cost = machine.worth();
+        let forms = machine.into_forms();
+        let Some((book, formula)) = begun? else {
+            return Ok(None);
+        };
+        Ok(Some(CutsLog {
+            book,
+            standing: Standing {
+                forms,
+                ended: false,
+                formula,
+            },
+            cost,
+        }))
     }
 
     /// Says what holds of each log; it does nothing. `Instance::limits` has the reason.
@@ -393,6 +432,45 @@ impl<W: Write + Drop> CutsLog<W> {
         self.book.note(&PlainLine { kind, lits, hints })?;
         Ok(())
     }
+}
+
+/// The book and the formula of a log that goes on with what the checker has judged, if one can.
+fn go_on<W: Write + Drop>(
+    instance: &Instance,
+    machine: &CutsMachine,
+    writer: W,
+) -> Result<Option<(Book<W>, FormulaClauses)>, AllocError>
+    requires reached { IsReached instance.now machine.now.state }
+    ensures { IfOk result (λ found. IfSome found (λ begun. GoesOn instance.now machine.now.state
+        (W.contents writer) begun.0 begun.1)) }
+{
+    if machine.has_ended() || machine.worth() == 0 {
+        return Ok(None);
+    }
+    let formula = weighted_formula(instance)?;
+    let clauses = formula.into_clauses();
+    let Some(lines) = resumable(machine, &clauses)? else {
+        return Ok(None);
+    };
+    let book = Book::resume(instance, machine, clauses.len(), lines, writer)?;
+    let formula = FormulaClauses::all_live(clauses)?;
+    Ok(Some((book, formula)))
+}
+
+/// How many lines stand for what the checker has judged, if a log can go on with it.
+fn resumable(machine: &CutsMachine, clauses: &ClauseList) -> Result<Option<usize>, AllocError>
+    ensures { IfOk result (λ found. IfSome found
+        (IsResumable machine.now.state clauses.now)) }
+{
+    let base = clauses.len();
+    let last = machine.last();
+    if last >= LINE_LIMIT as u64 {
+        return Err(AllocError);
+    }
+    if base as u64 > last || !are_live(machine, clauses) {
+        return Ok(None);
+    }
+    Ok(count_lines(machine, base as u64))
 }
 
 /// Whether lines of this kind bring a clause from outside.

@@ -1,6 +1,8 @@
 // What only proofs know of a log: which lines it has. A log that is written keeps none of them.
 ghost use Rattle.std.specs.Prelude.{◌≡◌};
 ghost use base.Fml.{ftrue};
+ghost use Rattle.std.specs.Coded.{codes};
+ghost use Rattle.totalizer.specs.TreeCode.{tree_code};
 ghost use Rattle.cuts_log.specs.Events.{TraceState};
 
 use std::marker::{Model, PhantomData};
@@ -11,7 +13,7 @@ pub(crate) struct Trace {
     // It stands for a state that is kept nowhere.
     mark: PhantomData<u8>,
     // The instance, what the writer had at first, and the lines so far.
-    ghost state: { TraceState },
+    ghost state: { TraceState } by { Prim.hlevel (codes, tree_code) },
 }
 
 impl Model for Trace {

@@ -10,9 +10,10 @@ use Rattle.lrat_log.specs.Log.{LogLine, axiom_line, is_delete}
 use Rattle.lrat_log.specs.Steps.{adds_empty_clause}
 use Rattle.cuts_log.specs.declared.standing.Standing.{Standing}
 use Rattle.cuts_log.specs.Events.{Event, Plain, Word, lines_of}
-use Rattle.cuts_log.specs.Logs.{IsKept, LogState, events_of, problem_of}
-use Rattle.cuts_log.specs.Stands.{TakesAll, stand_of, with_clause, with_clauses, with_line}
+use Rattle.cuts_log.specs.Logs.{IsKept, LogState, all_lines, events_of, problem_of, start_of}
+use Rattle.cuts_log.specs.Stands.{TakesAll, stand_at, with_clause, with_clauses, with_line}
 use Rattle.cuts_log.specs.Stands.{without}
+use Rattle.cuts_log.specs.Starts.{earlier_lines}
 
 -- an addition or a deletion
 line_open : (l : LogLine) (s : Standing) → adds_empty_clause l ≡ false → s.ended ≡ false
@@ -58,7 +59,13 @@ lines_open cost (Word w made ∷ es) s new t none going =
     ∙ made_open made (record s { forms = t.1.middle }) parts.0 going)
 
 pub still_open : (l : LogState) → IsKept l → (l.book).failed ≡ false
-    → list_any adds_empty_clause (lines_of (events_of l)) ≡ false → (l.standing).ended ≡ false
+    → list_any adds_empty_clause (all_lines l) ≡ false → (l.standing).ended ≡ false
 still_open l h works none =
+    let own = lines_of (events_of l) in
+    let before = earlier_lines (l.book).base (start_of l) in
+    let parts =
+    or_parts (list_any adds_empty_clause before) (list_any adds_empty_clause own)
+    (sym (list_any-append adds_empty_clause before own) ∙ none) in
     ap (λ (x : Standing). x.ended) (h.standing works)
-    ∙ lines_open l.cost (events_of l) (stand_of (problem_of l)) h.left h.taken none refl
+    ∙ lines_open l.cost (events_of l) (stand_at (problem_of l) (start_of l)) h.left h.taken parts.1
+    refl

@@ -3,3 +3,4 @@ mod Working
 mod Ended
 mod Written
 mod Searching
+mod Skipping

@@ -1,6 +1,7 @@
 -- A solver and its log go on together.
-use Rattle.std.proofs.Common.{◌≡◌, ℕ, ◌≤◌, true, false, List, [], ◌∷◌, ◌++◌}
-use Rattle.std.proofs.Common.{Option, length, map, take, refl, sym, ◌∙◌, ap, subst}
+use Rattle.std.proofs.Common.{◌≡◌, ℕ, ◌-◌, ◌≤◌, true, false, List, [], ◌∷◌, ◌++◌}
+use Rattle.std.proofs.Common.{Option, length, map, take, refl, sym, ◌∙◌, ap, subst, append-nil, arith}
+use Rattle.std.proofs.lemmas.List.{take_all}
 use Rattle.std.proofs.lemmas.Bool.{false≢true, true≢false}
 use Rattle.cnf.specs.Literal.{Assignment, Literal}
 use Rattle.cnf.specs.Problem.{IsFeasible, Problem, cost_under}
@@ -13,11 +14,13 @@ use Rattle.lrat_log.proofs.Laws.{follow_append}
 use Rattle.cdcl.proofs.Laws.{not_refuted}
 use Rattle.cdcl_search.specs.declared.search.Search.{Search}
 use Rattle.cdcl_search.specs.Running.{IsInput, KeepsRunning, Runs}
-use Rattle.cuts_log.specs.Books.{BookState}
-use Rattle.cuts_log.specs.Events.{lines_of}
-use Rattle.cuts_log.specs.Logs.{Brings, HasBegun, LogState, SameLog, lines_seen}
+use Rattle.lrat_cuts.specs.Cuts.{CutsState}
+use Rattle.cuts_log.specs.Books.{BookState, log_lines}
+use Rattle.cuts_log.specs.Logs.{Brings, HasBegun, HasResumed, LogState, SameLog, lines_seen}
+use Rattle.cuts_log.specs.Starts.{added_at, earlier_lines}
 use Rattle.cuts_solver.specs.Solving.{IsSolver, IsWorking, SolverState, base_of}
 use Rattle.cuts_solver.specs.Solving.{instance_of}
+use Rattle.cuts_solver.proofs.Skipping.{earlier_follow}
 
 -- Logs.
 
@@ -36,7 +39,7 @@ follow_axioms given base ls cs h =
     follow_append given base [] ls (map axiom_line cs) h (axioms_follow given base ls cs)
 
 pub same_log : (l : LogState) → SameLog l l
-same_log l = record { problem = refl; origin = refl; cost = refl }
+same_log l = record { problem = refl; start = refl; origin = refl; cost = refl }
 
 -- Solvers.
 
@@ -62,7 +65,7 @@ pub begun : (s : SolverState) (p : Problem) (origin : Option (List ℕ)) → Has
 begun s p origin h fine input given variables runs going =
     let is : instance_of s ≡ p = ap (λ (b : BookState). (b.seen).problem) h.book in
     let none : lines_seen s.log ≡ [] =
-    ap (λ (b : BookState). take b.lines (lines_of (b.seen).events)) h.book in
+    ap (λ (b : BookState). take b.lines (log_lines b)) h.book in
     record {
       instance = subst IsInstance (sym is) fine;
       input = input;
@@ -73,6 +76,34 @@ begun s p origin h fine input given variables runs going =
           λ _. goes_on s (ap (λ (b : BookState). b.failed) h.book) going
           (subst (Runs s.search s.input) (sym none) runs)
           (subst (FollowByRup (s.input).given (base_of s) []) (sym none) tt);
+    }
+
+-- behind what was judged before
+pub resumed : (s : SolverState) (p : Problem) (t : CutsState) (origin : Option (List ℕ))
+    → HasResumed p t origin s.log → IsInstance p → IsInput s.input
+    → (s.input).given ≡ given_of (weighted_cnf p).clauses
+    → length ((s.input).frozen).items ≡ (weighted_cnf p).variables
+    → Runs s.search s.input (earlier_lines (length (weighted_cnf p).clauses) t)
+    → s.refuted ≡ false → IsSolver s
+resumed s p t origin h fine input given variables runs going =
+    let n = length (weighted_cnf p).clauses in
+    let before = earlier_lines n t in
+    let is : instance_of s ≡ p = ap (λ (b : BookState). (b.seen).problem) h.book in
+    let seen : lines_seen s.log ≡ before =
+    ap (λ (b : BookState). take b.lines (log_lines b)) h.book
+    ∙ ap (take (length before)) (append-nil before) ∙ take_all (length before) before (omega arith)
+    in
+    record {
+      instance = subst IsInstance (sym is) fine;
+      input = input;
+      given = given ∙ ap (λ q. given_of (weighted_cnf q).clauses) (sym is);
+      variables = variables ∙ ap (λ q. (weighted_cnf q).variables) (sym is);
+      least = λ e. absurd (false≢true (sym going ∙ e));
+      working =
+          λ _. goes_on s (ap (λ (b : BookState). b.failed) h.book) going
+          (subst (Runs s.search s.input) (sym seen) runs)
+          (subst (FollowByRup (s.input).given (base_of s) []) (sym seen)
+          (earlier_follow (s.input).given (base_of s) (added_at n t) (t.last - n)));
     }
 
 -- the instance, the cost and the clauses given stay
@@ -125,6 +156,6 @@ pub moves_solver : (old : SolverState) (n : Search) → IsSolver old → old.fai
 moves_solver old n h works going keeps =
     let w = h.working works in
     stays_solver old (record old { search = n }) h
-    (record { problem = refl; origin = refl; cost = refl }) refl refl
+    (record { problem = refl; start = refl; origin = refl; cost = refl }) refl refl
     (λ _. goes_on (record old { search = n }) w.works going
     (keeps old.input (lines_seen old.log) (w.runs going)) w.follows)

@@ -1,6 +1,6 @@
 -- What a log that works has written.
 use Rattle.std.proofs.Common.{◌≡◌, ℕ, ◌≤◌, Bool, true, false, List, [], ◌++◌, Option, length}
-use Rattle.std.proofs.Common.{refl, sym, ◌∙◌, ap, subst, arith, append-nil}
+use Rattle.std.proofs.Common.{refl, sym, ◌∙◌, ap, subst, arith, append-nil, None, Ok}
 use Rattle.std.specs.Io.KnownBytes.{Appends}
 use Rattle.std.proofs.lemmas.List.{take_all}
 use Rattle.std.proofs.lemmas.List.Elements.{All-nil}
@@ -14,10 +14,11 @@ use Rattle.lrat_log.specs.Log.{Given}
 use Rattle.lrat_log.specs.Steps.{given_of}
 use Rattle.lrat_log.specs.Axioms.{FollowByRup, IsOpenLogOver, StaysOpenLogOver}
 use Rattle.cdcl_search.specs.Running.{is_refuted}
-use Rattle.cuts_log.specs.Books.{IsBook}
-use Rattle.cuts_log.specs.Events.{lines_of, text_of}
-use Rattle.cuts_log.specs.Judging.{LogsEnd, NothingIsCheaper, TextsAreRight}
-use Rattle.cuts_log.specs.Logs.{IsKept, LogState, SameLog, events_of, lines_seen, problem_of}
+use Rattle.lrat_cuts.specs.Verdict.{judged_text}
+use Rattle.cuts_log.specs.Books.{IsBook, book_text}
+use Rattle.cuts_log.specs.Judging.{IsBefore, LogsEnd, NothingIsCheaper, TextsAreRight}
+use Rattle.cuts_log.specs.Logs.{IsKept, LogState, SameLog, all_lines, lines_seen, problem_of}
+use Rattle.cuts_log.specs.Logs.{start_of}
 use Rattle.cuts_log.specs.Outs.{OutState, Says, fresh}
 use Rattle.cuts_solver.specs.Solving.{IsLeast, IsRightText, IsSolver, SolverState}
 use Rattle.cuts_solver.specs.Solving.{instance_of}
@@ -43,16 +44,15 @@ begun_whole origin out text said works none =
 
 -- the lines of a log that works are all seen
 all_seen : (l : LogState) → IsBook l.book → (l.book).failed ≡ false
-    → lines_seen l ≡ lines_of (events_of l)
+    → lines_seen l ≡ all_lines l
 all_seen l h works =
-    take_all (l.book).lines (lines_of (events_of l)) (omega (arith, h.lines works))
+    take_all (l.book).lines (all_lines l) (omega (arith, h.lines works))
 
 -- what is known of them over the clauses of the formula
 pub record AreProved (l : LogState) : Type 0 where
-  pub open_log : IsOpenLogOver (given_of (weighted_cnf (problem_of l)).clauses)
-      (lines_of (events_of l))
+  pub open_log : IsOpenLogOver (given_of (weighted_cnf (problem_of l)).clauses) (all_lines l)
   pub follows : FollowByRup (given_of (weighted_cnf (problem_of l)).clauses) (l.book).base []
-      (lines_of (events_of l))
+      (all_lines l)
 
 pub are_proved : (n : ℕ) (given : Given) (l : LogState) → IsKept l → IsBook l.book
     → (l.book).failed ≡ false → given ≡ given_of (weighted_cnf (problem_of l)).clauses
@@ -63,13 +63,13 @@ are_proved n given l kept book works same stays follows =
     let seen = all_seen l book works in
     record {
       open_log =
-          subst (λ g. IsOpenLogOver g (lines_of (events_of l))) same
+          subst (λ g. IsOpenLogOver g (all_lines l)) same
           (subst (IsOpenLogOver given) seen
           (subst (λ g. IsOpenLogOver g (lines_seen l)) (append-nil given)
           (stays [] (All-nil (λ (g : Name × List Literal). greatest_variable g.1 ≤ n)))));
       follows =
-          subst (λ g. FollowByRup g (l.book).base [] (lines_of (events_of l))) same
-          (subst (λ b. FollowByRup given b [] (lines_of (events_of l))) (sym kept.base)
+          subst (λ g. FollowByRup g (l.book).base [] (all_lines l)) same
+          (subst (λ b. FollowByRup given b [] (all_lines l)) (sym kept.base)
           (subst (FollowByRup given (length (weighted_cnf (problem_of l)).clauses) []) seen
           follows));
     }
@@ -79,19 +79,30 @@ ended_is : (l : LogState) (refuted : Bool) → IsKept l → IsBook l.book → (l
     → AreProved l → is_refuted (lines_seen l) ≡ refuted → LogsEnd → (l.standing).ended ≡ refuted
 ended_is l refuted kept book works proved is ends = by refuted refl
   where
-    is_in : is_refuted (lines_of (events_of l)) ≡ refuted
+    is_in : is_refuted (all_lines l) ≡ refuted
     is_in = sym (ap is_refuted (all_seen l book works)) ∙ is
 
     by : (b : Bool) → refuted ≡ b → (l.standing).ended ≡ refuted
     by true e = ends l kept book works (proved.open_log).stops (is_in ∙ e) ∙ sym e
     by false e = still_open l kept works (is_in ∙ e) ∙ sym e
 
+-- what leads to where it starts
+before_same : (old new : LogState) (text : List ℕ) → SameLog old new → IsBefore old text
+    → IsBefore new text
+before_same old new text same b = record {
+  judged =
+      subst (λ q. judged_text None q text ≡ Ok (start_of new)) (sym same.problem)
+      (b.judged ∙ ap Ok (sym same.start));
+  ended = b.ended;
+}
+
 -- the text of such a log is right
 pub right_text : (s : SolverState) (l : LogState) → IsSolver s → s.failed ≡ false → IsKept l
     → IsBook l.book → (l.book).failed ≡ false → SameLog s.log l
     → lines_seen l ≡ lines_seen s.log → LogsEnd → TextsAreRight
-    → IsRightText (instance_of s) (s.log).cost s.refuted (text_of (l.book).base (events_of l))
-right_text s l h on kept book works same lines ends texts =
+    → (before : List ℕ) → IsBefore s.log before
+    → IsRightText (instance_of s) (s.log).cost s.refuted (before ++ book_text l.book)
+right_text s l h on kept book works same lines ends texts before first =
     let w = h.working on in
     let n = length ((s.input).frozen).items in
     let given = (s.input).given in
@@ -103,10 +114,11 @@ right_text s l h on kept book works same lines ends texts =
     (sym same.problem)
     (subst (FollowByRup given (length (weighted_cnf (instance_of s)).clauses) []) (sym lines)
     w.follows)) in
-    let t = texts l l.cost kept book works (omega arith) proved.open_log proved.follows in
+    let t = texts l l.cost before kept book works (omega arith)
+    (before_same s.log l before same first) proved.open_log proved.follows in
     let ended =
     ended_is l s.refuted kept book works proved (ap is_refuted lines ∙ w.refuted_is) ends in
-    let text = text_of (l.book).base (events_of l) in
+    let text = before ++ book_text l.book in
     subst (λ q. IsRightText q (s.log).cost s.refuted text) same.problem
     (subst (λ k. IsRightText (problem_of l) k s.refuted text) same.cost
     (t.0, t.1, t.2 ∙ ended))

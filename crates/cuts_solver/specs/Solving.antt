@@ -1,5 +1,5 @@
 -- The state of a solver that works on a log of forms and cuts, and what its calls leave.
-use Rattle.std.specs.Prelude.{◌≡◌, ℕ, ◌<◌, ◌≤◌, Bool, true, false, List, [], length, Option}
+use Rattle.std.specs.Prelude.{◌≡◌, ℕ, ◌<◌, ◌≤◌, Bool, true, false, List, [], ◌++◌, length, Option}
 use Rattle.std.specs.Prelude.{Some, Ok}
 use Rattle.cnf.specs.Literal.{Literal, Assignment}
 use Rattle.cnf.specs.Bits.{Extends}
@@ -17,7 +17,9 @@ use Rattle.lrat_log.specs.Axioms.{FollowByRup, StaysOpenLogOver}
 use Rattle.lrat_log.specs.Steps.{given_of}
 use Rattle.lrat_cuts.specs.Cuts.{CutsState}
 use Rattle.lrat_cuts.specs.Verdict.{judged_text}
+use Rattle.cuts_log.specs.Judging.{IsBefore}
 use Rattle.cuts_log.specs.Logs.{LogState, SameLog, problem_of, lines_seen}
+use Rattle.cuts_log.specs.Starts.{earlier_lines}
 use Rattle.cdcl.specs.Guiding.{IsStopped, PaysOpen}
 use Rattle.cdcl.specs.Turns.{IsSatisfied}
 use Rattle.cdcl.specs.declared.guided.GuidedEnd.{GuidedEnd}
@@ -64,6 +66,13 @@ pub record IsWorking (s : SolverState) : Type 0 where
   pub refuted_is : is_refuted (lines_seen s.log) ≡ s.refuted
   pub runs : s.refuted ≡ false → Runs s.search s.input (lines_seen s.log)
 
+-- a search goes on with the formula and what has led a checker there
+pub record StartsBehind (p : Problem) (t : CutsState) (s : Search) (i : Input) : Type 0 where
+  pub input : IsInput i
+  pub given : i.given ≡ given_of (weighted_cnf p).clauses
+  pub variables : length (i.frozen).items ≡ (weighted_cnf p).variables
+  pub runs : Runs s i (earlier_lines (length (weighted_cnf p).clauses) t)
+
 -- what holds of each solver
 pub record IsSolver (s : SolverState) : Type 0 where
   pub instance : IsInstance (instance_of s)
@@ -73,7 +82,8 @@ pub record IsSolver (s : SolverState) : Type 0 where
   pub least : s.refuted ≡ true → IsLeast s.log
   pub working : s.failed ≡ false → IsWorking s
 
--- the instance is the same, the writer began with the same bytes, and cuts hold for the same cost
+-- the instance is the same, the log started there, the writer began with the same bytes, and cuts
+-- hold for the same cost
 abbrev pub SameSolver : SolverState → SolverState → Type 0
 SameSolver old new = SameLog old.log new.log
 
@@ -118,10 +128,12 @@ abbrev pub IsRightText : Problem → ℕ → Bool → List ℕ → Type 0
 IsRightText p cost ended text =
     (t : CutsState) × (judged_text (Some cost) p text ≡ Ok t) × (t.ended ≡ ended)
 
--- the writer has all lines, which are right
+-- the writer has all lines, which are right behind each text that leads to where the log starts:
+-- that is behind no text, if it starts before the first line
 abbrev pub HasWritten : SolverState → Option (List ℕ) → Type 0
 HasWritten s now = (text : List ℕ) × Appends (((s.log).book).seen).origin now text
-    × IsRightText (instance_of s) (s.log).cost s.refuted text
+    × ((before : List ℕ) → IsBefore s.log before
+    → IsRightText (instance_of s) (s.log).cost s.refuted (before ++ text))
 
 -- or a beginning of some text
 abbrev pub HasBegunToWrite : SolverState → Option (List ℕ) → Type 0

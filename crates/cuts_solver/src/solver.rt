@@ -21,6 +21,11 @@ ghost use Rattle.cdcl_search.specs.Cores.{IsShown};
 ghost use Rattle.cdcl.specs.Guiding.{IsGuidedEnd, IsStopped, PaysOpen};
 ghost use Rattle.cdcl.specs.Turns.{IsSatisfied};
 ghost use Rattle.cdcl.specs.declared.guided.GuidedEnd.TheVariants.{Refuted};
+ghost use Rattle.lrat_cuts.specs.Cuts.{cuts_start};
+ghost use Rattle.lrat_live.specs.Listed.{listed_at};
+ghost use Rattle.lrat_log.specs.declared.log.TheConstants.{LINE_LIMIT};
+ghost use Rattle.cuts_log.specs.Starts.{IsReached, earlier_lines, lines_for};
+ghost use Rattle.cuts_solver.specs.Solving.{StartsBehind};
 
 use bound::weighted::weighted_formula;
 use cdcl::answers::bits;
@@ -41,10 +46,21 @@ use cuts_log::law::texts_are_right;
 use cuts_log::log::CutsLog;
 use forms::state::Forms;
 use forms::types::NamedFact;
+use lrat_cuts::machine::CutsMachine;
+use lrat_log::log::LINE_LIMIT;
 use lrat_log::sink::Sink;
 use std::alloc::{AllocError, Global};
 use std::io::Write;
 use std::marker::Model;
+
+/// So many ids may come for each line of a certificate that is gone on with,
+const IDS_A_LINE: u64 = 64;
+
+/// and so many for clauses that its counts have made, twice as many as there may be.
+const IDS_OF_COUNTS: u64 = 1 << 23;
+
+/// The clauses of counts have so many literals at most.
+const MOST_COUNTED: usize = 3;
 
 /// How a search ended.
 #[derive(Drop)]
@@ -134,6 +150,7 @@ impl<W: Write> Model for CutsSolver<W> {
 impl<W: Write + Drop> CutsSolver<W> {
     ghost use Rattle.cuts_solver.specs.Solving.{IsLeast, SameSolver, instance_of};
     ghost use Rattle.cuts_solver.specs.Solving.{HasWritten, HasBegunToWrite};
+    ghost use Rattle.cuts_log.specs.Logs.{start_of};
 
     /// The solver of an instance, with `room` variables to count with; it takes 2^20 of them at
     /// most. Cuts have to hold in all solutions, until there is one.
@@ -143,6 +160,7 @@ impl<W: Write + Drop> CutsSolver<W> {
     /// `AllocError` where memory was refused.
     pub fn new(instance: &Instance, room: u32, writer: W) -> Result<Self, AllocError>
         ensures problem { IfOk result (λ s. instance_of s ≡ instance.now) }
+        ensures start { IfOk result (λ s. start_of s.log ≡ cuts_start instance.now) }
         ensures origin { IfOk result (λ s. ((s.log.book).seen).origin ≡ W.contents writer) }
         ensures cost { IfOk result (λ s. (s.log).cost ≡ NUMBER_LIMIT) }
         ensures works { IfOk result (λ s. (s.refuted ≡ false) × (s.failed ≡ false)) }
@@ -160,6 +178,75 @@ impl<W: Write + Drop> CutsSolver<W> {
             refuted: false,
             failed: false,
         })
+    }
+
+    /// The solver of an instance that goes on with what a checker has judged, for a writer that puts
+    /// its lines behind that; its room is that of `new`. Cuts have to hold in the solutions for
+    /// which those before hold. None where `CutsLog::resume` answers that, where a live clause has
+    /// no literals, one variable twice, or one for which there is no room, and where ids leap far
+    /// ahead of the lines: an id costs a look, whether a clause has it or not.
+    ///
+    /// # Errors
+    ///
+    /// `AllocError` where memory was refused, or where ids would be 2^61 or more.
+    pub fn resume(
+        instance: &Instance,
+        machine: CutsMachine,
+        room: u32,
+        writer: W,
+    ) -> Result<Option<Self>, AllocError>
+        requires reached { IsReached instance.now machine.state }
+        ensures problem { IfOk result (λ found. IfSome found
+            (λ s. instance_of s ≡ instance.now)) }
+        ensures start { IfOk result (λ found. IfSome found (λ s. start_of s.log ≡ machine.state)) }
+        ensures origin { IfOk result (λ found. IfSome found
+            (λ s. ((s.log.book).seen).origin ≡ W.contents writer)) }
+        ensures cost { IfOk result (λ found. IfSome found
+            (λ s. (s.log).cost ≡ machine.state.worth)) }
+        ensures works { IfOk result (λ found. IfSome found
+            (λ s. (s.refuted ≡ false) × (s.failed ≡ false))) }
+    {
+        instance.limits();
+        let alloc = instance.allocator();
+        if has_leaps(instance, &machine) {
+            drop(machine);
+            drop(writer);
+            return Ok(None);
+        }
+        let begun = start_behind(instance, &machine, room);
+        let resumed = CutsLog::resume(instance, machine, writer);
+        // By a call where one is dropped: that is proved once, and not field by field here.
+        let log = match resumed {
+            Ok(Some(log)) => log,
+            Ok(None) => {
+                drop(begun);
+                return Ok(None);
+            }
+            Err(AllocError) => {
+                drop(begun);
+                return Err(AllocError);
+            }
+        };
+        let (search, input) = match begun {
+            Ok(Some(pair)) => pair,
+            Ok(None) => {
+                drop(log);
+                return Ok(None);
+            }
+            Err(AllocError) => {
+                drop(log);
+                return Err(AllocError);
+            }
+        };
+        Ok(Some(CutsSolver {
+            search,
+            input,
+            log,
+            made: ClauseList::new(alloc),
+            marks: Marks::empty(alloc),
+            refuted: false,
+            failed: false,
+        }))
     }
 
     /// Says what holds of each solver; it does nothing. `Instance::limits` has the reason.
@@ -291,6 +378,126 @@ impl<W: Write + Drop> CutsSolver<W> {
     fn has_room(&self, more: u64) -> bool {
         (self.log.forms().variables() as u64).saturating_add(more) <= self.last() as u64
     }
+}
+
+/// Whether ids leap far ahead of the lines that the checker has judged.
+fn has_leaps(instance: &Instance, machine: &CutsMachine) -> bool {
+    let clauses = instance.hard().len().saturating_add(instance.soft().len()) as u64;
+    let lines = machine.lines().saturating_mul(IDS_A_LINE);
+    machine.last() > clauses.saturating_add(lines).saturating_add(IDS_OF_COUNTS)
+}
+
+/// A search over the weighted formula of an instance and all else that is live for a checker, with
+/// its input. None where a clause cannot come to the engine.
+fn start_behind(
+    instance: &Instance,
+    machine: &CutsMachine,
+    room: u32,
+) -> Result<Option<(Search, Input)>, AllocError>
+    ensures { IfOk result (λ found. IfSome found
+        (λ begun. StartsBehind instance.now machine.now.state begun.0 begun.1)) }
+{
+    let formula = weighted_formula(instance)?;
+    let base = formula.clauses().len() as u64;
+    let (mut search, input) = start_whole(formula, room.min(MOST_ROOM))?;
+    match take_earlier(&mut search, &input, machine, base) {
+        Ok(true) => Ok(Some((search, input))),
+        Ok(false) => {
+            drop(search);
+            drop(input);
+            Ok(None)
+        }
+        Err(AllocError) => {
+            drop(search);
+            drop(input);
+            Err(AllocError)
+        }
+    }
+}
+
+/// Clauses that are live come to the engine under the names that they have in the log, where those
+/// of the formula are. Answers whether all could come; else the search is of no use.
+fn take_earlier(
+    search: &mut Search,
+    input: &Input,
+    machine: &CutsMachine,
+    base: u64,
+) -> Result<bool, AllocError>
+    requires runs { Runs search.old input.now [] }
+    ensures { IfOk result (λ taken. taken ≡ true
+        → Runs search.new input.now (earlier_lines base machine.now.state)) }
+{
+    let last = machine.last();
+    if last < base || last >= LINE_LIMIT as u64 {
+        return Ok(false);
+    }
+    let mut marks = Marks::empty(search.store.allocator());
+    for number in 0..last - base {
+        if !take_addition(search, input, machine, &mut marks, base + number + 1)? {
+            return Ok(false);
+        }
+    }
+    Ok(true)
+}
+
+/// The addition with an id comes to the engine, if it may.
+fn take_addition(
+    search: &mut Search,
+    input: &Input,
+    machine: &CutsMachine,
+    marks: &mut Marks,
+    id: u64,
+) -> Result<bool, AllocError>
+    requires runs { (ls : List LogLine) × Runs search.old input.now ls }
+    requires few { search.old.additions + 1 < LINE_LIMIT }
+    ensures takes { IfOk result (λ taken. taken ≡ true → (ls : List LogLine)
+        → Runs search.old input.now ls → Runs search.new input.now
+        (ls ++ lines_for (listed_at machine.now.state.live id) (search.old.additions + 1))) }
+    ensures additions { IfOk result (λ taken. taken ≡ true
+        → search.new.additions ≡ search.old.additions + 1) }
+{
+    match machine.find(id) {
+        Some(lits) => take_live(search, input, marks, lits),
+        None => {
+            skip(search);
+            Ok(true)
+        }
+    }
+}
+
+/// A live clause comes to the engine, if it may. The policy may delete it later, unless it is as
+/// short as those of counts are.
+fn take_live(
+    search: &mut Search,
+    input: &Input,
+    marks: &mut Marks,
+    lits: &[Lit],
+) -> Result<bool, AllocError>
+    requires runs { (ls : List LogLine) × Runs search.old input.now ls }
+    requires few { search.old.additions + 1 < LINE_LIMIT }
+    ensures takes { IfOk result (λ taken. taken ≡ true → (ls : List LogLine)
+        → Runs search.old input.now ls → Runs search.new input.now (ls ++ axiom_line lits.now ∷ [])) }
+    ensures additions { IfOk result (λ taken. taken ≡ true
+        → search.new.additions ≡ search.old.additions + 1) }
+{
+    let variables = search.engine.variables();
+    make_room(marks, variables)?;
+    if lits.is_empty() || !are_apart(marks, variables, lits) {
+        return Ok(false);
+    }
+    let lbd = (lits.len() > MOST_COUNTED).then_some(lits.len().min(u32::MAX as usize) as u32);
+    take_axiom(search, lits, lbd)?;
+    Ok(true)
+}
+
+/// An addition came and went.
+fn skip(search: &mut Search)
+    requires few { search.old.additions + 1 < LINE_LIMIT }
+    ensures skips { (p : Input) (ls : List LogLine) → Runs search.old p ls
+        → Runs search.new p (ls ++ lines_for None (search.old.additions + 1)) }
+    ensures additions { search.new.additions ≡ search.old.additions + 1 }
+{
+    search.additions += 1;
 }
 
 /// Writes what was put out and not written, and answers whether nothing has failed.

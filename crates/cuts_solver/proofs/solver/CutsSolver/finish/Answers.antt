@@ -1,7 +1,7 @@
 use Rattle.std.proofs.Common.{subst, sym}
 use Rattle.std.specs.Io.KnownBytes.{Appends}
 use Rattle.text.specs.Writing.{AppendsPart}
-use Rattle.cuts_log.specs.Events.{text_of}
+use Rattle.cuts_log.specs.Books.{book_text}
 use Rattle.cuts_solver.specs.Solving.{HasBegunToWrite, HasWritten, SolverState}
 use Rattle.cuts_solver.proofs.Written.{begun_part, begun_whole, right_text}
 use Rattle.cuts_solver.proofs.solver.CutsSolver.finish.Goals as goal
@@ -19,7 +19,7 @@ returns-clause-whole g c = λ whole.
     let l = c.flush_all-is_whole.new.log in
     let b = l.book in
     let works = e.works whole in
-    let text = text_of b.base b.seen.events in
+    let text = book_text b in
     subst (λ x. HasWritten x (g.W.Write.contents c.into_writer.result)) c.self.view_is (
       text,
       subst (λ h. Appends (((s.log).book).seen).origin h text) (sym c.into_writer.ensures)
@@ -41,7 +41,7 @@ returns-clause-part g c =
     } in
     let e = c.flush_all-is_whole.ensures in
     let b = c.flush_all-is_whole.new.log.book in
-    let text = text_of b.base b.seen.events in
+    let text = book_text b in
     subst (λ x. HasBegunToWrite x (g.W.Write.contents c.into_writer.result)) c.self.view_is (
       text,
       subst (λ h. AppendsPart (((s.log).book).seen).origin h text) (sym c.into_writer.ensures)
