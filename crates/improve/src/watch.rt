@@ -7,6 +7,28 @@ ghost use Rattle.improve.specs.Improving.{IsSolution};
 use cdcl::watch::{SearchWatch, Unwatched};
 use cnf::types::Instance;
 
+/// Which form it is that shows a lower bound.
+#[derive(Clone, Copy, Debug, PartialEq, Eq, Drop)]
+pub enum Way {
+    /// That of the cores.
+    Cores,
+    /// One of the relaxation.
+    Relaxation,
+    /// The cost itself, under what was learned.
+    Cost,
+}
+
+/// A lower bound of the cost, as a line of the certificate proves it.
+#[derive(Clone, Copy, Debug, PartialEq, Eq, Drop)]
+pub struct Raised {
+    /// No solution costs less than this.
+    pub lower: u64,
+    /// What its form is worth in tenths, rounded up: at most ten times `lower`.
+    pub tenths: u64,
+    /// Which form that is.
+    pub way: Way,
+}
+
 /// Looks on while a search runs, and is told how far it has come. It stops the search only as it
 /// waives what is left of the budget, and no failure of it is one of the search.
 pub trait Watch: SearchWatch {
@@ -17,8 +39,8 @@ pub trait Watch: SearchWatch {
             ≡ with_seen (Better instance.now cost bits.now ∷ []) (Self.seen self.old) }
         ensures same_waived { Self.waived self.new ≡ Self.waived self.old };
 
-    /// Is told that no solution costs less than `lower`, as a line of the certificate proves.
-    fn raised(&mut self, lower: u64)
+    /// Is told of a lower bound that a line of the certificate proves.
+    fn raised(&mut self, bound: Raised)
         ensures same_seen { Self.seen self.new ≡ Self.seen self.old }
         ensures same_waived { Self.waived self.new ≡ Self.waived self.old };
 }
@@ -26,5 +48,5 @@ pub trait Watch: SearchWatch {
 impl Watch for Unwatched {
     fn better(&mut self, _instance: &Instance, _cost: u64, _bits: &[bool]) {}
 
-    fn raised(&mut self, _lower: u64) {}
+    fn raised(&mut self, _bound: Raised) {}
 }
