@@ -2,8 +2,9 @@
 // many times as its core is worth, so that its literals cost that much less and its outputs that
 // much (the reformulation of OLL, as one linear form); the cost itself; or one of other facts.
 // Lines are written only for what is new.
+ghost use Rattle.std.specs.Prelude.{◌≡◌};
 
-use crate::desk::{Desk, DeskFault};
+use crate::desk::{Desk, DeskFault, Way};
 use forms::types::NamedFact;
 use std::alloc::{AllocError, Global};
 
@@ -22,6 +23,17 @@ enum Present {
     Cores(usize),
 }
 
+impl Present {
+    /// What it is as a form that shows a bound.
+    fn way(self) -> Way {
+        match self {
+            Present::Other => Way::Relaxation,
+            Present::Cost => Way::Cost,
+            Present::Cores(_) => Way::Cores,
+        }
+    }
+}
+
 /// What the log was told of forms and bounds.
 #[derive(Drop)]
 pub(crate) struct Citing {
@@ -29,19 +41,19 @@ pub(crate) struct Citing {
     facts: Vec<NamedFact>,
     // The present form.
     present: Present,
-    // The greatest bound that was told, up to the best cost; 0 before the first one.
+    // The greatest bound that was told, by lines before the search, too; 0 before the first one.
     told: u64,
     // The next one is told in the course of a turn once so many clauses were learned, from 0.
     next: u64,
 }
 
 impl Citing {
-    /// Before the first form.
-    pub(crate) fn new(alloc: Global) -> Self {
+    /// Before the first form, where such a bound was told.
+    pub(crate) fn new(alloc: Global, told: u64) -> Self {
         Citing {
             facts: Vec::new(alloc),
             present: Present::Other,
-            told: 0,
+            told,
             next: 0,
         }
     }
@@ -57,12 +69,16 @@ impl Citing {
     }
 
     /// The facts of the cores' form.
-    pub(crate) fn facts(&self) -> &[NamedFact] {
+    pub(crate) fn facts(&self) -> &[NamedFact]
+        ensures { result.now ≡ self.now.facts.items }
+    {
         &self.facts
     }
 
-    /// The greatest bound that was told; 0 before the first one.
-    pub(crate) fn told(&self) -> u64 {
+    /// The greatest bound that was told, by lines before the search, too; 0 before the first one.
+    pub(crate) fn told(&self) -> u64
+        ensures { result ≡ self.now.told }
+    {
         self.told
     }
 
@@ -126,7 +142,7 @@ impl Citing {
             Ok(Some(worth)) => worth.min(desk.cost()),
             _ => 0,
         };
-        if worth > self.told && desk.bound(worth)? {
+        if worth > self.told && desk.bound(worth, self.present.way())? {
             self.told = worth;
         }
         Ok(())

@@ -12,9 +12,12 @@
 //! One search of a stratum finds many cores: it passes over each assumption that is false where
 //! those before it hold, and what explains it is a core. They are shortened and taken one after the
 //! other, as long as all their literals have a rest. Made disjoint beforehand they were worth less.
+ghost use Rattle.std.specs.Prelude.{◌≡◌};
+
 use crate::counting::Counting;
 use crate::desk::{Desk, DeskFault, Trial};
 use crate::items::Items;
+use crate::resuming::resume_cores;
 use crate::shortening::{Shortened, negations, shorten};
 use crate::tables::at;
 use adder::relaxations::Relaxation;
@@ -23,7 +26,7 @@ use cdcl::outcome::{Passed, Share};
 use cnf::clause_list::ClauseList;
 use cnf::types::Lit;
 use forms::types::NamedFact;
-use std::alloc::{AllocError, Global};
+use std::alloc::AllocError;
 
 /// What explains the assumptions that are passed over in one search has about so many literals for
 /// each assumption.
@@ -49,38 +52,53 @@ pub struct Cores {
     counting: Counting,
     // What has at least so much as its rest is assumed false, from 1; 0 before the first stratum.
     threshold: u64,
-    // What the cores are worth together, from 0: no solution costs less.
+    // What the cores are worth together, from 0: no solution costs less, but perhaps where a count
+    // that was there when the search began was none of a core.
     lower: u64,
     // Whether no further core is looked for.
     is_over: bool,
 }
 
 impl Cores {
-    /// No core yet.
-    pub fn new(alloc: Global, weights: &[Relaxation], last: u32) -> Result<Self, AllocError> {
-        let mut items = Items::new(alloc, weights, last)?;
-        let lower = items.pay_both();
+    /// The cores of the counts that the desk has; none where the log is new. `weights` are the
+    /// literals that cost something, with what they cost.
+    ///
+    /// # Errors
+    ///
+    /// `AllocError` where memory was refused.
+    pub fn new<D: Desk>(desk: &D, weights: &[Relaxation]) -> Result<Self, AllocError> {
+        let alloc = desk.allocator();
+        let mut items = Items::new(alloc, weights, desk.last())?;
+        let mut counting = Counting::new(alloc, desk.proved());
+        let paid = items.pay_both();
+        let worth = resume_cores(alloc, desk.forms(), &mut items, &mut counting)?;
         Ok(Cores {
             items,
-            counting: Counting::new(alloc),
+            counting,
             threshold: 0,
-            lower,
+            lower: paid.saturating_add(worth),
             is_over: false,
         })
     }
 
-    /// What the best solution costs beyond what the cores are worth.
-    pub fn gap<D: Desk>(&self, desk: &D) -> u64 {
-        desk.cost().saturating_sub(self.lower)
+    /// What the cores are worth together.
+    pub fn lower(&self) -> u64
+        ensures { result ≡ self.now.lower }
+    {
+        self.lower
     }
 
     /// The facts of the cores' form.
-    pub fn facts(&self) -> &[NamedFact] {
+    pub fn facts(&self) -> &[NamedFact]
+        ensures { result.now ≡ self.now.counting.citing.facts.items }
+    {
         self.counting.citing.facts()
     }
 
-    /// The greatest bound that was told; 0 before the first one.
-    pub fn told(&self) -> u64 {
+    /// The greatest bound that was told, by lines before the search, too; 0 before the first one.
+    pub fn told(&self) -> u64
+        ensures { result ≡ self.now.counting.citing.told }
+    {
         self.counting.citing.told()
     }
 

@@ -58,13 +58,13 @@ pub(crate) struct Counting {
 }
 
 impl Counting {
-    /// No core yet.
-    pub(crate) fn new(alloc: Global) -> Self {
+    /// No core yet, where such a bound was told.
+    pub(crate) fn new(alloc: Global, told: u64) -> Self {
         Counting {
             cores: Vec::new(alloc),
             counted: 0,
             fresh: Vec::new(alloc),
-            citing: Citing::new(alloc),
+            citing: Citing::new(alloc, told),
         }
     }
 
@@ -81,6 +81,25 @@ impl Counting {
             count: 0,
         })?;
         Ok(())
+    }
+
+    /// A core of these literals, at least two, that has the count with this number; answers its
+    /// place. None waits for a count.
+    pub(crate) fn add_counted(
+        &mut self,
+        lits: Vec<Lit>,
+        weight: u64,
+        number: u64,
+    ) -> Result<usize, AllocError> {
+        let place = self.cores.len();
+        self.cores.push(Core {
+            weight,
+            lits,
+            count: number,
+        })?;
+        self.counted = self.cores.len();
+        self.citing.add(weight, number)?;
+        Ok(place)
     }
 
     /// Makes the counts of the cores that wait for them; answers what those are worth together for

@@ -49,6 +49,17 @@ pub struct Walked {
     pub is_cheaper: bool,
 }
 
+/// What the form is that shows a bound.
+#[derive(Clone, Copy, Debug, PartialEq, Eq, Drop)]
+pub enum Way {
+    /// That of the cores: the cost less the facts of their counts.
+    Cores,
+    /// One of the linear relaxation.
+    Relaxation,
+    /// The cost itself, under what was learned.
+    Cost,
+}
+
 /// Why a search ended without an answer.
 #[derive(Clone, Copy, Debug, PartialEq, Eq, Drop)]
 pub enum DeskFault {
@@ -102,6 +113,10 @@ pub trait Desk: Drop {
     /// The last variable that the engine has: no count gets a greater one.
     fn last(&self) -> u32;
 
+    /// What lines before this search have proved that no solution costs less than, up to 2^62; 0
+    /// where the log is new.
+    fn proved(&self) -> u64;
+
     /// What the best solution costs; 2^62 while there is none.
     fn cost(&self) -> u64;
 
@@ -111,7 +126,7 @@ pub trait Desk: Drop {
     /// How many literals the clauses of the instance have.
     fn size(&self) -> u64;
 
-    /// How many clauses were learned or cut.
+    /// How many clauses were learned or cut, with about as many as lines before this search say.
     fn learned(&self) -> u64;
 
     /// How many literals the searches have assigned, but for those with a value now: a measure
@@ -191,7 +206,8 @@ pub trait Desk: Drop {
     fn cut(&mut self, lits: &[Lit]) -> Result<bool, DeskFault>
         ensures follows { (first : Self) → follows first self.old → follows first self.new };
 
-    /// Says that nothing costs less than this; whether the present form is worth it.
-    fn bound(&mut self, lower: u64) -> Result<bool, DeskFault>
+    /// Says that nothing costs less than this; whether the present form, which is such a one, is
+    /// worth it.
+    fn bound(&mut self, lower: u64, way: Way) -> Result<bool, DeskFault>
         ensures follows { (first : Self) → follows first self.old → follows first self.new };
 }

@@ -102,6 +102,25 @@ impl Items {
         Ok(())
     }
 
+    /// The core in this place takes so much from its literals, and the outputs of its count from
+    /// the second on cost that much.
+    pub(crate) fn exchange(
+        &mut self,
+        inputs: &[Lit],
+        outputs: &[Lit],
+        weight: u64,
+        core: usize,
+    ) -> Result<(), AllocError> {
+        for input in inputs {
+            self.charge(*input, weight);
+        }
+        for output in outputs.iter().skip(1) {
+            self.set_origin(*output, core);
+            self.credit(*output, weight)?;
+        }
+        Ok(())
+    }
+
     /// The place of the core whose output this is.
     pub(crate) fn origin(&self, lit: Lit) -> Option<usize> {
         match at(&self.origins, lit.variable() as usize) {

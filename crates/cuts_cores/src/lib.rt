@@ -8,5 +8,6 @@ pub mod cores;
 mod counting;
 pub mod desk;
 mod items;
+mod resuming;
 mod shortening;
 pub mod tables;

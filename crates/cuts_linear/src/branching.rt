@@ -236,10 +236,6 @@ impl<'n> Guide for BranchGuide<'n> {
         self.left = 0;
     }
 
-    fn explained(&mut self, _falsified: Lit, _clause: &[Lit]) -> Result<(), AllocError> {
-        Ok(())
-    }
-
     fn went_back(&mut self, assigned: usize) {
         for _ in 0..self.places.len() {
             match self.places.last() {
@@ -251,13 +247,7 @@ impl<'n> Guide for BranchGuide<'n> {
         }
     }
 
-    fn learned(&mut self) {}
-
     fn kept_levels(&self) -> usize {
         usize::MAX
-    }
-
-    fn may_delete(&self) -> bool {
-        true
     }
 }

@@ -151,16 +151,6 @@ impl<'n> Guide for DiveGuide<'n> {
         }
     }
 
-    fn cut(&self) -> &[Lit] {
-        &[]
-    }
-
-    fn refused(&mut self) {}
-
-    fn explained(&mut self, _falsified: Lit, _clause: &[Lit]) -> Result<(), AllocError> {
-        Ok(())
-    }
-
     fn went_back(&mut self, _assigned: usize) {
         self.place = 0;
     }
@@ -171,9 +161,5 @@ impl<'n> Guide for DiveGuide<'n> {
 
     fn kept_levels(&self) -> usize {
         usize::MAX
-    }
-
-    fn may_delete(&self) -> bool {
-        true
     }
 }

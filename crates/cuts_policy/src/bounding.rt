@@ -238,10 +238,6 @@ impl Guide for BoundGuide {
         self.until = 0;
     }
 
-    fn explained(&mut self, _falsified: Lit, _clause: &[Lit]) -> Result<(), AllocError> {
-        Ok(())
-    }
-
     fn went_back(&mut self, assigned: usize) {
         for _ in 0..self.paid.len() {
             match self.paid.last() {
@@ -253,15 +249,5 @@ impl Guide for BoundGuide {
             self.paid.pop();
         }
         self.seen = self.seen.min(assigned);
-    }
-
-    fn learned(&mut self) {}
-
-    fn kept_levels(&self) -> usize {
-        0
-    }
-
-    fn may_delete(&self) -> bool {
-        true
     }
 }

@@ -125,8 +125,8 @@ impl LinearBounds {
         ended
     }
 
-    // What a turn as long as one of so many propagations may take. Iterations over all rows are a
-    // third of its visits at most.
+    /// What a turn as long as one of so many propagations may take. Iterations over all rows are a
+    /// third of its visits at most.
     fn effort<D: Desk>(&self, desk: &D, share: u64) -> Effort {
         let visits = (share / PARTS)
             .saturating_mul(self.part)
@@ -142,7 +142,7 @@ impl LinearBounds {
         }
     }
 
-    // What the relaxation is of before the first turn. Groups are found with so much work.
+    /// What the relaxation is of before the first turn. Groups are found with so much work.
     fn begin<D: Desk>(
         &mut self,
         desk: &D,
@@ -156,7 +156,7 @@ impl LinearBounds {
         Ok(Node::new(alloc, facts))
     }
 
-    // Level 0, a dive, and branch and bound.
+    /// Level 0, a dive, and branch and bound.
     fn search<D: Desk>(
         &mut self,
         desk: &mut D,
@@ -178,8 +178,8 @@ impl LinearBounds {
         self.branch(desk, node, cores, effort.visits)
     }
 
-    // The groups that were found get their lines, and level 0 is solved with them, with so many
-    // iterations at most.
+    /// The groups that were found get their lines, and level 0 is solved with them, with so many
+    /// iterations at most.
     fn make_groups<D: Desk>(
         &mut self,
         desk: &mut D,
@@ -199,7 +199,7 @@ impl LinearBounds {
         Ok(())
     }
 
-    // Branch and bound, where something can be cheaper.
+    /// Branch and bound, where something can be cheaper.
     fn branch<D: Desk>(
         &mut self,
         desk: &mut D,
@@ -220,8 +220,8 @@ impl LinearBounds {
         Ok(())
     }
 
-    // How much of the next rounds it gets, where so many conflicts of all in its turn were its own.
-    // A few say nothing.
+    /// How much of the next rounds it gets, where so many of all conflicts in its turn were its
+    /// own. A few say nothing.
     fn judge(&mut self, own: u64, all: u64) {
         self.own = (self.own / 2).saturating_add(own);
         self.all = (self.all / 2).saturating_add(all);

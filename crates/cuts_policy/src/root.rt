@@ -206,8 +206,8 @@ impl Root {
         fix_dear(desk)
     }
 
-    // Whether the form is worth more than what was told, or some value is too dear beside it, as
-    // far as floats can say.
+    /// Whether the form is worth more than what was told, or some value is too dear beside it, as
+    /// far as floats can say.
     fn is_news<D: Desk>(&self, desk: &D, node: &mut Node, told: u64) -> Result<bool, AllocError> {
         if self.bound > nearest_u64_to_f64(told) + NO_NEWS {
             return Ok(true);

@@ -26,6 +26,10 @@ use std::alloc::{AllocError, Global};
 /// The first turns assign about so many literals.
 const FIRST: u64 = 300_000;
 
+/// Where a search goes on, its first turns assign about so many literals for each clause that was
+/// learned before: with the first shares of a new search again, bounds of rosters fell behind.
+const EACH_LEARNED: u64 = 6;
+
 /// The first turn that looks for a first solution assigns about so many literals.
 const FIRST_SOLUTION: u64 = 150_000;
 
@@ -59,7 +63,8 @@ fn part_of(share: u64, part: u64) -> u64 {
 }
 
 /// Searches until nothing is cheaper than the best solution, or the budget is spent. `weights` are
-/// the literals that cost something, with what they cost. Each round costs a unit at least.
+/// the literals that cost something, with what they cost. Where the desk has counts already, its
+/// cores begin with those. Each round costs a unit at least.
 ///
 /// # Errors
 ///
@@ -68,7 +73,7 @@ pub fn search<D: Desk>(desk: &mut D, weights: &[Relaxation]) -> Result<(), DeskF
     ensures ended { OnOk result (D.refuted desk.new ⊎ (D.left desk.new ≡ 0)) }
     ensures follows { (first : D) → D.follows first desk.old → D.follows first desk.new }
 {
-    let mut rounds = Rounds::new(desk.allocator(), weights, desk.last())?;
+    let mut rounds = Rounds::new(desk, weights)?;
     rounds.run(desk)
 }
 
@@ -88,12 +93,12 @@ struct Rounds<'w> {
 }
 
 impl<'w> Rounds<'w> {
-    /// Before the first round, with room for variables up to `last`.
-    fn new(alloc: Global, weights: &'w [Relaxation], last: u32) -> Result<Self, AllocError> {
+    /// Before the first round, with the cores of the counts that the desk has.
+    fn new<D: Desk>(desk: &D, weights: &'w [Relaxation]) -> Result<Self, AllocError> {
         Ok(Rounds {
             weights,
-            cores: Cores::new(alloc, weights, last)?,
-            linear: LinearBounds::new(alloc),
+            cores: Cores::new(desk, weights)?,
+            linear: LinearBounds::new(desk.allocator()),
             walks: Walks::new(),
             parts: Parts {
                 cores: PARTS,
@@ -110,7 +115,7 @@ impl<'w> Rounds<'w> {
     {
         self.begin(desk)?;
         self.walks.begin(desk)?;
-        let mut share = FIRST;
+        let mut share = FIRST.max(desk.learned().saturating_mul(EACH_LEARNED));
         let mut left = desk.left();
         while left > 0 {
             if desk.is_refuted() {
@@ -131,6 +136,10 @@ impl<'w> Rounds<'w> {
     {
         if desk.has_solution() {
             desk.suggest_best();
+            if desk.learned() > 0 {
+                // What lines before have fixed gets its value: no cut says it again.
+                search_freely(desk, 0)?;
+            }
             return Ok(());
         }
         let alloc = desk.allocator();
@@ -154,22 +163,27 @@ impl<'w> Rounds<'w> {
         Ok(())
     }
 
+    /// What the best solution costs beyond what the cores are worth.
+    fn gap<D: Desk>(&self, desk: &D) -> u64 {
+        desk.cost().saturating_sub(self.cores.lower())
+    }
+
     /// Cores, then walks, the relaxation, and solutions, for a share of propagations each.
     fn round<D: Desk>(&mut self, desk: &mut D, share: u64) -> Result<(), DeskFault>
         ensures follows { (first : D) → D.follows first desk.old → D.follows first desk.new }
     {
-        let before = self.cores.gap(desk);
+        let before = self.gap(desk);
         let others = part_of(share, self.linear.others());
         let course = self.cores.turn(desk, part_of(others, self.parts.cores))?;
-        self.parts.cores = judge(self.parts.cores, before, self.cores.gap(desk));
+        self.parts.cores = judge(self.parts.cores, before, self.gap(desk));
         match course {
             Course::GoesOn | Course::Over => {
                 self.walks.turn(desk, share)?;
                 self.linear
                     .turn(desk, self.weights, &mut self.cores, share)?;
-                let before = self.cores.gap(desk);
+                let before = self.gap(desk);
                 descend(desk, &mut self.cores, part_of(others, self.parts.descents))?;
-                self.parts.descents = judge(self.parts.descents, before, self.cores.gap(desk));
+                self.parts.descents = judge(self.parts.descents, before, self.gap(desk));
             }
             Course::Ended => {}
         }

@@ -12,7 +12,7 @@ use improve_local::kinds::WalkKind;
 /// So many visits go with each propagation of the other parts of a turn.
 const VISITS: u64 = 13;
 
-/// Of these the second priced walk makes so many thousandths,
+/// Of these the next priced walk after those two makes so many thousandths,
 const FIRST_PRICED: u64 = 100;
 
 /// and the first growing one so many.
@@ -90,9 +90,9 @@ pub(crate) struct Walks {
     priced: Way,
     // Those whose clauses only become heavier.
     growing: Way,
-    // How many visits all of them made but the first one, from 0.
+    // How many visits those made that go with propagations, from 0.
     visits: u64,
-    // Whether there was a first one.
+    // Whether there was one after the first cores.
     has_begun: bool,
 }
 
