@@ -1,9 +1,9 @@
 -- From one state of a session to the next.
-use Rattle.std.proofs.Common.{◌≡◌, ℕ, ◌<◌, Bool, List, [], ◌∷◌, ◌++◌, Option, Some, None}
+use Rattle.std.proofs.Common.{◌≡◌, ℕ, ◌<◌, ◌≤◌, Bool, List, [], ◌∷◌, ◌++◌, Option, Some, None}
 use Rattle.std.proofs.Common.{map, refl, sym, ◌∙◌, ap, subst, arith, append_assoc}
-use Rattle.std.proofs.Common.{length-append}
+use Rattle.std.proofs.Common.{append-nil, length-append}
 use Rattle.std.proofs.lemmas.List.{map-append}
-use Rattle.std.proofs.lemmas.List.Elements.{All-push}
+use Rattle.std.proofs.lemmas.List.Elements.{All-nil, All-push}
 use Rattle.cnf.specs.Problem.{Problem}
 use Rattle.cdcl_order.specs.Budgets.{BudgetState, WaivesAs}
 use Rattle.cdcl_order.specs.Watch.{Sight, Better, with_seen}
@@ -24,8 +24,10 @@ same_search : (a b c : SessionState) → IsSameSearch a b → IsSameSearch b c �
 same_search a b c g h = record {
   origin = record {
     instance = (h.origin).instance ∙ (g.origin).instance;
+    start = (h.origin).start ∙ (g.origin).start;
     origin = (h.origin).origin ∙ (g.origin).origin;
   };
+  held = omega (arith, g.held, h.held);
   limit = h.limit ∙ g.limit;
   waives = omega (arith, g.waives, h.waives);
 }
@@ -167,6 +169,44 @@ pub fails_to_tell : (p : Problem) (old new : SessionState) (s : Solution)
     → FailsToTell p old new s → LeadsTo p old new
 fails_to_tell p old new s f start h = come_failed p old new s start h f
 
+-- the first solution was kept, or could not be told: it costs no more than cuts hold for
+module _ (p : Problem) (old new : SessionState) (s : Solution) (none : old.best ≡ None)
+    (le : s.cost ≤ ((old.solver).log).cost) where
+  pub first_kept : Keeps p old new s → HasCome p old new
+  first_kept k =
+      let one : List (ℕ × List Bool) = (s.cost, (s.bits).items) ∷ [] in
+      record {
+        solutions = one;
+        each = All-push (λ (z : ℕ × List Bool). IsSolution p z.1 z.0) [] (s.cost, (s.bits).items)
+            (All-nil (λ (z : ℕ × List Bool). IsSolution p z.1 z.0)) (k.meets).solution;
+        falling = tt;
+        met = subst (HasMet p old new one) (sym k.fault) (record {
+          telling = k.telling;
+          seen = (k.meets).seen;
+          answers = k.answers;
+          best = subst (IsLastOf one) (sym k.best) ([], refl);
+          cuts = omega (arith, k.cuts, le, ap cost_of k.best);
+        });
+        search = (k.meets).search;
+      }
+
+  pub first_failed : FailsToTell p old new s → HasCome p old new
+  first_failed f = record {
+    solutions = [];
+    each = All-nil (λ (z : ℕ × List Bool). IsSolution p z.1 z.0);
+    falling = tt;
+    met = subst (HasMet p old new []) (sym f.fault) (record {
+      last = (s.cost, (s.bits).items);
+      solution = (f.meets).solution;
+      falling = tt;
+      telling = f.telling
+          ∙ ap (λ told. with_failed s.cost (record old.telling { told = told }))
+          (sym (append-nil (old.telling).told));
+      seen = (f.meets).seen;
+    });
+    search = (f.meets).search;
+  }
+
 -- the solver has worked, for units of the budget
 pub search_on : {p : Problem} {old : SessionState} {s : SolverState} {b : BudgetState}
     {seen : Option (List Sight)} {waived learned : ℕ} → SameSolver old.solver s
@@ -182,7 +222,12 @@ search_on {p} {old} {s} {b} {seen} {waived} {learned} same pays waives shown =
       cuts = same.cost;
       fault = refl;
       search = record {
-        origin = record { instance = same.problem; origin = same.origin };
+        origin = record {
+          instance = same.problem;
+          start = same.start;
+          origin = same.origin;
+        };
+        held = omega (arith, same.cost);
         limit = ap (λ z. z.limit) pays;
         waives = waives;
       };
@@ -203,3 +248,8 @@ goes_on f g = (f.0, f.1, f.2, f.3, f.4, f.5, f.6, λ start h. g start (f.7 start
 pub leads_on : (p q : Problem) (a b c : SessionState) → q ≡ p → LeadsTo p a b → LeadsTo q b c
     → LeadsTo p a c
 leads_on p q a b c e f g start h = (subst (λ z. LeadsTo z b c) e g) start (f start h)
+
+-- from where a session has come to, it goes on
+pub comes_on : (p q : Problem) (a b c : SessionState) → q ≡ p → HasCome p a b → LeadsTo q b c
+    → HasCome p a c
+comes_on p q a b c e h g = (subst (λ z. LeadsTo z b c) e g) a h

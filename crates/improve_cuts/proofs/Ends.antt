@@ -1,23 +1,26 @@
 -- How a search begins, and how one ends that has come so far.
 use Rattle.std.proofs.Common.{◌≡◌, ℕ, Bool, List, [], ◌∷◌, ◌++◌, Option, Some}
 use Rattle.std.proofs.Common.{None, Ok, Err, refl, sym, ◌∙◌, ap, subst, arith}
-use Rattle.std.proofs.Common.{append-nil}
+use Rattle.std.proofs.Common.{append-nil, false, ◌≤◌}
 use Rattle.std.specs.Prelude.{All, IfSome, IfNone, Result, IfOk, IfErr}
 use Rattle.std.proofs.lemmas.List.{map-append, length-map}
 use Rattle.std.proofs.lemmas.List.Elements.{All-nil, All-push, All-pop, All-map, All-weaker}
 use Rattle.cnf.specs.Problem.{Problem}
 use Rattle.cnf.specs.declared.limits.TheConstants.{NUMBER_LIMIT}
+use Rattle.cdcl_order.specs.Budgets.{BudgetState, left_of}
+use Rattle.cdcl_order.specs.Watch.{Sight}
 use Rattle.cdcl_order.proofs.Laws.{with_seen_none}
 use Rattle.cuts_cores.specs.declared.desk.DeskFault.{DeskFault}
 use Rattle.cuts_cores.specs.declared.desk.DeskFault.TheVariants.{Memory, Progress}
 use Rattle.improve.specs.Improving.{IsSolution, IsCostOfSome}
+use Rattle.improve.specs.Progress.{Telling}
 use Rattle.improve.specs.Watch.{AreShown, costs_shown}
 use Rattle.improve.specs.declared.found.ImproveFault.{ImproveFault}
 use Rattle.improve.specs.declared.found.ImproveFault.TheVariants.{Memory as NoMemory}
 use Rattle.improve.specs.declared.found.ImproveFault.TheVariants.{Progress as CannotTell}
 use Rattle.improve.specs.declared.solutions.Solution.{Solution}
 use Rattle.improve.proofs.Laws.{cost_of_solution}
-use Rattle.improve_cuts.specs.ByCuts.{FindsByCuts, IsBestOf, HasNone}
+use Rattle.improve_cuts.specs.ByCuts.{BeginsWith, FindsByCuts, IsBestOf, HasNone}
 use Rattle.improve_cuts.specs.Sessions.{SessionState, HasCome, HasMet, HasKept, HasFailedToTell}
 use Rattle.improve_cuts.specs.Sessions.{IsLastOf, IsFaultOf, EndsWithout, cost_of}
 use Rattle.improve_cuts.specs.Sessions.{found_by}
@@ -37,7 +40,8 @@ begins p s none works cuts = record {
     cuts = subst (λ b. ((s.solver).log).cost ≡ cost_of b) (sym none) cuts;
   });
   search = record {
-    origin = record { instance = refl; origin = refl };
+    origin = record { instance = refl; start = refl; origin = refl };
+    held = omega arith;
     limit = refl;
     waives = refl;
   };
@@ -103,7 +107,7 @@ module _ (p : Problem) (start now : SessionState) (h : HasCome p start now) wher
 
   best_of : HasKept p start now h.solutions → (best : Option Solution) → IsLastOf h.solutions best
       → ((now.solver).log).cost ≡ cost_of best
-      → IfSome best (IsBestOf p (costs_shown h.solutions) now.solver)
+      → IfSome best (IsBestOf p (costs_shown h.solutions) ((now.solver).log).cost)
   best_of k None last cuts = tt
   best_of k (Some b) last cuts = record {
     solution =
@@ -117,17 +121,30 @@ module _ (p : Problem) (start now : SessionState) (h : HasCome p start now) wher
     cost = cuts;
   }
 
-  none_of : (best : Option Solution) → IsLastOf h.solutions best
+  none_of : ((start.solver).log).cost ≤ NUMBER_LIMIT → (best : Option Solution)
+      → IsLastOf h.solutions best → ((now.solver).log).cost ≡ cost_of best
+      → IfNone best (HasNone ((start.solver).log).cost (costs_shown h.solutions)
+      ((now.solver).log).cost)
+  none_of most None last cuts = record {
+    none_told = ap costs_shown last;
+    cost = omega (arith, most, cuts, (h.search).held);
+  }
+  none_of most (Some b) last cuts = tt
+
+  unbounded : ((start.solver).log).cost ≤ NUMBER_LIMIT → (best : Option Solution)
       → ((now.solver).log).cost ≡ cost_of best
-      → IfNone best (HasNone (costs_shown h.solutions) now.solver)
-  none_of None last cuts = record { none_told = ap costs_shown last; cost = cuts }
-  none_of (Some b) last cuts = tt
+      → IfNone best (((start.solver).log).cost ≡ NUMBER_LIMIT)
+  unbounded most None cuts = omega (arith, most, cuts, (h.search).held)
+  unbounded most (Some b) cuts = tt
 
   -- an end without a fault
-  pub found_come : (is_proved : Bool) → EndsWithout p is_proved now
-      → FindsByCuts p (Ok (record { best = now.best; is_proved = is_proved })) now.solver
+  pub found_come : ((start.solver).log).cost ≤ NUMBER_LIMIT → (is_proved : Bool)
+      → EndsWithout p is_proved now
+      → FindsByCuts p ((start.solver).log).cost
+      (Ok (record { best = now.best; is_proved = is_proved }))
+      (now.solver).refuted ((now.solver).log).cost
       start.telling now.telling start.budget now.budget
-  found_come is_proved e =
+  found_come most is_proved e =
       let k : HasKept p start now h.solutions =
       subst (HasMet p start now h.solutions) e.fault h.met in
       record {
@@ -141,8 +158,9 @@ module _ (p : Problem) (start now : SessionState) (h : HasCome p start now) wher
         no_failure = λ z. ap (λ t. t.failures) k.telling;
         found = record {
           best = best_of k now.best k.best k.cuts;
-          none = none_of now.best k.best k.cuts;
+          none = none_of most now.best k.best k.cuts;
           proved = e.proved;
+          unbounded = λ z. unbounded most now.best k.cuts;
           spent = e.spent;
         };
         same_limit = (h.search).limit;
@@ -154,7 +172,9 @@ module _ (p : Problem) (start now : SessionState) (h : HasCome p start now) wher
       }
 
   memory_come : HasKept p start now h.solutions
-      → FindsByCuts p (Err NoMemory) now.solver start.telling now.telling start.budget now.budget
+      → FindsByCuts p ((start.solver).log).cost (Err NoMemory) (now.solver).refuted
+      ((now.solver).log).cost
+      start.telling now.telling start.budget now.budget
   memory_come k = record {
     tried = costs_shown h.solutions;
     told = costs_shown h.solutions;
@@ -170,8 +190,9 @@ module _ (p : Problem) (start now : SessionState) (h : HasCome p start now) wher
   }
 
   progress_come : HasFailedToTell p start now h.solutions
-      → FindsByCuts p (Err CannotTell) now.solver start.telling now.telling start.budget
-      now.budget
+      → FindsByCuts p ((start.solver).log).cost (Err CannotTell) (now.solver).refuted
+      ((now.solver).log).cost
+      start.telling now.telling start.budget now.budget
   progress_come f = record {
     tried = costs_shown (h.solutions ++ f.last ∷ []);
     told = costs_shown h.solutions;
@@ -198,16 +219,50 @@ module _ (p : Problem) (start now : SessionState) (h : HasCome p start now) wher
 
   -- an end with one
   pub fault_come : (e : ImproveFault) → IsFaultOf e now.fault
-      → FindsByCuts p (Err e) now.solver start.telling now.telling start.budget now.budget
+      → FindsByCuts p ((start.solver).log).cost (Err e) (now.solver).refuted
+      ((now.solver).log).cost
+      start.telling now.telling start.budget now.budget
   fault_come NoMemory e = memory_come (kept_of now.fault e h.met)
   fault_come CannotTell e = progress_come (subst (HasMet p start now h.solutions) e h.met)
 
   -- either end
-  pub end_come : (q : Problem) → q ≡ p → (result : Result Bool ImproveFault)
+  pub end_come : ((start.solver).log).cost ≤ NUMBER_LIMIT → (q : Problem) → q ≡ p
+      → (result : Result Bool ImproveFault)
       → IfOk result (λ is_proved. EndsWithout q is_proved now)
       → IfErr result (λ e. IsFaultOf e now.fault)
-      → FindsByCuts p (found_by result now.best) now.solver start.telling now.telling start.budget
-      now.budget
-  end_come q same (Ok is_proved) ok err =
-      found_come is_proved (subst (λ z. EndsWithout z is_proved now) same ok)
-  end_come q same (Err e) ok err = fault_come e err
+      → FindsByCuts p ((start.solver).log).cost (found_by result now.best)
+      (now.solver).refuted ((now.solver).log).cost
+      start.telling now.telling start.budget now.budget
+  end_come most q same (Ok is_proved) ok err =
+      found_come most is_proved (subst (λ z. EndsWithout z is_proved now) same ok)
+  end_come most q same (Err e) ok err = fault_come e err
+
+-- cuts never hold for more than 2^62
+pub most_held : (p : Problem) (held : ℕ) (first : Option Solution) → BeginsWith p held first
+    → held ≤ NUMBER_LIMIT
+most_held p held None h = omega (arith, h)
+most_held p held (Some b) h = h.2
+
+-- no search was made
+pub finds_nothing : (p : Problem) (refuted : Bool) (held : ℕ) (t : Telling) (b : BudgetState)
+    → left_of b ≡ 0
+    → FindsByCuts p held (Ok (record { best = None; is_proved = false })) refuted held t t b b
+finds_nothing p refuted held t b spent = record {
+  tried = [];
+  told = [];
+  tells = sym (append-nil t.told);
+  falling = tt;
+  honest = All-nil (IsCostOfSome p);
+  tells_of = refl;
+  progress = λ z. absurd (cc);
+  no_failure = λ z. refl;
+  found = record {
+    best = tt;
+    none = record { none_told = refl; cost = refl };
+    proved = λ z. absurd (cc);
+    unbounded = λ z. absurd (cc);
+    spent = λ z. spent;
+  };
+  same_limit = refl;
+  answers = omega arith;
+}

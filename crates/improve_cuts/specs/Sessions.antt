@@ -1,5 +1,5 @@
 -- How a search stands that has come from a beginning.
-use Rattle.std.specs.Prelude.{◌≡◌, ℕ, ◌+◌, ◌<◌, List, [], ◌∷◌, ◌++◌, length, map, min, All}
+use Rattle.std.specs.Prelude.{◌≡◌, ℕ, ◌+◌, ◌<◌, ◌≤◌, List, [], ◌∷◌, ◌++◌, length, map, min, All}
 use Rattle.std.specs.Prelude.{true, false}
 use Rattle.std.specs.Prelude.{Bool, Option, Some, None, Result, Ok, Err}
 use Rattle.std.specs.Coded.{Coded, Coded-set, codes}
@@ -47,9 +47,10 @@ IsLastOf solutions (Some b) =
 abbrev pub with_all_told : List ℕ → Telling → Telling
 with_all_told costs t = record t { told = t.told ++ costs }
 
--- it is the same search, whose watch has waived what was waived
+-- it is the same search, whose watch has waived what was waived; cuts hold for no greater cost
 pub record IsSameSearch (old new : SessionState) : Type 0 where
   pub origin : SameOrigin old.solver new.solver
+  pub held : ((new.solver).log).cost ≤ ((old.solver).log).cost
   pub limit : (new.budget).limit ≡ (old.budget).limit
   pub waives : WaivesAs old.budget new.budget old.waived new.waived
 
@@ -132,7 +133,7 @@ IsFaultOf NoMemory fault = fault ≡ Some Progress → ⊥
 -- a search ends without a fault, by whether it is proved that nothing is cheaper
 pub record EndsWithout (p : Problem) (is_proved : Bool) (now : SessionState) : Type 0 where
   pub fault : now.fault ≡ None
-  pub proved : is_proved ≡ true → IsProved p now.solver
+  pub proved : is_proved ≡ true → IsProved p (now.solver).refuted ((now.solver).log).cost
   pub spent : is_proved ≡ false → left_of now.budget ≡ 0
 
 -- what is found, with the best solution

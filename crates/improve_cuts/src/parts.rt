@@ -6,8 +6,10 @@ ghost use Rattle.improve_cuts.specs.Sessions.{cost_of};
 use cdcl::budget::Budget;
 use cnf::limits::NUMBER_LIMIT;
 use cnf::types::Lit;
+use cuts_cores::desk::Way;
 use forms::state::Forms;
 use improve::solutions::Solution;
+use improve::watch::{Raised, Way as ShownWay};
 
 /// What the best solution costs; 2^62 while there is none.
 pub fn cost_in(best: &Option<Solution>) -> u64
@@ -25,6 +27,16 @@ pub fn last_output(forms: &Forms, number: u64) -> Option<Lit> {
     outputs.last().copied()
 }
 
+/// How many counts and groups there are.
+pub fn numbered_in(forms: &Forms) -> u64 {
+    for number in 0..u64::MAX {
+        if forms.inputs(number + 1).is_none() {
+            return number;
+        }
+    }
+    u64::MAX
+}
+
 /// Spends units, as if for clauses that are learned, until at most so many are left.
 pub fn spend_to(budget: &mut Budget, most: u64)
     ensures left { left_of budget.new ≤ most }
@@ -35,4 +47,43 @@ pub fn spend_to(budget: &mut Budget, most: u64)
     while budget.left() > most {
         budget.count_learned();
     }
+}
+
+/// A lower bound that the present form shows, as the watch is told of it.
+pub fn raised_by(forms: &Forms, lower: u64, way: Way) -> Raised {
+    Raised {
+        lower,
+        tenths: tenths_of(forms, lower),
+        way: match way {
+            Way::Cores => ShownWay::Cores,
+            Way::Relaxation => ShownWay::Relaxation,
+            Way::Cost => ShownWay::Cost,
+        },
+    }
+}
+
+/// What the present form is worth in tenths, rounded up: at most ten times `lower`.
+fn tenths_of(forms: &Forms, lower: u64) -> u64 {
+    let most = lower.saturating_mul(10);
+    let scale = forms.scale() as u128;
+    let least = forms.least();
+    if least <= 0 {
+        return 0;
+    }
+    if scale == 0 {
+        return most;
+    }
+    let least = least as u128;
+    let whole = least / scale;
+    if whole >= lower as u128 {
+        return most;
+    }
+    let part = least % scale * 10;
+    let tenths = part / scale;
+    let more = if part % scale == 0 { 0 } else { 1 };
+    (whole as u64)
+        .saturating_mul(10)
+        .saturating_add(tenths as u64)
+        .saturating_add(more)
+        .min(most)
 }

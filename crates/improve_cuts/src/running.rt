@@ -1,10 +1,9 @@
 // The course of a search: its beginning, its rounds and its end.
-ghost use Rattle.std.specs.Prelude.{◌≡◌, ◌⊎◌, true, false, None, IfOk, IfErr, IfSome, OnOk};
+ghost use Rattle.std.specs.Prelude.{◌≡◌, ◌<◌, ◌⊎◌, true, false, None, IfOk, IfErr, IfSome, OnOk};
 ghost use Rattle.cdcl_order.specs.Budgets.{WaivesAs, left_of};
-ghost use Rattle.improve.specs.Standing.{AreFeasible};
 ghost use Rattle.improve.specs.Watch.{AreShown};
-ghost use Rattle.improve_cuts.specs.ByCuts.{BeginsOn, SameOrigin, FindsByCuts};
-ghost use Rattle.improve_cuts.specs.Sessions.{EndsWithout, IsFaultOf, found_by};
+ghost use Rattle.improve_cuts.specs.ByCuts.{BeginsOn, BeginsWith, SameOrigin, FindsByCuts};
+ghost use Rattle.improve_cuts.specs.Sessions.{EndsWithout, HasCome, IsFaultOf, found_by};
 
 use crate::session::Session;
 use bound::weighted::weights;
@@ -12,6 +11,7 @@ use cuts_cores::desk::{Desk, DeskFault};
 use cuts_policy::rounds::search;
 use improve::found::ImproveFault;
 use improve::progress::Progress;
+use improve::solutions::Solution;
 use improve::watch::Watch;
 use std::alloc::AllocError;
 use std::io::Write;
@@ -28,18 +28,17 @@ impl<'i, 's, 'b, 'p, 'k, 'm, 'w, W: Write + Drop, T: Progress, K: Watch> Session
     T,
     K,
 > {
-    /// Runs the search, which begins with the solution that these bits begin with, if there are
-    /// any. Whether it is proved that nothing is cheaper than the best solution; else the budget is
-    /// spent.
+    /// Runs the search, which begins with this solution, if there is one. Whether it is proved that
+    /// nothing is cheaper than the best solution; else the budget is spent.
     ///
     /// # Errors
     ///
     /// `Memory` where memory was refused or a write of the log has failed, `Progress` where a cost
     /// could not be told.
-    pub fn run(&mut self, start: Option<Vec<bool>>) -> Result<bool, ImproveFault>
+    pub fn run(&mut self, start: Option<Solution>) -> Result<bool, ImproveFault>
         requires works { (self.old.fault ≡ None) × (self.old.best.now ≡ None) }
-        requires begun { BeginsOn self.old.instance.now self.old.solver.now }
-        requires solution { IfSome start (λ bits. AreFeasible self.old.instance.now bits.items) }
+        requires left { IfSome start (λ _. 0 < left_of self.old.budget.now) }
+        requires begun { BeginsOn self.old.instance.now start self.old.solver.now }
         ensures names { (self.new.solver.ghost_name ≡ self.old.solver.ghost_name)
             × (self.new.budget.ghost_name ≡ self.old.budget.ghost_name)
             × (self.new.progress.ghost_name ≡ self.old.progress.ghost_name)
@@ -53,8 +52,10 @@ impl<'i, 's, 'b, 'p, 'k, 'm, 'w, W: Write + Drop, T: Progress, K: Watch> Session
         ensures waives { WaivesAs self.old.budget.now self.new.budget.now
             (K.waived self.old.watch.now) (K.waived self.new.watch.now) }
         ensures origin { SameOrigin self.old.solver.now self.new.solver.now }
-        ensures finds { FindsByCuts self.old.instance.now (found_by result self.new.best.now)
-            self.new.solver.now (T.state self.old.progress.now) (T.state self.new.progress.now)
+        ensures finds { FindsByCuts self.old.instance.now self.old.solver.now.log.cost
+            (found_by result self.new.best.now)
+            self.new.solver.now.refuted self.new.solver.now.log.cost
+            (T.state self.old.progress.now) (T.state self.new.progress.now)
             self.old.budget.now self.new.budget.now }
     {
         self.begin(start);
@@ -62,20 +63,38 @@ impl<'i, 's, 'b, 'p, 'k, 'm, 'w, W: Write + Drop, T: Progress, K: Watch> Session
         self.end(ended)
     }
 
-    /// Takes the solution that the search begins with, where something is left of the budget.
-    fn begin(&mut self, start: Option<Vec<bool>>)
-        requires works { self.old.fault ≡ None }
-        requires solution { IfSome start (λ bits. AreFeasible self.old.instance.now bits.items) }
+    /// Keeps the solution that the search begins with, if there is one.
+    fn begin(&mut self, start: Option<Solution>)
+        requires works { (self.old.fault ≡ None) × (self.old.best.now ≡ None) }
+        requires left { IfSome start (λ _. 0 < left_of self.old.budget.now) }
+        requires first { BeginsWith self.old.instance.now self.old.solver.now.log.cost start }
         ensures follows { (first : _)
             → ⟦<Session<'i, 's, 'b, 'p, 'k, 'm, 'w, W, T, K> as Desk>⟧.follows first self.old
             → ⟦<Session<'i, 's, 'b, 'p, 'k, 'm, 'w, W, T, K> as Desk>⟧.follows first self.new }
+        ensures come { HasCome self.old.instance.now
+            (record {
+              solver = self.old.solver.now;
+              budget = self.old.budget.now;
+              telling = T.state self.old.progress.now;
+              seen = K.seen self.old.watch.now;
+              waived = K.waived self.old.watch.now;
+              best = self.old.best.now;
+              fault = self.old.fault;
+            })
+            (record {
+              solver = self.new.solver.now;
+              budget = self.new.budget.now;
+              telling = T.state self.new.progress.now;
+              seen = K.seen self.new.watch.now;
+              waived = K.waived self.new.watch.now;
+              best = self.new.best.now;
+              fault = self.new.fault;
+            }) }
     {
-        if self.budget.left() == 0 {
-            return;
-        }
-        if let Some(bits) = start {
+        self.instance.limits();
+        if let Some(solution) = start {
             // A fault of it stands in the session.
-            let _ = self.meet(bits);
+            let _ = self.keep(solution);
         }
     }
 

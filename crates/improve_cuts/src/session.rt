@@ -1,20 +1,20 @@
 // The desk of a search: what it works on, and how it stands.
-ghost use Rattle.std.specs.Prelude.{◌≡◌, ◌<◌, true, None, IfOk, OnOk, ◌⊎◌};
+ghost use Rattle.std.specs.Prelude.{◌≡◌, ◌<◌, ◌≤◌, true, None, IfOk, OnOk, ◌⊎◌};
 ghost use Rattle.cdcl_order.specs.Budgets.{left_of};
 ghost use Rattle.cuts_solver.specs.Solving.{instance_of};
 ghost use Rattle.improve.specs.Improving.{IsSolution};
 ghost use Rattle.improve.specs.Progress.{CanFail};
 ghost use Rattle.improve.specs.Standing.{AreFeasible};
-ghost use Rattle.improve_cuts.specs.Sessions.{LeadsTo, cost_of, same_prop};
+ghost use Rattle.improve_cuts.specs.Sessions.{HasCome, LeadsTo, cost_of, same_prop};
 
-use crate::parts::{cost_in, last_output, spend_to};
+use crate::parts::{cost_in, last_output, raised_by, spend_to};
 use crate::walks::Walks;
 use bound::weighted::weighted_formula;
 use cdcl::assumptions::Assumptions;
 use cdcl::budget::Budget;
 use cdcl::guide::Guide;
 use cnf::types::{Formula, Instance, Lit};
-use cuts_cores::desk::{Descent, Desk, DeskFault, Trial, Walked};
+use cuts_cores::desk::{Descent, Desk, DeskFault, Trial, Walked, Way};
 use cuts_solver::solver::{Assumed, CutsSolver, SolverEnd};
 use forms::state::Forms;
 use forms::types::NamedFact;
@@ -41,7 +41,11 @@ pub struct Session<'i, 's, 'b, 'p, 'k, 'm, 'w, W: Write, T: Progress, K: Watch> 
     pub watch: &'k mut K,
     /// The cheapest solution that was met, if any was.
     pub best: &'m mut Option<Solution>,
-    /// How many counts and groups it has made, up to 2^64 - 1.
+    /// What lines before this search have proved that no solution costs less than.
+    pub proved: u64,
+    /// About how many clauses were learned or cut by lines before this search.
+    pub learned: u64,
+    /// How many counts and groups there are, up to 2^64 - 1.
     pub counts: u64,
     /// Its local searches.
     pub walks: &'w mut Walks,
@@ -95,7 +99,7 @@ impl<'i, 's, 'b, 'p, 'k, 'm, 'w, W: Write + Drop, T: Progress, K: Watch> Session
     }
 
     /// Keeps a cheaper solution: it is shown, told and paid for, and cuts hold for what it costs.
-    fn keep(&mut self, solution: Solution) -> Result<(), DeskFault>
+    pub fn keep(&mut self, solution: Solution) -> Result<(), DeskFault>
         requires solution { IsSolution self.old.instance.now solution.bits.items solution.cost }
         requires cheaper { solution.cost < cost_of self.old.best.now }
         requires left { 0 < left_of self.old.budget.now }
@@ -103,6 +107,26 @@ impl<'i, 's, 'b, 'p, 'k, 'm, 'w, W: Write + Drop, T: Progress, K: Watch> Session
         ensures follows { (first : _)
             → ⟦<Session<'i, 's, 'b, 'p, 'k, 'm, 'w, W, T, K> as Desk>⟧.follows first self.old
             → ⟦<Session<'i, 's, 'b, 'p, 'k, 'm, 'w, W, T, K> as Desk>⟧.follows first self.new }
+        ensures first { self.old.best.now ≡ None → solution.cost ≤ self.old.solver.now.log.cost
+            → HasCome self.old.instance.now
+            (record {
+              solver = self.old.solver.now;
+              budget = self.old.budget.now;
+              telling = T.state self.old.progress.now;
+              seen = K.seen self.old.watch.now;
+              waived = K.waived self.old.watch.now;
+              best = self.old.best.now;
+              fault = self.old.fault;
+            })
+            (record {
+              solver = self.new.solver.now;
+              budget = self.new.budget.now;
+              telling = T.state self.new.progress.now;
+              seen = K.seen self.new.watch.now;
+              waived = K.waived self.new.watch.now;
+              best = self.new.best.now;
+              fault = self.new.fault;
+            }) }
     {
         self.budget.count_answer();
         if tell(self.instance, self.progress, self.watch, &solution).is_err() {
@@ -172,12 +196,16 @@ impl<'i, 's, 'b, 'p, 'k, 'm, 'w, W: Write + Drop, T: Progress, K: Watch> Desk
         self.best.is_some()
     }
 
+    fn proved(&self) -> u64 {
+        self.proved
+    }
+
     fn size(&self) -> u64 {
         self.walks.size
     }
 
     fn learned(&self) -> u64 {
-        self.budget.learned()
+        self.learned.saturating_add(self.budget.learned())
     }
 
     fn propagations(&self) -> u64 {
@@ -340,13 +368,14 @@ impl<'i, 's, 'b, 'p, 'k, 'm, 'w, W: Write + Drop, T: Progress, K: Watch> Desk
         }
     }
 
-    fn bound(&mut self, lower: u64) -> Result<bool, DeskFault> {
+    fn bound(&mut self, lower: u64, way: Way) -> Result<bool, DeskFault> {
         if let Some(fault) = self.fault {
             return Err(fault);
         }
         match self.solver.bound(lower) {
             Ok(true) => {
-                self.watch.raised(lower);
+                let bound = raised_by(self.solver.forms(), lower, way);
+                self.watch.raised(bound);
                 Ok(true)
             }
             Ok(false) => Ok(false),
