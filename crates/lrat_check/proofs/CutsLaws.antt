@@ -29,20 +29,14 @@ module _ (text answer proof : List ℕ) (p : Problem) (reads : Reads text p) whe
       → said_cuts_verdict p r proof ≡ verdict_by_cuts text answer proof
   said_by_cuts r e = let u = (reading_is_right text p).0 reads in rw (u, e) refl
 
--- what is left of them
-pub shows_more_by_cuts : (left : CutsLeft) (P Q : Type 0) → (P → Q) → ShowsByCuts left P
-    → ShowsByCuts left Q
-shows_more_by_cuts (Nothing v) P Q f h = λ y. f (h y)
-shows_more_by_cuts (Bound p c) P Q f h = λ u. f (h u)
-shows_more_by_cuts (NoSolution p) P Q f h = λ u. f (h u)
+-- what is left of what is said
+pub bound_shows : (left : CutsLeft) (p : Problem) (c : Cost) (P : Type 0) → left ≡ Bound c
+    → ShowsByCuts p left P → CostsAtLeast p c.cost → P
+bound_shows left p c P e h = subst (λ l. ShowsByCuts p l P) e h
 
-pub bound_shows : (left : CutsLeft) (p : Problem) (c : Cost) (P : Type 0) → left ≡ Bound p c
-    → ShowsByCuts left P → CostsAtLeast p c.cost → P
-bound_shows left p c P e h = subst (λ l. ShowsByCuts l P) e h
-
-pub none_shows : (left : CutsLeft) (p : Problem) (P : Type 0) → left ≡ NoSolution p
-    → ShowsByCuts left P → CostsAtLeast p NUMBER_LIMIT → P
-none_shows left p P e h = subst (λ l. ShowsByCuts l P) e h
+pub none_shows : (left : CutsLeft) (p : Problem) (P : Type 0) → left ≡ NoSolution
+    → ShowsByCuts p left P → CostsAtLeast p NUMBER_LIMIT → P
+none_shows left p P e h = subst (λ l. ShowsByCuts p l P) e h
 
 -- no solution costs 2^62
 pub none_by : (p : Problem) → IsInstance p → CostsAtLeast p NUMBER_LIMIT → IsInconsistent p

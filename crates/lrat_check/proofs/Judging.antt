@@ -58,15 +58,6 @@ module _ (profile : Profile) (p : Problem) (a : ReadReport) (proof : List ℕ) w
       (λ v w yes. rw e (optimal_by profile p s.cost.cost s.bits.items says
       (subst (λ g. IsUnsatisfiable g.clauses) is (w yes)) has)) h
 
-  pub unsat_verdict : a.said ≡ Unsat → (f : Cnf) → f ≡ hard_cnf p
-      → {E : Type 0} (result : Result Verdict E)
-      → IfOk result (λ v. v ≡ proof_verdict f.clauses proof)
-      → IfOk result (λ v. v ≡ said_verdict profile p (reported a) proof)
-  unsat_verdict e f is {E} result h =
-      let said : said_verdict profile p (reported a) proof ≡ proof_verdict (hard_cnf p).clauses
-      proof = rw e refl in
-      IfOk-weaker result _ _ (λ v w. w ∙ ap (λ g. proof_verdict g.clauses proof) is ∙ sym said) h
-
   pub unsat_sound : a.said ≡ Unsat
       → ((t : Assignment) → All (Satisfies t) (hard_cnf p).clauses ↔ IsFeasible p t)
       → (f : Cnf) → f ≡ hard_cnf p → {E : Type 0} (result : Result Verdict E)

@@ -24,16 +24,16 @@ verdict_by_cuts text result proof =
     verdict_read text result (λ p r. said_cuts_verdict p r proof)
 
 -- the verdict with this certificate, from what is left to check
-abbrev pub cuts_verdict_left : CutsLeft → List ℕ → Verdict
-cuts_verdict_left (Nothing v) proof = v
-cuts_verdict_left (Bound p c) proof = cuts_verdict (Some c.cost) p proof
-cuts_verdict_left (NoSolution p) proof = cuts_verdict (Some NUMBER_LIMIT) p proof
+abbrev pub cuts_verdict_left : Problem → CutsLeft → List ℕ → Verdict
+cuts_verdict_left p (Nothing v) proof = v
+cuts_verdict_left p (Bound c) proof = cuts_verdict (Some c.cost) p proof
+cuts_verdict_left p NoSolution proof = cuts_verdict (Some NUMBER_LIMIT) p proof
 
 -- a yes shows it, or that nothing costs less
-abbrev pub ShowsByCuts : CutsLeft → Type 0 → Type 0
-ShowsByCuts (Nothing v) P = v ≡ Yes → P
-ShowsByCuts (Bound p c) P = CostsAtLeast p c.cost → P
-ShowsByCuts (NoSolution p) P = CostsAtLeast p NUMBER_LIMIT → P
+abbrev pub ShowsByCuts : Problem → CutsLeft → Type 0 → Type 0
+ShowsByCuts p (Nothing v) P = v ≡ Yes → P
+ShowsByCuts p (Bound c) P = CostsAtLeast p c.cost → P
+ShowsByCuts p NoSolution P = CostsAtLeast p NUMBER_LIMIT → P
 
 -- the verdict is that on some bytes that a reader gave, and on all of its bytes, where they are
 -- known

@@ -21,12 +21,12 @@ use std::io::Read;
 use wcnf::faults::FaultKind;
 use wcnf::reading::read;
 
-// The texts but the proof.
+/// What a text and an answer read as.
 #[derive(Drop)]
-pub(crate) enum Texts {
-    // The first fault, whatever the proof is.
+pub enum Texts {
+    /// Nothing, since one is faulty: this is the verdict, whatever the certificate is.
     Refused(Verdict),
-    // What they read as.
+    /// This instance, and this result.
     Read(Instance, Report),
 }
 
@@ -140,6 +140,61 @@ pub fn check_from_as<R: Read>(
     }
 }
 
+/// As `check_from_as`, of texts that were read. They stay as they are, so that one certificate
+/// after another can be checked with them.
+///
+/// # Errors
+///
+/// Those of `check_from`.
+pub fn check_texts_as<R: Read>(
+    texts: &Texts,
+    proof: &mut R,
+    profile: Profile,
+) -> Result<Verdict, CheckFault>
+    ensures verdict { (text answer : List ℕ) → AreRead text answer texts.now
+        → IfOk result (λ v. IfSome (R.remaining proof.old)
+        (λ bytes. v ≡ verdict_as profile text answer bytes)) }
+    ensures yes { (text answer : List ℕ) → AreRead text answer texts.now
+        → IfOk result (λ v. IfSome (R.remaining proof.old)
+        (λ bytes. (v ≡ Verdict.Yes) ↔ ChecksAs profile text answer bytes)) }
+    ensures stops { (text answer : List ℕ) → AreRead text answer texts.now
+        → OnOk result (StopsInTime (verdict_as profile text answer)
+        (R.remaining proof.old) (R.remaining proof.new)) }
+    ensures sound { (text answer : List ℕ) → AreRead text answer texts.now
+        → IfOk result (λ v. v ≡ Verdict.Yes → IsTrueResult text answer) }
+{
+    match texts {
+        Texts::Refused(verdict) => Ok(*verdict),
+        Texts::Read(instance, report) => check_read_as(instance, report, proof, profile),
+    }
+}
+
+/// As `check_texts_as`, of an instance and a result.
+///
+/// # Errors
+///
+/// Those of `check_from`.
+pub fn check_read_as<R: Read>(
+    instance: &Instance,
+    report: &Report,
+    proof: &mut R,
+    profile: Profile,
+) -> Result<Verdict, CheckFault>
+    ensures verdict { IfOk result (λ v. IfSome (R.remaining proof.old)
+        (λ bytes. v ≡ said_verdict profile instance.now (reported report.now) bytes)) }
+    ensures stops { OnOk result (StopsInTime
+        (said_verdict profile instance.now (reported report.now))
+        (R.remaining proof.old) (R.remaining proof.new)) }
+    ensures sound { IfOk result
+        (λ v. v ≡ Verdict.Yes → IsTrueOf instance.now (reported report.now).said) }
+{
+    let left = read_claim(instance, report, profile)?;
+    match left {
+        Left::Nothing(verdict) => Ok(verdict),
+        Left::Proof(formula) => check_stream(formula, proof),
+    }
+}
+
 // What is left to check of the texts, before a byte of the proof is read.
 fn read_left(
     alloc: Global,
@@ -154,12 +209,15 @@ fn read_left(
     let texts = read_texts(alloc, text, answer)?;
     match texts {
         Texts::Refused(verdict) => Ok(Left::Nothing(verdict)),
-        Texts::Read(instance, report) => read_claim(instance, &report, profile),
+        Texts::Read(instance, report) => read_claim(&instance, &report, profile),
     }
 }
 
-// The texts as they read, or the first fault of theirs.
-pub(crate) fn read_texts(alloc: Global, text: &[u8], answer: &[u8]) -> Result<Texts, AllocError>
+/// The instance and the result that these texts read as, or the verdict on the first fault of
+/// theirs.
+///
+/// An AllocError comes only where memory was refused.
+pub fn read_texts(alloc: Global, text: &[u8], answer: &[u8]) -> Result<Texts, AllocError>
     ensures { IfOk result (λ texts. AreRead text.now answer.now texts) }
 {
     let instance = match read(alloc, text) {
@@ -176,26 +234,26 @@ pub(crate) fn read_texts(alloc: Global, text: &[u8], answer: &[u8]) -> Result<Te
 
 // What is left of what was said of an instance. The bits come first, since they cost the least to
 // check.
-fn read_claim(instance: Instance, report: &Report, profile: Profile) -> Result<Left, AllocError>
+fn read_claim(instance: &Instance, report: &Report, profile: Profile) -> Result<Left, AllocError>
     ensures verdict { IfOk result (λ left. (proof : List ℕ)
-        → verdict_left left proof ≡ said_verdict profile instance (reported report.now) proof) }
+        → verdict_left left proof ≡ said_verdict profile instance.now (reported report.now) proof) }
     ensures sound { IfOk result
-        (λ left. Shows left (IsTrueOf instance (reported report.now).said)) }
+        (λ left. Shows left (IsTrueOf instance.now (reported report.now).said)) }
 {
     match &report.said {
-        Said::Optimum(solution) => match solution_fault(&instance, solution) {
+        Said::Optimum(solution) => match solution_fault(instance, solution) {
             Some(refused) => Ok(Left::Nothing(refused)),
             None => {
-                let formula = formula_as(&instance, solution.cost.cost, profile)?;
+                let formula = formula_as(instance, solution.cost.cost, profile)?;
                 Ok(Left::Proof(formula))
             }
         },
-        Said::Sat(solution) => match solution_fault(&instance, solution) {
+        Said::Sat(solution) => match solution_fault(instance, solution) {
             Some(refused) => Ok(Left::Nothing(refused)),
             None => Ok(Left::Nothing(refuse_status(report))),
         },
         Said::Unsat => {
-            let formula = hard_formula(&instance)?;
+            let formula = hard_formula(instance)?;
             Ok(Left::Proof(formula))
         }
         Said::Limit => Ok(Left::Nothing(refuse_status(report))),

@@ -8,6 +8,7 @@ ghost use Rattle.lrat_cuts.specs.Verdict.{cuts_verdict};
 ghost use Rattle.lrat_check.specs.Checks.{CostsAtLeast, IsTrueOf, IsTrueResult};
 ghost use Rattle.lrat_check.specs.Cuts.{IsJudgedByCuts, ShowsByCuts, cuts_verdict_left};
 ghost use Rattle.lrat_check.specs.Cuts.{said_cuts_verdict, verdict_by_cuts};
+ghost use Rattle.lrat_check.specs.Left.{AreRead};
 
 use crate::checking::{Texts, read_texts, refuse_status, solution_fault};
 use crate::verdicts::{CheckFault, Verdict};
@@ -16,18 +17,18 @@ use cnf::types::Instance;
 use lrat_cuts::pieces::CutsChecker;
 use lrat_cuts::streams::judge;
 use lrat_result::report::{Cost, Report, Said};
-use std::alloc::{AllocError, Global};
+use std::alloc::Global;
 use std::io::Read;
 
-// What is left to check once the texts but the proof were read.
-#[derive(Drop)]
+// What is left to check of what was said of an instance.
+#[derive(Clone, Copy, Drop)]
 enum CutsLeft {
     // Nothing: the verdict stands.
     Nothing(Verdict),
     // A proof that nothing costs less.
-    Bound(Instance, Cost),
+    Bound(Cost),
     // A proof that there is no solution.
-    NoSolution(Instance),
+    NoSolution,
 }
 
 /// Checks what a solver answered on an instance, as `checking::check_from` does, where the proof is
@@ -50,45 +51,66 @@ pub fn check_cuts_from<R: Read>(
         (λ bytes. v ≡ verdict_by_cuts text.now answer.now bytes)) }
     ensures sound { IfOk result (λ v. v ≡ Verdict.Yes → IsTrueResult text.now answer.now) }
 {
-    let left = read_left(alloc, text, answer)?;
-    match left {
-        CutsLeft::Nothing(verdict) => Ok(verdict),
-        CutsLeft::Bound(instance, cost) => check_stream(&instance, cost.cost, proof),
-        CutsLeft::NoSolution(instance) => check_stream(&instance, NUMBER_LIMIT, proof),
+    let texts = read_texts(alloc, text, answer)?;
+    check_cuts_texts(&texts, proof)
+}
+
+/// As `check_cuts_from`, of texts that were read. They stay as they are, so that one certificate
+/// after another can be checked with them.
+///
+/// # Errors
+///
+/// Those of `check_cuts_from`.
+pub fn check_cuts_texts<R: Read>(texts: &Texts, proof: &mut R) -> Result<Verdict, CheckFault>
+    ensures verdict { (text answer : List ℕ) → AreRead text answer texts.now
+        → IfOk result (λ v. IfSome (R.remaining proof.old)
+        (λ bytes. v ≡ verdict_by_cuts text answer bytes)) }
+    ensures sound { (text answer : List ℕ) → AreRead text answer texts.now
+        → IfOk result (λ v. v ≡ Verdict.Yes → IsTrueResult text answer) }
+{
+    match texts {
+        Texts::Refused(verdict) => Ok(*verdict),
+        Texts::Read(instance, report) => check_cuts_read(instance, report, proof),
     }
 }
 
-// What is left to check of the texts, before a byte of the proof is read.
-fn read_left(alloc: Global, text: &[u8], answer: &[u8]) -> Result<CutsLeft, AllocError>
-    ensures verdict { IfOk result (λ left. (proof : List ℕ)
-        → cuts_verdict_left left proof ≡ verdict_by_cuts text.now answer.now proof) }
-    ensures sound { IfOk result (λ left. ShowsByCuts left (IsTrueResult text.now answer.now)) }
+// As `check_cuts_texts`, of an instance and a result.
+fn check_cuts_read<R: Read>(
+    instance: &Instance,
+    report: &Report,
+    proof: &mut R,
+) -> Result<Verdict, CheckFault>
+    ensures verdict { IfOk result (λ v. IfSome (R.remaining proof.old)
+        (λ bytes. v ≡ said_cuts_verdict instance.now (reported report.now) bytes)) }
+    ensures sound { IfOk result
+        (λ v. v ≡ Verdict.Yes → IsTrueOf instance.now (reported report.now).said) }
 {
-    let texts = read_texts(alloc, text, answer)?;
-    match texts {
-        Texts::Refused(verdict) => Ok(CutsLeft::Nothing(verdict)),
-        Texts::Read(instance, report) => Ok(read_claim(instance, &report)),
+    match read_claim(instance, report) {
+        CutsLeft::Nothing(verdict) => Ok(verdict),
+        CutsLeft::Bound(cost) => check_stream(instance, cost.cost, proof),
+        CutsLeft::NoSolution => check_stream(instance, NUMBER_LIMIT, proof),
     }
 }
 
 // What is left of what was said of an instance. The bits come first, since they cost the least to
 // check.
-fn read_claim(instance: Instance, report: &Report) -> CutsLeft
-    ensures verdict { (proof : List ℕ)
-        → cuts_verdict_left result proof ≡ said_cuts_verdict instance (reported report.now) proof }
-    ensures sound { ShowsByCuts result (IsTrueOf instance (reported report.now).said) }
+fn read_claim(instance: &Instance, report: &Report) -> CutsLeft
+    ensures verdict { (proof : List ℕ) → cuts_verdict_left instance.now result proof
+        ≡ said_cuts_verdict instance.now (reported report.now) proof }
+    ensures sound { ShowsByCuts instance.now result
+        (IsTrueOf instance.now (reported report.now).said) }
 {
     instance.limits();
     match &report.said {
-        Said::Optimum(solution) => match solution_fault(&instance, solution) {
+        Said::Optimum(solution) => match solution_fault(instance, solution) {
             Some(refused) => CutsLeft::Nothing(refused),
-            None => CutsLeft::Bound(instance, solution.cost),
+            None => CutsLeft::Bound(solution.cost),
         },
-        Said::Sat(solution) => match solution_fault(&instance, solution) {
+        Said::Sat(solution) => match solution_fault(instance, solution) {
             Some(refused) => CutsLeft::Nothing(refused),
             None => CutsLeft::Nothing(refuse_status(report)),
         },
-        Said::Unsat => CutsLeft::NoSolution(instance),
+        Said::Unsat => CutsLeft::NoSolution,
         Said::Limit => CutsLeft::Nothing(refuse_status(report)),
     }
 }

@@ -2,32 +2,25 @@ use Rattle.std.proofs.Common.{ℕ, [], refl}
 use Rattle.std.specs.Prelude.{Ok}
 use Rattle.lrat_machine.specs.declared.verdicts.Verdict.TheVariants.{Yes}
 use Rattle.lrat_check.specs.Verdict.{proof_verdict}
-use Rattle.lrat_check.proofs.Judging.{optimum_sound, optimum_verdict, unsat_sound, unsat_verdict}
+use Rattle.lrat_check.proofs.Judging.{optimum_sound, optimum_verdict, unsat_sound}
 use Rattle.lrat_check.proofs.checking.read_claim.Goals as goal
 
-pub returns-in-Optimum-clause-verdict : goal.returns-in-Optimum-clause-verdict
-returns-in-Optimum-clause-verdict c =
+pub returns-in_ok-formula-in-None-clause-verdict : goal.returns-in_ok-formula-in-None-clause-verdict
+returns-in_ok-formula-in-None-clause-verdict c =
     let f = c.in_ok-formula-in-None in
-    λ proof. optimum_verdict c.args.profile c.args.instance c.args.report.now proof
+    λ proof. optimum_verdict c.args.profile c.args.instance.now c.args.report.now proof
     c.in-Optimum.solution c.in-Optimum.is c.in-None.ensures.fault
     f.formula f.ensures.clauses {E = ℕ} (Ok (proof_verdict f.formula.clauses proof)) refl
 
-pub returns-in-Unsat-clause-verdict : goal.returns-in-Unsat-clause-verdict
-returns-in-Unsat-clause-verdict c =
-    let f = c.in_ok-formula-in-Unsat in
-    λ proof. unsat_verdict c.args.profile c.args.instance c.args.report.now proof
-    c.in-Unsat.is f.formula f.ensures.clauses {E = ℕ}
-    (Ok (proof_verdict f.formula.clauses proof)) refl
-
-pub returns-in-Optimum-clause-sound : goal.returns-in-Optimum-clause-sound
-returns-in-Optimum-clause-sound c =
+pub returns-in_ok-formula-in-None-clause-sound : goal.returns-in_ok-formula-in-None-clause-sound
+returns-in_ok-formula-in-None-clause-sound c =
     let f = c.in_ok-formula-in-None in
-    λ none. optimum_sound c.args.profile c.args.instance c.args.report.now []
+    λ none. optimum_sound c.args.profile c.args.instance.now c.args.report.now []
     c.in-Optimum.solution c.in-Optimum.is (c.in-None.ensures.right refl) f.ensures.cheaper
     f.formula f.ensures.clauses {E = ℕ} (Ok Yes) (λ _. none) refl
 
-pub returns-in-Unsat-clause-sound : goal.returns-in-Unsat-clause-sound
-returns-in-Unsat-clause-sound c =
+pub returns-in_ok-formula-in-Unsat-clause-sound : goal.returns-in_ok-formula-in-Unsat-clause-sound
+returns-in_ok-formula-in-Unsat-clause-sound c =
     let f = c.in_ok-formula-in-Unsat in
-    λ none. unsat_sound c.args.profile c.args.instance c.args.report.now [] c.in-Unsat.is
+    λ none. unsat_sound c.args.profile c.args.instance.now c.args.report.now [] c.in-Unsat.is
     f.ensures.feasible f.formula f.ensures.clauses {E = ℕ} (Ok Yes) (λ _. none) refl

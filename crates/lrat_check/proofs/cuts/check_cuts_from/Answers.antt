@@ -1,15 +1,11 @@
+-- The texts are those that were read.
 use Rattle.std.proofs.lemmas.Result.{IfOk-weaker}
-use Rattle.lrat_check.proofs.CutsLaws.{bound_shows, none_shows}
 use Rattle.lrat_check.proofs.cuts.check_cuts_from.Goals as goal
 
-pub returns-in-Bound-clause-sound : goal.returns-in-Bound-clause-sound
-returns-in-Bound-clause-sound g c =
-    IfOk-weaker c.check_stream.result _ _
-    (λ v h y. bound_shows c.in_ok-left.left c.in-Bound.instance c.in-Bound.cost _ c.in-Bound.is
-    c.in_ok-left.ensures.sound (h y)) c.check_stream.ensures.sound
+pub returns-clause-verdict : goal.returns-clause-verdict
+returns-clause-verdict g c =
+    c.check_cuts_texts.ensures.verdict c.args.text.now c.args.answer.now c.in_ok-texts.ensures
 
-pub returns-in-NoSolution-clause-sound : goal.returns-in-NoSolution-clause-sound
-returns-in-NoSolution-clause-sound g c =
-    IfOk-weaker c.check_stream-in-NoSolution.result _ _
-    (λ v h y. none_shows c.in_ok-left.left c.in-NoSolution.instance _ c.in-NoSolution.is
-    c.in_ok-left.ensures.sound (h y)) c.check_stream-in-NoSolution.ensures.sound
+pub returns-clause-sound : goal.returns-clause-sound
+returns-clause-sound g c =
+    c.check_cuts_texts.ensures.sound c.args.text.now c.args.answer.now c.in_ok-texts.ensures
