@@ -1,4 +1,5 @@
 mod Comments
+mod CountedLines
 mod Counts
 mod Explained
 mod Facts

@@ -30,6 +30,12 @@ pub record JudgesTexts (text answer : List ℕ) (judgement : Judgement) : Type 0
   pub read : AreRead text answer problem report
   pub judged : IsJudged problem report.said judgement
 
+-- what a text says as a result, on this instance
+pub record JudgesAnswer (p : Problem) (answer : List ℕ) (judgement : Judgement) : Type 0 where
+  pub report : Report
+  pub read : report_of answer ≡ Ok report
+  pub judged : IsJudged p report.said judgement
+
 -- the bits of what is said
 abbrev pub bits_said : Said → Option (List Bool)
 bits_said (OptimumFound c bits) = Some bits

@@ -3,6 +3,7 @@ pub mod Contradicting
 pub mod Explained
 pub mod Explanation
 pub mod Falsified
+pub mod Holdings
 pub mod Judging
 pub mod Mending
 pub mod Names

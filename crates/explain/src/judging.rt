@@ -2,8 +2,8 @@
 ghost use Rattle.std.specs.Prelude.{IfOk, IfErr, option_map};
 ghost use Rattle.lrat_result.specs.Report.{reported};
 ghost use Rattle.explain.specs.Explained.{IsAnswerFault};
-ghost use Rattle.explain.specs.Judging.{IsJudged, IsJudgedSolution, IsReadFault, JudgesTexts};
-ghost use Rattle.explain.specs.Judging.{TellsBits};
+ghost use Rattle.explain.specs.Judging.{IsJudged, IsJudgedSolution, IsReadFault, JudgesAnswer};
+ghost use Rattle.explain.specs.Judging.{JudgesTexts, TellsBits};
 
 use crate::explaining::{ExplainFault, is_solution, read_answer, read_text};
 use cnf::types::Instance;
@@ -36,6 +36,23 @@ pub fn judge(alloc: Global, text: &[u8], answer: &[u8]) -> Result<Judgement, Exp
     let instance = read_text(alloc, text)?;
     let report = read_answer(alloc, answer)?;
     Ok(judge_report(&instance, &report))
+}
+
+/// As `judge`, of an instance that was read.
+///
+/// # Errors
+///
+/// `Result` and `Memory`, as `write_explanation`.
+pub fn judge_answer(
+    alloc: Global,
+    instance: &Instance,
+    answer: &[u8],
+) -> Result<Judgement, ExplainFault>
+    ensures ok { IfOk result (λ judgement. JudgesAnswer instance.now answer.now judgement) }
+    ensures fault { IfErr result (λ fault. IsAnswerFault answer.now fault) }
+{
+    let said = read_answer(alloc, answer)?;
+    Ok(judge_report(instance, &said))
 }
 
 /// The bits that a result tells; none where it tells none.

@@ -6,6 +6,7 @@ mod clause_lines;
 pub mod contradicting;
 pub mod explaining;
 pub mod falsified;
+pub mod holdings;
 pub mod judging;
 mod meanings;
 pub mod mending;
