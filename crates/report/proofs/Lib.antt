@@ -6,5 +6,8 @@ pub mod Answered
 pub mod Ends
 pub mod SeenAs
 pub mod SearchedByCuts
+pub mod Judgings
+pub mod AtOnce
+pub mod CutsTexts
 pub mod CutsEnds
 mod BestTexts

@@ -8,7 +8,6 @@ use Rattle.cnf.specs.Instance.{IsInstance}
 use Rattle.text.specs.Writing.{AppendsPart}
 use Rattle.cdcl_order.specs.Budgets.{BudgetState}
 use Rattle.cdcl_order.specs.Watch.{Sight}
-use Rattle.cuts_solver.specs.Solving.{SolverState}
 use Rattle.improve.specs.declared.found.ImproveFault.{ImproveFault}
 use Rattle.improve.specs.declared.found.ImproveFault.TheVariants.{Memory as SearchMemory, Progress}
 use Rattle.improve.specs.Progress.{Telling}
@@ -24,16 +23,18 @@ use Rattle.report.specs.ByCuts.{HasTriedLines, SearchesByCuts, IsShownByCuts, cu
 use Rattle.report.specs.ByCuts.{memory_fault}
 use Rattle.report.proofs.Searched.{costs_small}
 
-module _ (p : Problem) (s : SolverState) (limits : IsInstance p) (old new : Telling)
+module _ (p : Problem) (limit : ℕ) (refuted : Bool) (held : ℕ) (limits : IsInstance p)
+    (old new : Telling)
     (budget left : BudgetState) (out out' : Option (List ℕ)) (no_memory : Bool)
     (none : old.told ≡ []) (fresh : old.failures ≡ 0)
     (tells : Tells out out' new.told new.failed no_memory new.failures) where
   told_is : (result : Result CutsFound ImproveFault)
-      (i : FindsByCuts p result s old new budget left) → new.told ≡ i.told
+      (i : FindsByCuts p limit result refuted held old new budget left) → new.told ≡ i.told
   told_is result i = i.tells ∙ ap (λ z. z ++ i.told) none
 
-  search_found : (found : CutsFound) → FindsByCuts p (Ok found) s old new budget left
-      → SearchesByCuts p (Ok found) s out out' budget left
+  search_found : (found : CutsFound)
+      → FindsByCuts p limit (Ok found) refuted held old new budget left
+      → SearchesByCuts p limit (Ok found) refuted held out out' budget left
   search_found found i =
       let same : new.told ≡ i.tried = told_is (Ok found) i ∙ sym i.tells_of in
       let ended : new.failures ≡ 0 = i.no_failure (λ e. absurd (cc)) ∙ fresh in
@@ -43,15 +44,15 @@ module _ (p : Problem) (s : SolverState) (limits : IsInstance p) (old new : Tell
         honest = i.honest;
         small = costs_small p i.tried limits i.honest;
         lines = subst (λ z. Appends out out' (cost_lines z)) same (tells.all_told ended);
-        found = subst (λ z. IsCutsFound p z found s left) (sym i.tells_of) i.found;
+        found = subst (λ z. IsCutsFound p limit z found refuted held left) (sym i.tells_of) i.found;
         same_limit = i.same_limit;
         answers = i.answers ∙ ap (λ z. budget.answers + length z) (sym i.tells_of);
       }
 
   -- where something was found, what was shown is what was told
   shown_found : (found : CutsFound) (a b : Option (List Sight))
-      → FindsByCuts p (Ok found) s old new budget left → AreShown p old new a b
-      → IsShownByCuts p found s out out' left a b
+      → FindsByCuts p limit (Ok found) refuted held old new budget left → AreShown p old new a b
+      → IsShownByCuts p limit found refuted held out out' left a b
   shown_found found a b i h =
       let same : new.failures ≡ old.failures = i.no_failure (λ e. absurd (cc)) in
       let costs = costs_shown h.solutions in
@@ -64,22 +65,22 @@ module _ (p : Problem) (s : SolverState) (limits : IsInstance p) (old new : Tell
         falling = subst AreFalling tried i.falling;
         small = costs_small p costs limits (subst (All (IsCostOfSome p)) tried i.honest);
         lines = subst (λ z. Appends out out' (cost_lines z)) told (tells.all_told (same ∙ fresh));
-        right = subst (λ z. IsCutsFound p z found s left) (sym (told_is (Ok found) i) ∙ told)
-            i.found;
+        right = subst (λ z. IsCutsFound p limit z found refuted held left)
+            (sym (told_is (Ok found) i) ∙ told) i.found;
       }
 
   pub search_shown : (result : Result CutsFound ImproveFault) (write_failed : Bool)
-      (a b : Option (List Sight)) → FindsByCuts p result s old new budget left
+      (a b : Option (List Sight)) → FindsByCuts p limit result refuted held old new budget left
       → AreShown p old new a b
       → IfOk (cuts_outcome result (fault_of_telling no_memory) write_failed)
-      (λ found. IsShownByCuts p found s out out' left a b)
+      (λ found. IsShownByCuts p limit found refuted held out out' left a b)
   search_shown (Ok found) w a b i h = shown_found found a b i h
   search_shown (Err SearchMemory) w a b i h = tt
   search_shown (Err Progress) w a b i h = tt
 
   search_fault : (fault : RunFault) (tried : List ℕ) → left.limit ≡ budget.limit → AreFalling tried
       → All (IsCostOfSome p) tried → HasTriedLines (Err fault) tried out out'
-      → SearchesByCuts p (Err fault) s out out' budget left
+      → SearchesByCuts p limit (Err fault) refuted held out out' budget left
   search_fault fault tried same falling honest lines = record {
     tried = tried;
     falling = falling;
@@ -92,23 +93,27 @@ module _ (p : Problem) (s : SolverState) (limits : IsInstance p) (old new : Tell
   }
 
   -- the lines are whole
-  tried_lines : FindsByCuts p (Err SearchMemory) s old new budget left → (write_failed : Bool)
-      → SearchesByCuts p (Err (memory_fault write_failed)) s out out' budget left
+  tried_lines : FindsByCuts p limit (Err SearchMemory) refuted held old new budget left
+      → (write_failed : Bool)
+      → SearchesByCuts p limit (Err (memory_fault write_failed)) refuted held out out' budget left
   tried_lines i w =
       let same : new.told ≡ i.tried = told_is (Err SearchMemory) i ∙ sym i.tells_of in
       let ended : new.failures ≡ 0 = i.no_failure (λ e. absurd (cc)) ∙ fresh in
       let lines : Appends out out' (cost_lines i.tried) =
       subst (λ z. Appends out out' (cost_lines z)) same (tells.all_told ended) in
-      elim w as (λ b. SearchesByCuts p (Err (memory_fault b)) s out out' budget left) [
+      elim w as (λ b. SearchesByCuts p limit (Err (memory_fault b)) refuted held out out' budget
+      left) [
         | true ↦ search_fault ProofOutput i.tried i.same_limit i.falling i.honest lines
         | false ↦ search_fault Memory i.tried i.same_limit i.falling i.honest lines
       ]
 
-  failed_once : (i : FindsByCuts p (Err Progress) s old new budget left) → new.failures ≡ 1
+  failed_once : (i : FindsByCuts p limit (Err Progress) refuted held old new budget left)
+      → new.failures ≡ 1
   failed_once i = i.progress refl ∙ ap (λ n. n + 1) fresh
 
-  search_refused : FindsByCuts p (Err Progress) s old new budget left → no_memory ≡ true
-      → SearchesByCuts p (Err Memory) s out out' budget left
+  search_refused : FindsByCuts p limit (Err Progress) refuted held old new budget left
+      → no_memory ≡ true
+      → SearchesByCuts p limit (Err Memory) refuted held out out' budget left
   search_refused i e =
       search_fault Memory i.told i.same_limit
       (told_fall (Err Progress) i.tried i.told new.failed i.tells_of i.falling)
@@ -116,8 +121,9 @@ module _ (p : Problem) (s : SolverState) (limits : IsInstance p) (old new : Tell
       (subst (λ z. Appends out out' (cost_lines z)) (told_is (Err Progress) i)
       (tells.refused (failed_once i) e))
 
-  search_broke : FindsByCuts p (Err Progress) s old new budget left → no_memory ≡ false
-      → SearchesByCuts p (Err Output) s out out' budget left
+  search_broke : FindsByCuts p limit (Err Progress) refuted held old new budget left
+      → no_memory ≡ false
+      → SearchesByCuts p limit (Err Output) refuted held out out' budget left
   search_broke i e =
       let t = i.tells_of in
       let same : new.told ++ t.last ∷ [] ≡ i.tried =
@@ -128,19 +134,19 @@ module _ (p : Problem) (s : SolverState) (limits : IsInstance p) (old new : Tell
         (t.last, (i.told, t.tried_is)),
       )
 
-  search_failed : FindsByCuts p (Err Progress) s old new budget left
-      → SearchesByCuts p (Err (fault_of_telling no_memory)) s out out' budget left
+  search_failed : FindsByCuts p limit (Err Progress) refuted held old new budget left
+      → SearchesByCuts p limit (Err (fault_of_telling no_memory)) refuted held out out' budget left
   search_failed i =
       elim no_memory as (λ b. no_memory ≡ b
-      → SearchesByCuts p (Err (fault_of_telling b)) s out out' budget left) [
+      → SearchesByCuts p limit (Err (fault_of_telling b)) refuted held out out' budget left) [
         | true ↦ λ e. search_refused i e
         | false ↦ λ e. search_broke i e
       ] refl
 
   pub search_ended : (result : Result CutsFound ImproveFault) (write_failed : Bool)
-      → FindsByCuts p result s old new budget left
-      → SearchesByCuts p (cuts_outcome result (fault_of_telling no_memory) write_failed) s
-      out out' budget left
+      → FindsByCuts p limit result refuted held old new budget left
+      → SearchesByCuts p limit (cuts_outcome result (fault_of_telling no_memory) write_failed)
+      refuted held out out' budget left
   search_ended (Ok found) w i = search_found found i
   search_ended (Err SearchMemory) w i = tried_lines i w
   search_ended (Err Progress) w i = search_failed i

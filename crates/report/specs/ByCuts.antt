@@ -17,7 +17,6 @@ use Rattle.lrat_cuts.specs.Verdict.{judged_text}
 use Rattle.lrat_result.specs.Result.{Said, FallsTo, Says, OptimumFound, Unsatisfiable}
 use Rattle.lrat_result.specs.Result.{Satisfiable, Unknown}
 use Rattle.lrat_check.specs.Cuts.{verdict_by_cuts}
-use Rattle.cuts_solver.specs.Solving.{SolverState, HasWritten, HasBegunToWrite}
 use Rattle.improve.specs.Improving.{AreFalling, EndsWith, IsCostOfSome, IsSolution}
 use Rattle.improve.specs.Watch.{better_of, costs_shown}
 use Rattle.improve.specs.declared.solutions.Solution.{Solution}
@@ -62,27 +61,39 @@ said_text Unsatisfiable = words_text (codes "s UNSATISFIABLE") []
 said_text (Satisfiable c bits) = words_text (codes "s SATISFIABLE\n" ++ bits_word bits) bits
 said_text Unknown = words_text (codes "s UNKNOWN") []
 
--- the cost for which cuts have to hold, where the result says this
-abbrev pub cost_held : Said → ℕ
-cost_held (OptimumFound c bits) = c
-cost_held Unsatisfiable = NUMBER_LIMIT
-cost_held (Satisfiable c bits) = c
-cost_held Unknown = NUMBER_LIMIT
+-- the cost for which cuts have to hold, where the result says this, and where they have held for
+-- the limit at the beginning
+abbrev pub cost_held_by : (limit : ℕ) → Said → ℕ
+cost_held_by limit (OptimumFound c bits) = c
+cost_held_by limit Unsatisfiable = NUMBER_LIMIT
+cost_held_by limit (Satisfiable c bits) = c
+cost_held_by limit Unknown = limit
 
--- all lines of the certificate are right, and where it is needed the last one adds the empty clause
-pub record IsRightFor (p : Problem) (said : Said) (proved : List ℕ) : Type 0 where
+-- at the beginning they hold in all solutions
+abbrev pub cost_held : Said → ℕ
+cost_held said = cost_held_by NUMBER_LIMIT said
+
+-- all lines of the certificate are right behind those in front of it, and where it is needed the
+-- last one adds the empty clause
+pub record IsRightBehind (front : List ℕ) (limit : ℕ) (p : Problem) (said : Said)
+    (proved : List ℕ) : Type 0 where
   pub left : CutsState
-  pub judged : judged_text (Some (cost_held said)) p proved ≡ Ok left
+  pub judged : judged_text (Some (cost_held_by limit said)) p (front ++ proved) ≡ Ok left
   pub ended : NeedsProof said → left.ended ≡ true
+
+-- nothing is in front of it
+abbrev pub IsRightFor : Problem → Said → List ℕ → Type 0
+IsRightFor p said proved = IsRightBehind [] NUMBER_LIMIT p said proved
 
 -- a checker says yes to text, result and certificate
 abbrev pub ChecksByCuts : Option (List ℕ) → List ℕ → List ℕ → Type 0
 ChecksByCuts text written proved =
     IfSome text (λ bytes. verdict_by_cuts bytes written proved ≡ Yes)
 
--- a run that ended with a status, and the bytes that it wrote
-pub record IsRunByCuts (text : Option (List ℕ)) (status : CutsStatus) (written proved : List ℕ)
-    (old new : BudgetState) : Type 0 where
+-- a run that ended with a status, and the bytes that it wrote: its certificate goes on behind these
+-- lines, whose cuts hold for the limit
+pub record IsRunBehind (front : List ℕ) (limit : ℕ) (text : Option (List ℕ)) (status : CutsStatus)
+    (written proved : List ℕ) (old new : BudgetState) : Type 0 where
   -- the text reads as this instance
   pub problem : Problem
   pub reads : IfSome text (λ bytes. Reads bytes problem)
@@ -96,20 +107,31 @@ pub record IsRunByCuts (text : Option (List ℕ)) (status : CutsStatus) (written
   pub honest : AreHonest text (told_in before said)
   pub true_answer : IsTrueOf problem said
   -- the certificate is right, and where the result needs it a checker finds it so
-  pub right : IsRightFor problem said proved
-  pub checked : NeedsProof said → ChecksByCuts text written proved
+  pub right : IsRightBehind front limit problem said proved
+  pub checked : NeedsProof said → ChecksByCuts text written (front ++ proved)
   -- the effort: where no certificate is needed, it is spent
   pub spent : (NeedsProof said → ⊥) → left_of new ≡ 0
   pub answers : new.answers ≡ old.answers + length (told_in before said)
 
+-- a run whose certificate begins
+abbrev pub IsRunByCuts : Option (List ℕ) → CutsStatus → List ℕ → List ℕ → BudgetState
+    → BudgetState → Type 0
+IsRunByCuts text status written proved old new =
+    IsRunBehind [] NUMBER_LIMIT text status written proved old new
+
 -- what stands after a run that ended so
-pub record EndsByCuts (text out out' proof proof' : Option (List ℕ)) (status : CutsStatus)
-    (old new : BudgetState) : Type 0 where
+pub record EndsBehind (front : List ℕ) (limit : ℕ) (text out out' proof proof' : Option (List ℕ))
+    (status : CutsStatus) (old new : BudgetState) : Type 0 where
   pub written : List ℕ
   pub proved : List ℕ
   pub out_grows : Appends out out' written
   pub proof_grows : Appends proof proof' proved
-  pub run : IsRunByCuts text status written proved old new
+  pub run : IsRunBehind front limit text status written proved old new
+
+abbrev pub EndsByCuts : Option (List ℕ) → Option (List ℕ) → Option (List ℕ) → Option (List ℕ)
+    → Option (List ℕ) → CutsStatus → BudgetState → BudgetState → Type 0
+EndsByCuts text out out' proof proof' status old new =
+    EndsBehind [] NUMBER_LIMIT text out out' proof proof' status old new
 
 -- a beginning of some text
 abbrev pub GrowsByPart : Option (List ℕ) → Option (List ℕ) → Type 0
@@ -121,16 +143,17 @@ pub record LeavesCosts (text out out' : Option (List ℕ)) : Type 0 where
   pub out_grows : Appends out out' (cost_lines costs)
   pub honest : AreHonest text costs
 
--- the certificate is right for the result, and a checker says yes where that needs it
-pub record IsWholeFor (text : Option (List ℕ)) (said : Said) (written : List ℕ)
-    (proof proof' : Option (List ℕ)) : Type 0 where
+-- the certificate is right for the result behind these lines, and a checker says yes where that
+-- needs it
+pub record IsWholeBehind (front : List ℕ) (text : Option (List ℕ)) (said : Said)
+    (written : List ℕ) (proof proof' : Option (List ℕ)) : Type 0 where
   pub proved : List ℕ
   pub proof_grows : Appends proof proof' proved
-  pub checked : NeedsProof said → ChecksByCuts text written proved
+  pub checked : NeedsProof said → ChecksByCuts text written (front ++ proved)
 
 -- A beginning of a result; past the o lines, the certificate that it needs is whole, or it is true
 -- without one. Its last cost may be one whose line was begun.
-pub record LeavesResultByCuts (text out out' proof proof' : Option (List ℕ))
+pub record LeavesResultBehind (front : List ℕ) (text out out' proof proof' : Option (List ℕ))
     (budget : BudgetState) : Type 0 where
   pub written : List ℕ
   pub out_grows : Appends out out' written
@@ -141,21 +164,27 @@ pub record LeavesResultByCuts (text out out' proof proof' : Option (List ℕ))
   pub honest : AreHonest text (told_in before said)
   pub begins : Begins written (result_text before said)
   pub proof_is_whole : length (cost_lines (told_in before said)) < length written
-      → IsWholeFor text said (result_text before said) proof proof'
+      → IsWholeBehind front text said (result_text before said) proof proof'
   pub limit : length (cost_lines (told_in before said)) < length written
       → IsTrueLimit text said budget
 
--- what stands after a fault, where the certificate's writer is still at hand
+-- what stands after a fault, where the certificate's writer is still at hand: what it has stands
+-- behind these lines
+abbrev pub LeavesBehind : List ℕ → RunFault → Option (List ℕ) → Option (List ℕ)
+    → Option (List ℕ) → Option (List ℕ) → Option (List ℕ) → BudgetState → Type 0
+LeavesBehind front (Read fault) text out out' proof proof' budget =
+    LeavesNothing text out out' proof proof' fault
+LeavesBehind front Memory text out out' proof proof' budget =
+    LeavesCosts text out out' × GrowsByPart proof proof'
+LeavesBehind front Output text out out' proof proof' budget =
+    LeavesResultBehind front text out out' proof proof' budget
+LeavesBehind front ProofOutput text out out' proof proof' budget =
+    LeavesCosts text out out' × GrowsByPart proof proof'
+
 abbrev pub LeavesByCuts : RunFault → Option (List ℕ) → Option (List ℕ) → Option (List ℕ)
     → Option (List ℕ) → Option (List ℕ) → BudgetState → Type 0
-LeavesByCuts (Read fault) text out out' proof proof' budget =
-    LeavesNothing text out out' proof proof' fault
-LeavesByCuts Memory text out out' proof proof' budget =
-    LeavesCosts text out out' × GrowsByPart proof proof'
-LeavesByCuts Output text out out' proof proof' budget =
-    LeavesResultByCuts text out out' proof proof' budget
-LeavesByCuts ProofOutput text out out' proof proof' budget =
-    LeavesCosts text out out' × GrowsByPart proof proof'
+LeavesByCuts fault text out out' proof proof' budget =
+    LeavesBehind [] fault text out out' proof proof' budget
 
 -- just the solutions were shown whose costs the result tells, each once, in their order, and then
 -- the end once, as the result says it
@@ -197,31 +226,33 @@ HasTriedLines (Err Output) tried out out' =
     AppendsPart out out' (cost_lines tried) × ((c : ℕ) × EndsWith tried c)
 HasTriedLines (Err (Read fault)) tried out out' = ⊥
 
--- what a search found, wrote and spent
-pub record SearchesByCuts (p : Problem) (result : Result CutsFound RunFault) (s : SolverState)
-    (out out' : Option (List ℕ)) (old new : BudgetState) : Type 0 where
+-- What a search found, wrote and spent. Cuts hold for a cost, and held for the limit at the
+-- beginning; the empty clause was added, or not.
+pub record SearchesByCuts (p : Problem) (limit : ℕ) (result : Result CutsFound RunFault)
+    (refuted : Bool) (held : ℕ) (out out' : Option (List ℕ)) (old new : BudgetState)
+    : Type 0 where
   pub tried : List ℕ
   pub falling : AreFalling tried
   pub honest : All (IsCostOfSome p) tried
   pub small : All (λ c. c < NUMBER_LIMIT) tried
   pub lines : HasTriedLines result tried out out'
-  pub found : IfOk result (λ found. IsCutsFound p tried found s new)
+  pub found : IfOk result (λ found. IsCutsFound p limit tried found refuted held new)
   -- the effort
   pub same_limit : new.limit ≡ old.limit
   pub answers : OnOk result (new.answers ≡ old.answers + length tried)
 
 -- Before this was found just these solutions were shown, each once, in their order. The writer has
 -- their costs.
-pub record IsShownByCuts (p : Problem) (found : CutsFound) (s : SolverState)
-    (out out' : Option (List ℕ)) (budget : BudgetState) (before after : Option (List Sight))
-    : Type 0 where
+pub record IsShownByCuts (p : Problem) (limit : ℕ) (found : CutsFound) (refuted : Bool)
+    (held : ℕ) (out out' : Option (List ℕ)) (budget : BudgetState)
+    (before after : Option (List Sight)) : Type 0 where
   pub solutions : List (ℕ × List Bool)
   pub each : All (λ s. IsSolution p s.1 s.0) solutions
   pub seen : after ≡ with_seen (map (better_of p) solutions) before
   pub falling : AreFalling (costs_shown solutions)
   pub small : All (λ c. c < NUMBER_LIMIT) (costs_shown solutions)
   pub lines : Appends out out' (cost_lines (costs_shown solutions))
-  pub right : IsCutsFound p (costs_shown solutions) found s budget
+  pub right : IsCutsFound p limit (costs_shown solutions) found refuted held budget
 
 -- what stands after the end, where the certificate has all its lines or not: it is flushed whole
 -- before the first byte of the end
@@ -240,17 +271,11 @@ pub record AnswersByCuts (whole : Bool) (said : Said) (out out' proof proof' : O
   pub out_grows : Appends out out' (said_text said)
   pub proof_kept : Keeps proof proof'
 
--- the end was written, after all lines of the solver
-pub record EndsSearch (s : SolverState) (said : Said) (out out' proof' : Option (List ℕ))
-    : Type 0 where
-  pub out_grows : Appends out out' (said_text said)
-  pub certificate : HasWritten s proof'
+-- cuts hold for this when it was found: for what the best solution costs, or as at the beginning
+abbrev pub held_by : (limit : ℕ) → Option Solution → ℕ
+held_by limit (Some b) = b.cost
+held_by limit None = limit
 
--- a beginning of the end, after all lines of the solver; or nothing of it
-abbrev pub LeavesSearch : RunFault → SolverState → Said → Option (List ℕ) → Option (List ℕ)
-    → Option (List ℕ) → Type 0
-LeavesSearch Output s said out out' proof' =
-    AppendsPart out out' (said_text said) × HasWritten s proof'
-LeavesSearch ProofOutput s said out out' proof' = Keeps out out' × HasBegunToWrite s proof'
-LeavesSearch Memory s said out out' proof' = ⊥
-LeavesSearch (Read fault) s said out out' proof' = ⊥
+abbrev pub held_for : (limit : ℕ) → Result CutsFound RunFault → ℕ
+held_for limit (Ok found) = held_by limit found.best
+held_for limit (Err fault) = limit

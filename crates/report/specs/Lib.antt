@@ -8,3 +8,4 @@ pub mod Running
 pub mod Best
 pub mod Seen
 pub mod ByCuts
+pub mod Earlier

@@ -5,10 +5,16 @@
 mod answering;
 pub mod best;
 pub mod by_cuts;
+pub mod command_line;
+pub mod earlier;
 pub mod fault;
 pub mod finding;
-pub mod options;
+mod help;
+mod notes;
+mod options;
 pub mod printing;
 pub mod running;
+pub mod solving;
 pub mod status;
 pub mod told;
+pub mod words;

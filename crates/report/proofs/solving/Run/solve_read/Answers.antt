@@ -5,7 +5,7 @@ use Rattle.cdcl_order.specs.Watch.{with_seen}
 use Rattle.report.specs.Best.{IsTrueOf, end_of, said_of}
 use Rattle.report.proofs.Ends.{proof_room, ends, answer_leaves, search_leaves}
 use Rattle.report.proofs.SeenAs.{seen_as, found_so}
-use Rattle.report.proofs.running.run_on.Goals as goal
+use Rattle.report.proofs.solving.Run.solve_read.Goals as goal
 
 pub returns-in_err-found-clause-fault : goal.returns-in_err-found-clause-fault
 returns-in_err-found-clause-fault g c text r =
@@ -14,16 +14,16 @@ returns-in_err-found-clause-fault g c text r =
     err_from_is_err_and c.from_residual.result c.from_residual.ensures.1
     in
     rw (p.1, p.2) (search_leaves c.args.profile text c.args.instance.now
-    r.0 r.1 c.args.budget.now c.find_best.new.budget
-    (held c.args.out.now) (held c.find_best.new.out) (g.P.Write.contents c.args.proof.now)
+    r.0 r.1 c.args.self.now.budget.now c.find_best.new.budget
+    (held c.args.self.now.out.now) (held c.find_best.new.out) (g.P.Write.contents c.args.proof.now)
     c.in_err-found.field-0.0 c.in_err-found.ensures.searches)
 
 pub write_answer-requires : goal.write_answer-requires
 write_answer-requires g c =
     let held = g.O.Write.contents in
     let f = c.in_ok-found in
-    proof_room c.args.profile c.args.instance.now (held c.args.out.now)
-    (held c.find_best.new.out) c.args.budget.now c.find_best.new.budget f.found f.ensures.searches
+    proof_room c.args.profile c.args.instance.now (held c.args.self.now.out.now)
+    (held c.find_best.new.out) c.args.self.now.budget.now c.find_best.new.budget f.found f.ensures.searches
 
 pub returns-in-Err-clause-fault : goal.returns-in-Err-clause-fault
 returns-in-Err-clause-fault g c text r =
@@ -31,8 +31,8 @@ returns-in-Err-clause-fault g c text r =
     let certified = g.P.Write.contents in
     let f = c.in_ok-found in
     let w = c.write_answer in
-    answer_leaves c.args.profile text c.args.instance.now r.0 r.1 c.args.budget.now
-    c.find_best.new.budget (held c.args.out.now) (held c.find_best.new.out) (held w.new.out)
+    answer_leaves c.args.profile text c.args.instance.now r.0 r.1 c.args.self.now.budget.now
+    c.find_best.new.budget (held c.args.self.now.out.now) (held c.find_best.new.out) (held w.new.out)
     (certified c.args.proof.now) (certified w.new.proof) f.found f.ensures.searches
     c.in-Err.fault c.in-Err.ensures.fault
 
@@ -43,8 +43,8 @@ returns-clause-ok g c text r =
     let f = c.in_ok-found in
     let w = c.write_answer in
     ends c.args.profile text c.args.instance.now
-    r.0 r.1 c.args.budget.now c.find_best.new.budget
-    (held c.args.out.now) (held c.find_best.new.out) (held w.new.out) (certified c.args.proof.now)
+    r.0 r.1 c.args.self.now.budget.now c.find_best.new.budget
+    (held c.args.self.now.out.now) (held c.find_best.new.out) (held w.new.out) (certified c.args.proof.now)
     (certified w.new.proof) f.found f.ensures.searches c.of-3.result c.of-3.ensures
     c.in_default.ensures.ok
 
@@ -63,8 +63,8 @@ returns-clause-seen g c text r =
     let f = c.in_ok-found in
     let w = c.write_answer in
     seen_as c.args.profile text c.args.instance.now r.0
-    (held c.args.out.now) (held c.find_best.new.out) (held w.new.out) (certified c.args.proof.now)
-    (certified w.new.proof) (seen c.args.watch.now) (seen c.find_best.new.watch) _ f.found
+    (held c.args.self.now.out.now) (held c.find_best.new.out) (held w.new.out) (certified c.args.proof.now)
+    (certified w.new.proof) (seen c.args.self.now.watch.now) (seen c.find_best.new.watch) _ f.found
     f.ensures.shown c.in_default.ensures.ok
     (c.ended.ensures.shown
     ∙ ap (λ z. with_seen (end_of c.args.instance.now z ∷ []) (seen c.searched.new.self))

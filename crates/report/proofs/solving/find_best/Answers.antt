@@ -6,12 +6,12 @@ use Rattle.report.specs.declared.fault.RunFault.{RunFault}
 use Rattle.report.specs.Running.{Searches, outcome_of}
 use Rattle.report.specs.Seen.{IsShownFor}
 use Rattle.report.proofs.Searched.{search_ended, search_shown, tells_none}
-use Rattle.report.proofs.running.find_best.Goals as goal
+use Rattle.report.proofs.solving.find_best.Goals as goal
 
 pub returns-clause-searches : goal.returns-clause-searches
 returns-clause-searches g c =
     let held = g.O.Write.contents in
-    let p = c.args.instance.now in
+    let p = c.args.task.instance.now in
     let n = c.new-told.ensures in
     let t =
     c.search-searched.ensures.follows c.new-told.result
@@ -42,7 +42,7 @@ returns-clause-searches g c =
 pub returns-clause-shown : goal.returns-clause-shown
 returns-clause-shown g c =
     let held = g.O.Write.contents in
-    let p = c.args.instance.now in
+    let p = c.args.task.instance.now in
     let a = g.K.SearchWatch.seen c.args.watch.now in
     let b = g.K.SearchWatch.seen c.search-searched.new.watch in
     let n = c.new-told.ensures in
