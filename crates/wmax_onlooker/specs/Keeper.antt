@@ -1,19 +1,21 @@
--- What stands in the file of `--best`, judged by the text of the instance, and what replaces it.
+-- What stands in the file of `--best`, judged for the instance, and what replaces it.
 use Rattle.std.specs.Prelude.{◌≡◌, ℕ, Bool, true, false, List, Option, Some, None, nat_lt, ◌⊎◌}
+use Rattle.std.specs.Prelude.{Err}
+use Rattle.cnf.specs.Problem.{Problem}
 use Rattle.lrat_result.specs.Result.{Said, OptimumFound, Unsatisfiable, Satisfiable, Unknown}
-use Rattle.explain.specs.Judging.{IsReadFault, JudgesTexts}
-use Rattle.explain.specs.declared.explaining.ExplainFault.TheVariants.{Result}
+use Rattle.lrat_result.specs.Result.{report_of}
+use Rattle.explain.specs.Judging.{JudgesAnswer}
 use Rattle.explain.specs.declared.judging.Judgement.{Judgement}
 use Rattle.explain.specs.declared.judging.Judgement.TheVariants.{Wrong}
 
 -- it is no result
-abbrev pub IsNoResult : List ℕ → List ℕ → Type 0
-IsNoResult text left = (line : ℕ) × IsReadFault text left (Result line)
+abbrev pub IsNoResult : List ℕ → Type 0
+IsNoResult left = (line : ℕ) × (report_of left ≡ Err line)
 
 -- a result is judged as any is; what is none is wrong
-abbrev pub IsLeft : List ℕ → List ℕ → Judgement → Type 0
-IsLeft text left judgement =
-    JudgesTexts text left judgement ⊎ (IsNoResult text left × (judgement ≡ Wrong))
+abbrev pub IsLeft : Problem → List ℕ → Judgement → Type 0
+IsLeft p left judgement =
+    JudgesAnswer p left judgement ⊎ (IsNoResult left × (judgement ≡ Wrong))
 
 -- whether this cost is less than that of the solution which stands there, if there is one
 abbrev pub undercuts : ℕ → Option ℕ → Bool

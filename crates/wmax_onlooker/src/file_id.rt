@@ -1,10 +1,12 @@
 //! Which file one is, and where files are written: never into one that the run reads or writes
 //! otherwise. No contract speaks of what files the system has: that is tested.
-ghost use Rattle.std.specs.Prelude.{◌≡◌, ◌↔◌, IfErr, IsTrue};
+ghost use Rattle.std.specs.Prelude.{◌≡◌, ◌↔◌, ◌⊎◌, IfErr, IsTrue};
 ghost use Rattle.wmax_onlooker.specs.FileId.{IsOneFolder, file_name_of};
+ghost use Rattle.wmax_onlooker.specs.Files.{IsFileFault};
 
+use crate::files::UNREADABLE;
 use report::fault::RunFault;
-use std::fs::{self, Metadata, OpenFile, OpenOptions};
+use std::fs::{self, File, Metadata, OpenFile, OpenOptions};
 use std::os::unix::fs::MetadataExt;
 use std::path::Path;
 use std::rt::Files;
@@ -102,12 +104,22 @@ pub(crate) fn is_taken<R: Files>(rt: &R, path: &str, others: &[FileId]) -> bool 
     }
 }
 
+/// How a file is opened or created that is written.
+fn to_write() -> OpenOptions {
+    let mut options = OpenOptions::new();
+    options.write(true).create(true);
+    options
+}
+
 /// Opens or creates the file, and leaves in it what it has. One of the others is refused: the open
 /// files are compared and not their paths, so no renaming in between makes a difference. None where
 /// the file cannot be opened or looked at, or is refused.
-fn open_kept<R: Files>(rt: &R, path: &str, others: &[FileId]) -> Option<R::File> {
-    let mut options = OpenOptions::new();
-    options.write(true).create(true);
+fn open_kept<R: Files>(
+    rt: &R,
+    options: &OpenOptions,
+    path: &str,
+    others: &[FileId],
+) -> Option<R::File> {
     let Ok(file) = options.open(rt, path) else {
         return None;
     };
@@ -129,7 +141,7 @@ pub fn empty<F: OpenFile>(file: &F) -> bool {
 /// Opens or creates the file, and empties it. None where it cannot be opened, looked at or emptied,
 /// or is one of the others: that one stays as it is.
 pub(crate) fn open_empty<R: Files>(rt: &R, path: &str, others: &[FileId]) -> Option<R::File> {
-    let file = open_kept(rt, path, others)?;
+    let file = open_kept(rt, &to_write(), path, others)?;
     if empty(&file) { Some(file) } else { None }
 }
 
@@ -141,8 +153,40 @@ pub(crate) fn open_empty<R: Files>(rt: &R, path: &str, others: &[FileId]) -> Opt
 pub fn open_proof<R: Files>(rt: &R, path: &str, read: [FileId; 2]) -> Result<R::File, RunFault>
     ensures fault { IfErr result (λ fault. fault ≡ RunFault.ProofOutput) }
 {
-    match open_kept(rt, path, &read) {
+    match open_kept(rt, &to_write(), path, &read) {
         Some(file) => Ok(file),
         None => Err(RunFault::ProofOutput),
+    }
+}
+
+/// Opens or creates the file of a certificate that is read and then goes on, and leaves in it what
+/// it has.
+///
+/// # Errors
+///
+/// `UNREADABLE` where it is there and cannot be read; `ProofOutput` where it cannot be written or
+/// looked at, or is one of those that are read.
+pub fn open_resumed<R: Files>(rt: &R, path: &str, read: [FileId; 2]) -> Result<R::File, RunFault>
+    ensures fault { IfErr result (λ fault. (fault ≡ RunFault.ProofOutput) ⊎ IsFileFault fault) }
+{
+    let mut options = to_write();
+    options.read(true);
+    match open_kept(rt, &options, path, &read) {
+        Some(file) => Ok(file),
+        None if is_hidden(rt, path) => Err(UNREADABLE),
+        None => Err(RunFault::ProofOutput),
+    }
+}
+
+/// Whether there is something at the path that cannot be read.
+fn is_hidden<R: Files>(rt: &R, path: &str) -> bool {
+    fs::metadata(rt, path).is_ok() && File::open(rt, path).is_err()
+}
+
+/// Whether an open file is a regular one, which keeps what is written to it.
+pub fn is_regular<F: OpenFile>(file: &F) -> bool {
+    match file.metadata() {
+        Ok(data) => data.is_file(),
+        Err(_) => false,
     }
 }

@@ -1,7 +1,7 @@
 //! The file of `--best`: at each moment a whole result text, which only a better one replaces. What
 //! an earlier run left there stays byte for byte until this run has a cheaper solution, or has
 //! proved that none is cheaper or that there is none.
-ghost use Rattle.std.specs.Prelude.{◌≡◌, IfOk, IfSome, IsNone, IsSome};
+ghost use Rattle.std.specs.Prelude.{◌≡◌, IfOk, IfErr, IfSome, IsNone, IsSome};
 ghost use Rattle.improve.specs.Improving.{IsSolution};
 ghost use Rattle.report.specs.Best.{IsTrueOf, said_by};
 ghost use Rattle.wmax_onlooker.specs.Keeper.{IsImproved, IsLeft, is_better, undercuts};
@@ -11,7 +11,7 @@ use crate::standard_error::Messages;
 use crate::whole_file::{WholeFile, WholePaths};
 use cnf::types::Instance;
 use explain::explaining::ExplainFault;
-use explain::judging::{Judgement, judge};
+use explain::judging::{Judgement, judge_answer};
 use report::best::{write_best, write_found, write_unknown};
 use report::fault::RunFault;
 use report::finding::Finding;
@@ -19,20 +19,19 @@ use std::alloc::Global;
 use std::io::Write;
 use std::rt::Files;
 
-/// Judges what an earlier run left, by the text of the instance. What is no result is wrong.
+/// Judges what an earlier run left, for the instance. What is no result is wrong.
 ///
 /// # Errors
 ///
-/// `Read` with the first fault of the instance; `Memory`.
-pub fn judge_left(alloc: Global, text: &[u8], left: &[u8]) -> Result<Judgement, RunFault>
-    ensures { IfOk result (λ judgement. IsLeft text.now left.now judgement) }
+/// `Memory`.
+pub fn judge_left(alloc: Global, instance: &Instance, left: &[u8]) -> Result<Judgement, RunFault>
+    ensures ok { IfOk result (λ judgement. IsLeft instance.now left.now judgement) }
+    ensures fault { IfErr result (λ fault. fault ≡ RunFault.Memory) }
 {
-    match judge(alloc, text, left) {
+    match judge_answer(alloc, instance, left) {
         Ok(judgement) => Ok(judgement),
         Err(ExplainFault::Result(_)) => Ok(Judgement::Wrong),
-        Err(ExplainFault::Text(fault)) => Err(fault.into()),
-        Err(ExplainFault::Memory) => Err(RunFault::Memory),
-        Err(ExplainFault::Output) => Err(RunFault::Output),
+        Err(_) => Err(RunFault::Memory),
     }
 }
 

@@ -9,6 +9,7 @@ pub mod files;
 pub mod keeper;
 pub mod onlooker;
 pub mod progress;
+pub mod resumed_file;
 pub mod standard_error;
 pub mod standard_output;
 pub mod whole_file;

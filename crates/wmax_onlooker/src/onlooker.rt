@@ -7,7 +7,7 @@ use crate::progress::Meter;
 use crate::standard_error::Messages;
 use cdcl::watch::SearchReport;
 use cnf::types::Instance;
-use improve::watch::Watch;
+use improve::watch::{Raised, Watch};
 use report::best::RunWatch;
 use report::finding::Finding;
 use std::io::Write;
@@ -41,6 +41,9 @@ impl<'a, 'm, 'b, R: Files + Clock + AllocGlobal, E: Write> cdcl::watch::SearchWa
     }
 
     fn waives(&mut self, left: u64) -> u64 {
+        if let Some(meter) = &mut self.meter {
+            meter.note_left(left);
+        }
         self.alarm.waives(left)
     }
 }
@@ -54,17 +57,18 @@ impl<'a, 'm, 'b, R: Files + Clock + AllocGlobal, E: Write> Watch for Onlooker<'a
         self.messages.give_way();
     }
 
-    fn raised(&mut self, lower: u64) {
+    fn raised(&mut self, bound: Raised) {
         if let Some(meter) = &mut self.meter {
-            meter.raised(lower);
+            meter.raised(bound);
         }
     }
 }
 
 impl<'a, 'm, 'b, R: Files + Clock + AllocGlobal, E: Write> RunWatch for Onlooker<'a, 'm, 'b, R, E> {
     fn searched(&mut self, finding: &Finding<'_>) {
+        let is_in_time = self.alarm.waived == 0;
         if let Some(meter) = &mut self.meter {
-            meter.searched(finding, self.messages);
+            meter.searched(finding, is_in_time, self.messages);
         }
         self.messages.give_way();
     }

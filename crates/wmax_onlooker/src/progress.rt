@@ -2,6 +2,7 @@
 //! end of the search, and that the certificate is being written.
 use crate::standard_error::Messages;
 use cdcl::watch::SearchReport;
+use improve::watch::{Raised, Way};
 use report::finding::Finding;
 use std::alloc::AllocError;
 use std::fs;
@@ -27,8 +28,10 @@ pub struct Meter<'a, R: Clock> {
     start: Instant,
     /// When the last line was told, or the run began.
     told: Instant,
-    /// How many conflicts and solutions the run may spend, at most 2^62.
+    /// How many units of effort the run may spend, at most 2^62.
     limit: u64,
+    /// How many of them are left, as the search said last.
+    left: u64,
     /// What was told last of the search.
     report: SearchReport,
     /// How often the solvers before this one restarted.
@@ -41,10 +44,20 @@ pub struct Meter<'a, R: Clock> {
     cost: Option<u64>,
     /// Whether it is proved that there is none.
     is_refuted: bool,
-    /// No solution costs less than this, as the certificate says, up to 2^62; none before it did.
-    lower: Option<u64>,
+    /// What no solution costs less than, as the certificate says; none before it did.
+    lower: Option<LowerBound>,
     /// Whether a certificate goes to a file.
     has_proof: bool,
+}
+
+/// What no solution costs less than.
+#[derive(Clone, Copy, Drop)]
+struct LowerBound {
+    /// The bound, up to 2^62.
+    least: u64,
+    /// Which form showed it, and what that is worth in tenths; none where an earlier run did, or
+    /// where the search has ended.
+    form: Option<(Way, u64)>,
 }
 
 impl<'a, R: Clock + Files + AllocGlobal> Meter<'a, R> {
@@ -59,6 +72,7 @@ impl<'a, R: Clock + Files + AllocGlobal> Meter<'a, R> {
             start,
             told: start,
             limit,
+            left: limit,
             report: SearchReport {
                 conflicts: 0,
                 propagations: 0,
@@ -107,22 +121,43 @@ impl<'a, R: Clock + Files + AllocGlobal> Meter<'a, R> {
         }
     }
 
-    /// Takes note of what no solution costs less than.
-    pub(crate) fn raised(&mut self, lower: u64) {
-        self.lower = Some(lower);
+    /// Takes note of what no solution costs less than, as an earlier run has shown.
+    pub fn begin_at(&mut self, lower: u64) {
+        self.lower = Some(LowerBound {
+            least: lower,
+            form: None,
+        });
     }
 
-    /// The search has ended: it tells how far it came, and that the certificate is being written,
-    /// if one is.
+    /// Takes note of what no solution costs less than.
+    pub(crate) fn raised(&mut self, bound: Raised) {
+        self.lower = Some(LowerBound {
+            least: bound.lower,
+            form: Some((bound.way, bound.tenths)),
+        });
+    }
+
+    /// Takes note of how many units of effort are left.
+    pub(crate) fn note_left(&mut self, left: u64) {
+        self.left = left;
+    }
+
+    /// The search has ended, in time or since its time was over: it tells how far it came, and that
+    /// the certificate is being written, if one is.
     pub(crate) fn searched<E: Write>(
         &mut self,
         finding: &Finding<'_>,
+        is_in_time: bool,
         messages: &mut Messages<'_, E>,
     ) {
         let Ok(now) = Instant::now(self.rt) else {
             return;
         };
         self.note_proved(finding);
+        // Nothing else ends it in time without an answer: no effort was left for what it wanted.
+        if is_in_time && matches!(finding, Finding::Best { .. } | Finding::Nothing) {
+            self.left = 0;
+        }
         self.tell(now, messages);
         if self.has_proof && matches!(finding, Finding::Optimum { .. } | Finding::Unsat) {
             self.tell_writing(now, messages);
@@ -133,7 +168,7 @@ impl<'a, R: Clock + Files + AllocGlobal> Meter<'a, R> {
     /// before.
     fn note_proved(&mut self, finding: &Finding<'_>) {
         match finding {
-            Finding::Optimum { cost, .. } if self.lower.is_some() => self.lower = Some(*cost),
+            Finding::Optimum { cost, .. } if self.lower.is_some() => self.begin_at(*cost),
             Finding::Unsat => self.is_refuted = true,
             _ => {}
         }
@@ -197,10 +232,14 @@ impl<'a, R: Clock + Files + AllocGlobal> Meter<'a, R> {
         match (self.cost, self.lower) {
             _ if self.is_refuted => format!(in alloc; "no solution"),
             (None, None) => format!(in alloc; "no solution yet"),
-            (None, Some(lower)) => format!(in alloc; "no solution yet, at least {lower}"),
+            (None, Some(lower)) => {
+                let lower = self.spell_lower(lower)?;
+                format!(in alloc; "no solution yet, at least {lower}")
+            }
             (Some(cost), None) => format!(in alloc; "cost {cost} ({count} {noun})"),
             (Some(cost), Some(lower)) => {
-                let gap = gap_of(cost, lower);
+                let gap = gap_of(cost, lower.least);
+                let lower = self.spell_lower(lower)?;
                 format!(in alloc;
                     "cost {cost} ({count} {noun}), at least {lower}, gap {}.{:02} %",
                     gap / 100,
@@ -208,6 +247,21 @@ impl<'a, R: Clock + Files + AllocGlobal> Meter<'a, R> {
                 )
             }
         }
+    }
+
+    /// What is known to be needed: while that is less than the best cost what the form is worth
+    /// that showed it, and which way that came.
+    fn spell_lower(&self, lower: LowerBound) -> Result<String, AllocError> {
+        let alloc = self.rt.alloc();
+        let least = lower.least;
+        let Some((way, tenths)) = lower.form else {
+            return format!(in alloc; "{least}");
+        };
+        let name = name_of(way);
+        if self.cost.is_some_and(|cost| cost <= least) {
+            return format!(in alloc; "{least} by {name}");
+        }
+        format!(in alloc; "{}.{} by {name}", tenths / 10, tenths % 10)
     }
 
     /// How many conflicts there were.
@@ -231,11 +285,22 @@ impl<'a, R: Clock + Files + AllocGlobal> Meter<'a, R> {
         }
     }
 
-    /// How much of the effort is spent, in hundredths of a percent.
+    /// How much of the effort is spent, in hundredths of a percent: each conflict and each solution
+    /// is a unit, and what the search has spent beside them it says by what is left.
     fn spell_spent(&self) -> Result<String, AllocError> {
-        let spent = self.report.conflicts.saturating_add(self.solutions);
+        let told = self.report.conflicts.saturating_add(self.solutions);
+        let spent = told.max(self.limit.saturating_sub(self.left));
         let part = share_of(spent, self.limit);
         format!(in self.rt.alloc(); "{}.{:02} % of the effort spent", part / 100, part % 100)
+    }
+}
+
+/// What the way is called that a lower bound came.
+fn name_of(way: Way) -> &'static str {
+    match way {
+        Way::Cores => "cores",
+        Way::Relaxation => "the relaxation",
+        Way::Cost => "conflicts",
     }
 }
 
