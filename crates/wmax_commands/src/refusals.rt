@@ -1,13 +1,14 @@
 //! Why there is no run of `wmax solve`, beside the faults that every command has, and what is said
 //! of it.
 ghost use Rattle.std.specs.Prelude.{◌≡◌};
-ghost use Rattle.wmax.specs.Refusals.{kept_status};
+ghost use Rattle.wmax_commands.specs.Refusals.{kept_status};
 
 use crate::checking::show;
 use crate::faults::Fault;
 use lrat_check::verdicts::Verdict;
+use report::earlier::CannotResume;
 use report::fault::RunFault;
-use report::options::BEST_OPTION;
+use report::words::{BEST_OPTION, FROM_OPTION, PROOF_OPTION, RESUME_OPTION};
 use std::io::Write;
 use wmax_onlooker::standard_error::Messages;
 
@@ -16,15 +17,27 @@ use wmax_onlooker::standard_error::Messages;
 pub(crate) enum Refused<'a> {
     /// A fault that any command may meet.
     Fault(Fault<'a>),
-    /// The result with which the search was to begin is wrong: what `check` says of it.
+    /// The result with which the search was to begin is wrong, or the certificate that was to go
+    /// on: what `check` says of it.
     Wrong(Verdict),
     /// The file of `--best` is of no use.
     Best(KeptFileFault),
+    /// The certificate cannot go on.
+    Resume(ResumeFault),
+}
+
+impl From<CannotResume> for ResumeFault {
+    fn from(why: CannotResume) -> Self {
+        match why {
+            CannotResume::Lacking(cost) => ResumeFault::Lacking(cost),
+            CannotResume::Unfit => ResumeFault::Closed,
+        }
+    }
 }
 
 impl From<RunFault> for Refused<'_> {
-    ghost use Rattle.wmax.specs.declared.faults.Fault.TheVariants.{Run};
-    ghost use Rattle.wmax.specs.declared.refusals.Refused.TheVariants.{Fault as FaultOf};
+    ghost use Rattle.wmax_commands.specs.declared.faults.Fault.TheVariants.{Run};
+    ghost use Rattle.wmax_commands.specs.declared.refusals.Refused.TheVariants.{Fault as FaultOf};
 
     ghost from_gives = { λ fault made. made ≡ FaultOf (Run fault) };
 
@@ -51,6 +64,17 @@ pub(crate) enum KeptFileFault {
     Unwritable,
 }
 
+/// Why a certificate cannot go on that has no fault.
+#[derive(Clone, Copy, Drop)]
+pub(crate) enum ResumeFault {
+    /// It is in no regular file.
+    Kept,
+    /// There is no solution at hand that costs at most this, and it says nothing of others.
+    Lacking(u64),
+    /// No search can go on with what it leaves.
+    Closed,
+}
+
 /// Tells why there is no run; the exit status.
 pub(crate) fn tell_refused<'a, R: Print, E: Write>(
     rt: &R,
@@ -61,7 +85,31 @@ pub(crate) fn tell_refused<'a, R: Print, E: Write>(
         Refused::Fault(fault) => Err(fault),
         Refused::Wrong(verdict) => show(rt, &verdict),
         Refused::Best(why) => Ok(refuse_best(messages, why)),
+        Refused::Resume(why) => Ok(refuse_resumed(messages, why)),
     }
+}
+
+/// Tells why a certificate cannot go on; the exit status.
+fn refuse_resumed<E: Write>(messages: &mut Messages<'_, E>, why: ResumeFault) -> u8
+    ensures status { result ≡ 2 }
+{
+    let out = messages.below();
+    let _ = match why {
+        ResumeFault::Kept => writeln!(
+            out,
+            "error: --{RESUME_OPTION} needs a regular file as PATH of --{PROOF_OPTION}"
+        ),
+        ResumeFault::Lacking(cost) => writeln!(
+            out,
+            "error: --{RESUME_OPTION} needs a solution that costs at most {cost}: name it by \
+             --{BEST_OPTION} or --{FROM_OPTION}"
+        ),
+        ResumeFault::Closed => writeln!(
+            out,
+            "error: no search can go on with the certificate that --{PROOF_OPTION} names"
+        ),
+    };
+    2
 }
 
 /// Tells why `--best` cannot have what it names; the exit status.

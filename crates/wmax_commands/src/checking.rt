@@ -1,18 +1,19 @@
 //! `wmax check`: a result and its certificate, in one profile or in each.
-ghost use Rattle.std.specs.Prelude.{◌≡◌, IfOk};
+ghost use Rattle.std.specs.Prelude.{◌≡◌, ℕ, List, IfOk, IfSome};
 ghost use Rattle.lrat_check.specs.Checks.{IsTrueResult};
-ghost use Rattle.wmax.specs.Checking.{later};
+ghost use Rattle.lrat_check.specs.Left.{AreRead};
+ghost use Rattle.wmax_commands.specs.Checking.{later};
 
 use crate::arguments::CheckRequest;
 use crate::faults::{Fault, end_output, open, read_whole, tell_packed};
 use crate::profiles::{Certifying, choose_profile, refuse_profile};
 use adder::profiles::Profile;
-use lrat_check::checking::check_from_as;
-use lrat_check::cuts::check_cuts_from;
+use lrat_check::checking::{Texts, check_texts_as, read_texts};
+use lrat_check::cuts::check_cuts_texts;
 use lrat_check::verdicts::{Cause, CheckFault, Verdict};
 use report::fault::RunFault;
-use report::options::ANY;
 use report::printing::{deliver, print_verdict, verdict_code};
+use report::words::ANY;
 use std::fs;
 use std::io::{Read, Write};
 use std::rt::{Env, Files};
@@ -30,8 +31,9 @@ const WORDS_OF_CUTS: [&[u8]; 6] = [b"count ", b"more ", b"group ", b"form ", b"c
 /// What is said of a certificate of forms and cuts in another profile.
 const CUTS_ADVICE: &str = "PROOF begins like a certificate of profile 3: try --profile 3";
 
-/// The files are opened in their order before any is read, and read in their order. The certificate
-/// is judged while it is read, so none of it is kept but the clauses that are live.
+/// The files are opened in their order before any is read, and read in their order. What FILE and
+/// RESULT read as is kept. The certificate is judged while it is read, so none of it is kept but
+/// the clauses that are live.
 pub fn check<'a, R: Files + AllocGlobal + Print + Env, E: Write>(
     rt: &R,
     messages: &mut Messages<'_, E>,
@@ -44,20 +46,42 @@ pub fn check<'a, R: Files + AllocGlobal + Print + Env, E: Write>(
         Ok(profile) => profile,
         Err(why) => return refuse_profile(messages, why),
     };
-    let mut text = open(rt, request.text)?;
+    let mut text = Beginning::new(open(rt, request.text)?);
     let mut answer = open(rt, request.result)?;
     let mut proof = Beginning::new(open(rt, request.proof)?);
-    let text = read_whole(rt, &mut text, request.text)?;
-    let answer = read_whole(rt, &mut answer, request.result)?;
-    match check_as(rt, &text, &answer, &mut proof, profile) {
+    let texts = read_inputs(rt, request, &mut text, &mut answer)?;
+    match check_as(&texts, &mut proof, profile) {
         Ok(verdict) => {
-            let status = show_for(rt, messages, &text, &verdict)?;
+            let status = show_for(rt, messages, text.first(), &verdict)?;
             if status == 1 {
                 advise_cuts(messages, proof.first(), profile);
             }
             Ok(status)
         }
         Err(fault) => Err(Fault::of_file(fault, request.proof)),
+    }
+}
+
+/// What FILE and RESULT read as. Their bytes are given back here, before a byte of the certificate
+/// is read.
+///
+/// # Errors
+///
+/// `Unreadable` where one of them cannot be read; `Run` with `Memory`.
+fn read_inputs<'a, R: AllocGlobal, T: Read, A: Read>(
+    rt: &R,
+    request: &CheckRequest<'a>,
+    text: &mut T,
+    answer: &mut A,
+) -> Result<Texts, Fault<'a>>
+    ensures { IfOk result (λ texts. IfSome (T.remaining text.old) (λ bytes.
+        IfSome (A.remaining answer.old) (λ lines. AreRead bytes lines texts))) }
+{
+    let text = read_whole(rt, text, request.text)?;
+    let answer = read_whole(rt, answer, request.result)?;
+    match read_texts(rt.alloc(), &text, &answer) {
+        Ok(texts) => Ok(texts),
+        Err(_) => Err(Fault::Run(RunFault::Memory)),
     }
 }
 
@@ -80,7 +104,7 @@ fn check_any<'a, R: Files + AllocGlobal + Print, E: Write>(
     messages: &mut Messages<'_, E>,
     request: &CheckRequest<'a>,
 ) -> Result<u8, Fault<'a>> {
-    let mut text = open(rt, request.text)?;
+    let mut text = Beginning::new(open(rt, request.text)?);
     let mut answer = open(rt, request.result)?;
     let Ok(data) = fs::metadata(rt, request.proof) else {
         return Err(Fault::Unreadable(request.proof));
@@ -89,10 +113,9 @@ fn check_any<'a, R: Files + AllocGlobal + Print, E: Write>(
         let _ = writeln!(messages.below(), "{NO_FILE}");
         return Ok(2);
     }
-    let text = read_whole(rt, &mut text, request.text)?;
-    let answer = read_whole(rt, &mut answer, request.result)?;
-    let verdict = check_each(rt, &text, &answer, request.proof)?;
-    show_for(rt, messages, &text, &verdict)
+    let texts = read_inputs(rt, request, &mut text, &mut answer)?;
+    let verdict = check_each(rt, &texts, request.proof)?;
+    show_for(rt, messages, text.first(), &verdict)
 }
 
 /// The profiles that are tried, the one that finds most optima first.
@@ -106,16 +129,16 @@ const EACH: [Certifying; 3] = [
 /// of two such the one that was met first.
 fn check_each<'a, R: Files + AllocGlobal>(
     rt: &R,
-    text: &[u8],
-    answer: &[u8],
+    texts: &Texts,
     path: &'a str,
 ) -> Result<Verdict, Fault<'a>>
-    ensures sound { IfOk result (λ v. v ≡ Verdict.Yes → IsTrueResult text.now answer.now) }
+    ensures sound { (text answer : List ℕ) → AreRead text answer texts.now
+        → IfOk result (λ v. v ≡ Verdict.Yes → IsTrueResult text answer) }
 {
     let mut last: Option<CertificateFault> = None;
     for profile in EACH {
         let mut proof = open(rt, path)?;
-        match check_as(rt, text, answer, &mut proof, profile) {
+        match check_as(texts, &mut proof, profile) {
             Ok(Verdict::Yes) => return Ok(Verdict::Yes),
             Ok(Verdict::No(cause, line)) => last = Some(later_of(
                 last,
@@ -150,18 +173,13 @@ fn later_of(first: Option<CertificateFault>, second: CertificateFault) -> Certif
 }
 
 /// Judges the certificate in this profile.
-fn check_as<R: AllocGlobal, P: Read>(
-    rt: &R,
-    text: &[u8],
-    answer: &[u8],
-    proof: &mut P,
-    profile: Certifying,
-) -> Result<Verdict, RunFault>
-    ensures sound { IfOk result (λ v. v ≡ Verdict.Yes → IsTrueResult text.now answer.now) }
+fn check_as<P: Read>(texts: &Texts, proof: &mut P, profile: Certifying) -> Result<Verdict, RunFault>
+    ensures sound { (text answer : List ℕ) → AreRead text answer texts.now
+        → IfOk result (λ v. v ≡ Verdict.Yes → IsTrueResult text answer) }
 {
     let checked = match profile {
-        Certifying::Formula(profile) => check_from_as(rt.alloc(), text, answer, proof, profile),
-        Certifying::Cuts => check_cuts_from(rt.alloc(), text, answer, proof),
+        Certifying::Formula(profile) => check_texts_as(texts, proof, profile),
+        Certifying::Cuts => check_cuts_texts(texts, proof),
     };
     match checked {
         Ok(verdict) => Ok(verdict),
@@ -170,17 +188,17 @@ fn check_as<R: AllocGlobal, P: Read>(
     }
 }
 
-/// Prints the verdict on what stands beside this text, and what to do with the text if it is
-/// packed; the exit status.
+/// Prints the verdict on what stands beside a text, and what to do with the text if its first bytes
+/// are those of a packed one; the exit status.
 pub(crate) fn show_for<'a, R: Print, E: Write>(
     rt: &R,
     messages: &mut Messages<'_, E>,
-    text: &[u8],
+    first: &[u8],
     verdict: &Verdict,
 ) -> Result<u8, Fault<'a>> {
     let status = show(rt, verdict)?;
     if let Verdict::No(Cause::Text, _) = verdict {
-        tell_packed(messages, text);
+        tell_packed(messages, first);
     }
     Ok(status)
 }

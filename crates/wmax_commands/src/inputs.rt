@@ -1,19 +1,24 @@
 //! What is at hand before a search begins: FILE, the solution with which it begins, and the file of
 //! an earlier run that it replaces.
-ghost use Rattle.std.specs.Prelude.{◌≡◌, IfOk, IfErr, IfSome, option_map};
+ghost use Rattle.std.specs.Prelude.{◌≡◌, IfOk, IfErr, IfSome, IsSome, OnOk, Some, option_map};
 ghost use Rattle.explain.specs.Judging.{TellsBits};
-ghost use Rattle.wmax.specs.Inputs.{undercuts};
+ghost use Rattle.wmax_commands.specs.Inputs.{undercuts};
 
 use crate::arguments::SolveRequest;
 use crate::refusals::{KeptFileFault, Refused};
 use adder::profiles::Profile;
+use cnf::types::Instance;
 use explain::judging::{Judgement, read_bits};
-use lrat_check::checking::check_as;
+use lrat_check::checking::check_read_as;
+use lrat_check::verdicts::{Cause, Verdict};
+use lrat_result::report::ReportFault;
+use lrat_result::result::read_report;
 use report::fault::RunFault;
 use std::alloc::Global;
 use std::fs::{File, OpenFile};
 use std::io::Read;
 use std::rt::Files;
+use wcnf::reading::read_from;
 use wmax_onlooker::beginning::Beginning;
 use wmax_onlooker::file_id::{FileId, find_file_id, find_path_id, find_place};
 use wmax_onlooker::files::{UNREADABLE, read_file};
@@ -40,30 +45,40 @@ pub(crate) struct Source<F: Read> {
     pub(crate) file: Beginning<F>,
     /// Which file it is; none where it cannot be looked at.
     here: Option<FileId>,
-    /// All of it, once something had to be judged by it.
-    pub(crate) whole: Option<Vec<u8>>,
+    /// What it reads as, once it was read.
+    instance: Option<Instance>,
 }
 
 impl<F: Read> Source<F> {
-    /// All of it, which is in memory from now on.
+    /// Reads it, unless it was read before.
     ///
     /// # Errors
     ///
-    /// As `read_file`.
-    fn read_whole<R: AllocGlobal>(&mut self, rt: &R) -> Result<&[u8], RunFault> {
-        let bytes = match self.whole.take() {
-            Some(bytes) => bytes,
-            None => read_file(rt, &mut self.file)?,
-        };
-        Ok(self.whole.insert(bytes))
+    /// `Read` with its first fault, or where it cannot be read; `Memory`.
+    pub(crate) fn read<R: AllocGlobal>(&mut self, rt: &R) -> Result<(), RunFault>
+        ensures read { OnOk result (IsSome self.new.instance) }
+        ensures once { IfSome self.old.instance (λ p. self.new.instance ≡ Some p) }
+    {
+        if self.instance.is_none() {
+            self.instance = Some(read_from(rt.alloc(), &mut self.file)?);
+        }
+        Ok(())
+    }
+
+    /// What it reads as, once it was read.
+    pub(crate) fn instance(&self) -> &Instance
+        requires { IsSome self.now.instance }
+        ensures { self.now.instance ≡ Some result.now }
+    {
+        match &self.instance {
+            Some(instance) => instance,
+            None => unreachable!(),
+        }
     }
 
     /// The first bytes that were read of it.
     pub(crate) fn first(&self) -> &[u8] {
-        match &self.whole {
-            Some(text) => text.as_slice(),
-            None => self.file.first(),
-        }
+        self.file.first()
     }
 }
 
@@ -71,7 +86,7 @@ impl<F: Read> Source<F> {
 #[derive(Drop)]
 pub(crate) struct FirstSolution {
     /// What it costs.
-    cost: u64,
+    pub(crate) cost: u64,
     /// Its bits.
     pub(crate) bits: Vec<bool>,
 }
@@ -84,7 +99,7 @@ impl<'a, F: OpenFile + Read> Inputs<'a, F> {
             source: Source {
                 file: Beginning::new(file),
                 here,
-                whole: None,
+                instance: None,
             },
             result: None,
             start: None,
@@ -130,18 +145,32 @@ fn take_start<'a, R: Files + AllocGlobal>(
     let Some(there) = find_file_id(&result) else {
         return Err(Refused::of_file(UNREADABLE, path));
     };
-    let text = inputs.source.read_whole(rt)?;
+    inputs.source.read(rt)?;
+    let instance = inputs.source.instance();
     let said = read_file(rt, &mut result).map_err(|fault| Refused::of_file(fault, path))?;
-    match judge_left(rt.alloc(), text, &said)? {
+    match judge_left(rt.alloc(), instance, &said)? {
         Judgement::Unknown | Judgement::Unsatisfiable => {}
         Judgement::Right(cost) => inputs.start = read_start(rt.alloc(), &said, cost)?,
         Judgement::Wrong => {
-            let verdict = check_as(rt.alloc(), text, &said, &[], Profile::One);
-            return Err(Refused::Wrong(verdict.map_err(|_| RunFault::Memory)?));
+            return Err(Refused::Wrong(find_fault(rt.alloc(), instance, &said)?));
         }
     }
     inputs.result = Some(result);
     Ok([here, there])
+}
+
+/// What `check` says of a result that is wrong, whatever its certificate is.
+fn find_fault(alloc: Global, instance: &Instance, said: &[u8]) -> Result<Verdict, RunFault> {
+    let report = match read_report(alloc, said) {
+        Ok(report) => report,
+        Err(ReportFault::Form(line)) => return Ok(Verdict::No(Cause::ResultForm, line)),
+        Err(ReportFault::Memory) => return Err(RunFault::Memory),
+    };
+    let mut proof: &[u8] = &[];
+    match check_read_as(instance, &report, &mut proof, Profile::One) {
+        Ok(verdict) => Ok(verdict),
+        Err(_) => Err(RunFault::Memory),
+    }
 }
 
 /// The solution of a result, with which a search begins; it costs this.
@@ -177,8 +206,7 @@ fn are_named<R: Files>(rt: &R, paths: &WholePaths<'_>, proof: Option<&str>, here
 }
 
 /// Takes the file of `--best`. It may be RESULT, but neither it nor the file by way of which it is
-/// written may be any other of the run. Where it has something already, that is judged by FILE, all
-/// of which is in memory then.
+/// written may be any other of the run. Where it has something already, that is judged by FILE.
 fn take_best<'a, R: Files + AllocGlobal>(
     rt: &R,
     request: SolveRequest<'a>,
@@ -220,7 +248,8 @@ fn take_earlier<'a, R: AllocGlobal, F: Read>(
     inputs: &mut Inputs<'_, F>,
     left: &[u8],
 ) -> Result<Option<u64>, Refused<'a>> {
-    match judge_left(rt.alloc(), inputs.source.read_whole(rt)?, left)? {
+    inputs.source.read(rt)?;
+    match judge_left(rt.alloc(), inputs.source.instance(), left)? {
         Judgement::Unknown | Judgement::Unsatisfiable => Ok(None),
         Judgement::Right(cost) => {
             if is_cheaper(cost, &inputs.start) {

@@ -1,9 +1,9 @@
 //! What a command line asks for, read once: which command, of which files, and how.
 use clap::ArgMatches;
-use report::options::{
+use report::words::{
     BEST_OPTION, CHECK, CONFLICTS_OPTION, COST, ENCODE, EXPLAIN, FILE, FROM_OPTION, LOWER,
-    LRAT_OPTION, PROFILE_OPTION, PROGRESS_OPTION, PROOF, PROOF_OPTION, RESULT, SOLVE,
-    TIME_LIMIT_OPTION,
+    LRAT_OPTION, PROFILE_OPTION, PROGRESS_OPTION, PROOF, PROOF_OPTION, RESULT, RESUME_OPTION,
+    SOLVE, TIME_LIMIT_OPTION,
 };
 
 /// A command with its files and options.
@@ -34,6 +34,8 @@ pub struct SolveRequest<'a> {
     pub profile: Option<&'a str>,
     /// Where the certificate is written.
     pub proof: Option<&'a str>,
+    /// Whether what stands there goes on.
+    pub is_resumed: bool,
     /// Where the best solution is kept.
     pub best: Option<&'a str>,
     /// The result with which the search begins.
@@ -114,6 +116,7 @@ impl<'a> SolveRequest<'a> {
             seconds: matches.get_one::<f64>(TIME_LIMIT_OPTION),
             profile: matches.get_str(PROFILE_OPTION),
             proof: matches.get_str(PROOF_OPTION),
+            is_resumed: matches.get_flag(RESUME_OPTION),
             best: matches.get_str(BEST_OPTION),
             from: matches.get_str(FROM_OPTION),
             is_told: matches.get_flag(PROGRESS_OPTION),

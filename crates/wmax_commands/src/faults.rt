@@ -1,6 +1,7 @@
 //! Why a command has no answer, and what is said of it.
-ghost use Rattle.std.specs.Prelude.{◌≡◌};
-ghost use Rattle.wmax.specs.Faults.{fault_of_text, fault_status, file_fault, output_outcome};
+ghost use Rattle.std.specs.Prelude.{◌≡◌, IfOk, IfSome};
+ghost use Rattle.wmax_commands.specs.Faults.{fault_of_text, fault_status, file_fault};
+ghost use Rattle.wmax_commands.specs.Faults.{output_outcome};
 
 use explain::mending::advise_unpacking;
 use report::fault::RunFault;
@@ -24,7 +25,7 @@ pub enum Fault<'a> {
 }
 
 impl From<RunFault> for Fault<'_> {
-    ghost use Rattle.wmax.specs.declared.faults.Fault.TheVariants.{Run};
+    ghost use Rattle.wmax_commands.specs.declared.faults.Fault.TheVariants.{Run};
 
     ghost from_gives = { λ fault made. made ≡ Run fault };
 
@@ -149,7 +150,10 @@ pub(crate) fn read_whole<'a, R: AllocGlobal, F: Read>(
     rt: &R,
     file: &mut F,
     path: &'a str,
-) -> Result<Vec<u8>, Fault<'a>> {
+) -> Result<Vec<u8>, Fault<'a>>
+    ensures whole { IfOk result
+        (λ text. IfSome (F.remaining file.old) (λ all. text.items ≡ all)) }
+{
     match read_file(rt, file) {
         Ok(text) => Ok(text),
         Err(fault) => Err(Fault::of_file(fault, path)),

@@ -1,7 +1,7 @@
 //! `wmax explain`: what there is of an instance, or what a result comes to, and how much less a
 //! solution could cost.
 ghost use Rattle.text.specs.Writing.{Writes};
-ghost use Rattle.wmax.specs.Explaining.{bound_text};
+ghost use Rattle.wmax_commands.specs.Explaining.{bound_text};
 
 use crate::arguments::ExplainRequest;
 use crate::checking::show;
@@ -10,6 +10,7 @@ use crate::lower_bounds::judge_lower;
 use contradiction::finding::{Finding, find_contradiction};
 use explain::contradicting::{write_contradiction, write_open, write_refuted};
 use explain::explaining::{ExplainFault, write_explanation};
+use explain::holdings::{Holdings, find_holdings, write_holdings};
 use explain::judging::{Judgement, judge};
 use explain::mending::write_mending;
 use explain::reasoning::{Reasons, find_reasons, write_reasons};
@@ -125,32 +126,41 @@ fn explain_beside<'a, R: Files + AllocGlobal + Print, E: Write>(
 struct Bound<'t> {
     /// The verdict on it.
     verdict: LowerVerdict,
-    /// The facts of the form that it ends with, if it has one and can be read again.
-    why: Option<Reasons<'t>>,
+    /// What it has inside, if it is right and can be read again.
+    inside: Option<Inside<'t>>,
+}
+
+/// What a certificate has inside.
+#[derive(Drop)]
+struct Inside<'t> {
+    /// The facts of the form that it ends with.
+    why: Reasons<'t>,
+    /// How much it holds.
+    holdings: Holdings,
 }
 
 /// Judges the certificate. If it proves something and is in a regular file, it is read once more
-/// for its form, in memory.
+/// for what it has inside, in memory.
 fn judge_bound<'a, 't, R: Files + AllocGlobal>(
     rt: &R,
     text: &'t [u8],
     proof: &mut Certificate<'a, R::File>,
 ) -> Result<Bound<'t>, Fault<'a>> {
     let verdict = judge_lower(rt, text, &mut proof.file, proof.path)?;
-    let why = match verdict {
+    let inside = match verdict {
         LowerVerdict::No(..) => None,
-        _ if is_regular(rt, proof.path) => read_reasons(rt, text, proof.path)?,
+        _ if is_regular(rt, proof.path) => read_inside(rt, text, proof.path)?,
         _ => None,
     };
-    Ok(Bound { verdict, why })
+    Ok(Bound { verdict, inside })
 }
 
-/// The facts of the form that the certificate at this path ends with.
-fn read_reasons<'a, 't, R: Files + AllocGlobal>(
+/// What the certificate at this path has inside.
+fn read_inside<'a, 't, R: Files + AllocGlobal>(
     rt: &R,
     text: &'t [u8],
     path: &'a str,
-) -> Result<Option<Reasons<'t>>, Fault<'a>> {
+) -> Result<Option<Inside<'t>>, Fault<'a>> {
     let mut proof = open(rt, path)?;
     let proof = read_whole(rt, &mut proof, path)?;
     let Ok(instance) = read(rt.alloc(), text) else {
@@ -162,12 +172,16 @@ fn read_reasons<'a, 't, R: Files + AllocGlobal>(
         Err(_) => return Err(Fault::Run(RunFault::Memory)),
     };
     match find_reasons(rt.alloc(), text, &instance, &last) {
-        Ok(reasons) => Ok(Some(reasons)),
+        Ok(why) => Ok(Some(Inside {
+            why,
+            holdings: find_holdings(&proof, &last),
+        })),
         Err(_) => Err(Fault::Run(RunFault::Memory)),
     }
 }
 
-/// Prints what the certificate proves by itself, how far the result is from that, and why.
+/// Prints what the certificate proves by itself, how far the result is from that, why, and how much
+/// it holds.
 fn show_bound<'a, R: Print>(
     rt: &R,
     bound: &Bound<'_>,
@@ -181,17 +195,19 @@ fn show_bound<'a, R: Print>(
     )
 }
 
-/// Writes what a certificate proves by itself, how far a solution is from that, and why.
+/// Writes what a certificate proves by itself, how far a solution is from that, why, and how much
+/// it holds.
 fn write_bound<W: Write>(
     bound: &Bound<'_>,
     judgement: Judgement,
     out: &mut W,
 ) -> Result<(), WriteFault> {
     print_bound(&bound.verdict, judgement, out)?;
-    match &bound.why {
-        Some(reasons) => write_reasons(reasons, out),
-        None => Ok(()),
+    if let Some(inside) = &bound.inside {
+        write_reasons(&inside.why, out)?;
+        write_holdings(&inside.holdings, out)?;
     }
+    Ok(())
 }
 
 /// Writes what a certificate proves by itself, and how far a solution is from that.

@@ -3,3 +3,4 @@ pub mod Explaining
 pub mod Faults
 pub mod Inputs
 pub mod Refusals
+pub mod Resuming

@@ -1,7 +1,7 @@
 -- Which of two faults is told, where a certificate is tried in each profile.
 use Rattle.std.specs.Prelude.{ℕ, Bool, not, ◌&&◌, ◌||◌, Option, Some, None, nat_le, ◌==◌}
 use Rattle.std.specs.Prelude.{if◌then◌else◌}
-use Rattle.wmax.specs.declared.checking.CertificateFault.{CertificateFault}
+use Rattle.wmax_commands.specs.declared.checking.CertificateFault.{CertificateFault}
 
 -- Whether the first line is as far down as the second. Line 0 is the end, behind all others.
 abbrev pub is_as_far : ℕ → ℕ → Bool

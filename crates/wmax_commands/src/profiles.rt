@@ -3,14 +3,14 @@
 use crate::faults::Fault;
 use adder::profiles::Profile;
 use report::fault::RunFault;
-use report::options::pick_profile;
+use report::words::pick_profile;
 use std::env::{self, VarError};
 use std::io::Write;
 use std::rt::Env;
 use wmax_onlooker::standard_error::Messages;
 
 /// The name of the profile of forms and cuts.
-const CUTS: &str = "3";
+pub(crate) const CUTS: &str = "3";
 
 /// The variable of the environment that names the profile where no `--profile` does.
 const VARIABLE: &str = "WMAX_PROFILE";

@@ -6,8 +6,8 @@ use Rattle.wcnf.specs.declared.faults.FaultKind.TheVariants.{Read as ReadKind}
 use Rattle.report.specs.Codes.{code_of_fault}
 use Rattle.report.specs.declared.fault.RunFault.{RunFault}
 use Rattle.report.specs.declared.fault.RunFault.TheVariants.{Read, Memory, Output, ProofOutput}
-use Rattle.wmax.specs.declared.faults.Fault.{Fault}
-use Rattle.wmax.specs.declared.faults.Fault.TheVariants.{Run, Unreadable, Closed}
+use Rattle.wmax_commands.specs.declared.faults.Fault.{Fault}
+use Rattle.wmax_commands.specs.declared.faults.Fault.TheVariants.{Run, Unreadable, Closed}
 
 -- 3 for a file that cannot be read, and 141 where nobody reads the output
 abbrev pub fault_status : Fault → ℕ
