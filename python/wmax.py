@@ -540,8 +540,9 @@ class Instance:
                     instance.best (the last result that was kept meanwhile) and instance.lock; it is
                     made if need be. Else they are removed, also where an exception ends this, or, in
                     the main thread, SIGTERM.
-        resume      whether to go on from the solution that an earlier call left in the folder, if it
-                    fits this instance; else it is moved to instance.best.earlier at the start
+        resume      whether to go on from what an earlier call left in the folder: from its solution,
+                    and in profile 3 with its certificate, so that no bound is lost. What does not fit
+                    this instance is moved to instance.best.earlier or instance.lrat.earlier
         warm        whether to begin with the last solution of this instance, if the hard clauses that
                     came since hold in it
         progress    a function that is called with a `Step` at each change and twice a second, or True:
@@ -563,7 +564,7 @@ class Instance:
         try:
             with _files_fail(), _ended_by_signals(), _folder(folder) as (home, lock):
                 run = _Run(program, home, profile, lock)
-                run.clear()
+                run.clear(resume)
                 run.instance.write_text(self.text(), encoding="utf-8")
                 self._begin(run, resume, warm)
                 run.solve(ask)
@@ -611,6 +612,7 @@ class Instance:
         numbers = numbers or list(range(1, len(self._names) + 1))
         optima = Optima()
         found = self.solve(**how)
+        how["resume"] = False  # no earlier run was one with the clauses to come
         size = len(self._clauses), len(self._groups)
         try:
             while found.is_optimum and (not optima or found.cost == optima[0].cost):
@@ -636,7 +638,7 @@ class Instance:
         starts += [_bits(kept)] if kept and resume else []
         fitting = [bits for bits in map(self._continued, starts) if bits is not None]
         if kept and not (resume and self._continued(_bits(kept))):
-            run.set_aside()
+            run.set_aside(run.best)
         if not fitting:
             run.best.unlink(missing_ok=True)
             return
@@ -1232,11 +1234,17 @@ class _Run:
         profile = last if profile is None else profile
         self._profile = [] if profile is None else ["--profile", str(profile)]
         self._proves_bounds = profile == 3  # each beginning of its certificate proves one
+        self._goes_on = False  # whether it goes on with the certificate of an earlier run
 
-    def clear(self) -> None:
-        """Removes what earlier runs have left, but for their best solution."""
-        for old in (self.result, self.proof):
-            old.unlink(missing_ok=True)
+    def clear(self, resume: bool = False) -> None:
+        """Removes what earlier runs have left, but for their best solution, and a certificate to go on with."""
+        self.result.unlink(missing_ok=True)
+        is_left = resume and self.proof.exists() and self.proof.stat().st_size > 0
+        self._goes_on = is_left and self._proves_bounds and "--resume" in self._help
+        if not is_left:
+            self.proof.unlink(missing_ok=True)
+        elif not self._goes_on:
+            self.set_aside(self.proof)
 
     def kept(self) -> _Said:
         """The best solution so far, if one was kept."""
@@ -1249,8 +1257,9 @@ class _Run:
         self.best.write_text(f"o {cost}\ns SATISFIABLE\n{f'v {digits}'.strip()}\n")
         self.history.append(Step(0.0, cost, None))
 
-    def set_aside(self) -> None:
-        self.best.replace(f"{self.best}.earlier")
+    @staticmethod
+    def set_aside(file: pathlib.Path) -> None:
+        file.replace(f"{file}.earlier")
 
     def step(self, cost: Optional[int], lower: Optional[int]) -> None:
         self.history.append(Step(round(time.monotonic() - self._start, 3), cost, lower))
@@ -1288,6 +1297,7 @@ class _Run:
     def solve(self, ask: _Request) -> None:
         """ProgramFailed: the program ended with a fault, or gave no result."""
         words = ["solve", *self._profile, "--proof", str(self.proof), "--best", str(self.best)]
+        words += ["--resume"] if self._goes_on else []
         words += [] if ask.conflicts is None else ["--conflicts", str(ask.conflicts)]
         ends_itself = ask.time_limit is not None and ask.time_limit >= 0.001 and "--time-limit" in self._help
         words += ["--time-limit", f"{ask.time_limit:.3f}"] if ends_itself else []
@@ -1309,6 +1319,13 @@ class _Run:
         if self.stopped or self.status == -signal.SIGINT:
             self.status, self.stopped = None, self.stopped or "interrupt"
             self._take_kept()
+            return
+        if self._goes_on and self.status in (1, 2):
+            # It has searched for nothing yet: the certificate is of another instance, or lacks its solution.
+            self.set_aside(self.proof)
+            self._goes_on = False
+            left = None if ask.time_limit is None else max(0.001, self._start + ask.time_limit - time.monotonic())
+            self.solve(ask._replace(time_limit=left))
             return
         if self.status not in self.STATUSES:
             raise ProgramFailed(f"wmax solve ended with status {self.status}: {message or 'without a message'}")
@@ -1332,7 +1349,7 @@ class _Run:
 
     def _follow(self, child: "subprocess.Popen[bytes]", out: int, err: int, ask: _Request, grace: float) -> None:
         """Waits for the end, or so long after the time limit, and notes what the program says meanwhile."""
-        costs, bounds = _Tail(out, rb"^o ([0-9]{1,19})$"), _Tail(err, rb"\bat least ([0-9]{1,19})\b")
+        costs, bounds = _Tail(out, rb"^o ([0-9]{1,19})$"), _Tail(err, rb"\bat least ([0-9]{1,19}(?:\.[0-9])?)\b")
         end = math.inf if ask.time_limit is None else self._start + ask.time_limit + grace
         told = -math.inf
         while True:
@@ -1394,7 +1411,7 @@ def _text(file: int) -> str:
 
 
 class _Tail:
-    """The last number that lines of a growing file name."""
+    """The last number that lines of a growing file name, rounded up."""
 
     def __init__(self, file: int, form: bytes) -> None:
         self.last: Optional[int] = None
@@ -1408,7 +1425,9 @@ class _Tail:
         new = new[:new.rfind(b"\n") + 1]
         self._read += len(new)
         found, was = self._form.findall(new), self.last
-        self.last = int(found[-1]) if found else was
+        if found:
+            whole, _, tenths = found[-1].partition(b".")
+            self.last = int(whole) + (tenths not in (b"", b"0"))
         return self.last != was
 
 
