@@ -106,7 +106,19 @@ explained 'there is a solution' 1 "$said" 'that is wrong: the hard clauses have 
 explained 'there is a solution of no clause' 1 "$said" 'that is wrong: the hard clauses have a solution'
 lines proof '5 2 0 1 2 0' '6 0 5 3 4 0'
 lines text 'h 1 2 0' 'h -1 2 0' 'h 1 -2 0' 'h -1 -2 0'
+# set_apart: `out` without what a certificate holds, which is `held`
+set_apart() {
+    held=$(sed -n '/^additions: /,$p' <<< "$out")
+    out=$(sed '/^additions: /,$d' <<< "$out")
+}
+# holds NAME ADDITIONS DELETIONS COUNTS OUTPUTS GROUPS FORMS CUTS BOUNDS LIVE END: what it holds, as `held` has it
+holds() {
+    ok "$1: what it holds" [ "$held" = "$(printf '%s: %s\n' additions "$2" deletions "$3" counts "$4" 'further outputs of counts' "$5" \
+        groups "$6" 'lines of forms' "$7" cuts "$8" bounds "$9" 'live clauses' "${10}"; printf 'PROOF %s\n' "${11}")" ]
+}
 call explain text result proof
+set_apart
+holds 'no solution, and its certificate' 2 0 0 0 0 0 0 0 6 'ends with the empty clause: it proves that there is no solution'
 expect 'no solution, and its certificate' 0 "$said"$'\n4 of 4 hard clauses contradict each other:\nline 1: h 1 2 0\nline 2: h -1 2 0\nline 3: h 1 -2 0\nline 4: h -1 -2 0\nno solution\nwhy: there is no form' ''
 # each NAME: the clauses that are listed of text contradict each other over all assignments, and not without one of them
 each_needed() {
@@ -277,6 +289,7 @@ reasoned() {
     head=$paid$'\n'"at least $2"$'\n'"gap $3"
     shift 3
     call explain text result proof
+    set_apart
     expect "$name" 0 "$head"$'\n'"$(printf '%s\n' "$@")" ''
 }
 clause=(': line 2: h 1 2 0' '    c one of both')
@@ -293,6 +306,7 @@ lines proof 'form 1 0' 'cut -2 0' '3 1 0 2 1 0' 'cut 0'
 reasoned 'no fact' 3 0 'why: the last form shows at least 3' '1 times the cost'
 lines proof 'count 1 1 2 0' '4 3 0 2 3 1 0' 'form 1 3 -1 0' 'cut 0'
 reasoned 'a core' 3 0 'why: the last form shows at least 3' '1 times the cost' 'less 3 times number 1: at least 1 of these' "${given_up[@]}"
+holds 'a core' 1 0 1 0 0 1 1 0 5 'ends with the empty clause: it proves at least 3'
 lines proof 'count 1 1 2 0' 'form 1 3 -1 0' 'bound 0 0'
 reasoned 'a count of which nothing is known' 0 3 'why: the last form shows at least 0' '1 times the cost' \
     'less 3 times number 1: at least 0 of these' "${given_up[@]}"
@@ -303,8 +317,13 @@ lines proof 'count 1 1 2 0' '4 3 0 2 3 1 0' 'count 1 3 1 0' 'form 1 1 -2 2 -1 0'
 reasoned 'an output of a count that is a fact too' 0 3 'why: the last form shows at least 1' '1 times the cost' \
     'less 2 times number 1: at least 1 of these' "${given_up[@]}" 'less 1 times number 2: at least 0 of these' '  number 1 has 1 or more' \
     "${given_up[@]:0:2}"
+lines proof 'count 1 1 2 0' '' 'more 1 0' '6 3 0 2 3 1 0' '6 d 2 0' 'form 1 3 -1 0' 'form + 1 -1 0' 'bound 2 0'
+reasoned 'a count that grows' 2 1 'why: the last form shows at least 3' '1 times the cost' \
+    'less 3 times number 1: at least 1 of these' "${given_up[@]}" 'less 1 times number 1: at least 1 of these' "${given_up[@]}"
+holds 'a count that grows' 1 1 1 1 0 2 0 1 5 'does not end: so far it proves at least 2'
 lines proof 'group -1 -2 0 1 0' 'form 1 3 -1 0' 'cut 0'
 reasoned 'a group' 3 0 'why: the last form shows at least 3' '1 times the cost' 'less 3 times number 1: at most 1 of these' '  literal -1' '  literal -2'
+holds 'a group' 0 0 0 0 1 1 1 0 2 'ends with the empty clause: it proves at least 3'
 lines proof '2 1 2 0 1 0' 'form 1 3 2 0' 'cut 0'
 reasoned 'a clause that was added' 3 0 'why: the last form shows at least 3' '1 times the cost' 'less 3 times clause 2: at least 1 of these' \
     "${given_up[@]}"
@@ -315,10 +334,12 @@ reasoned 'a clause of FILE that was deleted' 3 0 'why: the last form shows at le
     "${clause[1]}"
 : > "$work/proof"
 reasoned 'no form' 0 3 'why: there is no form'
+holds 'no line' 0 0 0 0 0 0 0 0 1 'does not end: so far it proves at least 0'
 lines proof 'form 0 0'
 reasoned 'nothing is shown' 0 3 'why: the last form shows nothing' '0 times the cost'
 printf 'form 1 3 1 0\nbound 3 0\nform 1 0' > "$work/proof"
 reasoned 'what no line feed ends' 3 0 'why: the last form shows at least 3' '1 times the cost' "less 3 times clause 1${clause[0]}" "${clause[1]}"
+holds 'what no line feed ends' 0 0 0 0 0 1 0 1 1 'does not end: so far it proves at least 3'
 lines proof 'form 1 3 1 0' 'cut 0'
 mkfifo "$work/fifo"
 cat "$work/proof" > "$work/fifo" &
@@ -327,6 +348,7 @@ expect 'a pipe' 0 "$paid"$'\nat least 3\ngap 0' ''
 wait
 lines worse 'o 4' 's SATISFIABLE' 'v 01'
 call explain text worse proof
+set_apart
 expect 'a gap' 0 "$(printf '%s\n' 'cost 4' 'given up: 1 of 2 soft clauses' '+ 4 = 4, line 5: 4 -2 0' 'at least 3' 'gap 1' \
     'why: the last form shows at least 3' '1 times the cost' "less 3 times clause 1${clause[0]}" "${clause[1]}")" ''
 lines wrong 'o 3' 's SATISFIABLE' 'v 01'
@@ -353,6 +375,7 @@ lines text 'h 1 0' 'h -1 0' '3 1 0'
 lines result 's UNSATISFIABLE'
 lines proof 'form 0 1 1 1 2 0' 'cut 0'
 call explain text result proof
+set_apart
 expect 'no solution, by a form' 0 "$said"$'\n2 of 2 hard clauses contradict each other:\nline 1: h 1 0\nline 2: h -1 0\nno solution
 why: the last form shows that there is no solution\n0 times the cost\nless 1 times clause 1: line 1: h 1 0\nless 1 times clause 2: line 2: h -1 0' ''
 # a form of twelve facts
@@ -360,6 +383,7 @@ awk 'BEGIN { for (i = 1; i <= 12; i++) { print "h " 2 * i - 1, 2 * i, 0; print i
 printf 'o 78\ns OPTIMUM FOUND\nv 101010101010101010101010\n' > "$work/result"
 printf 'form 1 1 1 2 2 3 3 4 4 5 5 6 6 7 7 8 8 9 9 10 10 11 11 12 12 0\ncut 0\n' > "$work/proof"
 call explain text result proof
+set_apart
 ok 'twelve facts: the status' [ "$status$err" = 0 ]
 ok 'twelve facts: the ten with the greatest weights' [ "$(grep -A 99 '^why' <<< "$out")" = "$(
     echo 'why: the last form shows at least 78'
@@ -373,6 +397,20 @@ form=$(awk '/^form [0-9]/ { facts = "" } /^form/ { for (i = 3; i < NF; i += 2) f
     tests/program/cuts/network_20_1.lrat)
 listed=$(sed -n 's/^less \([0-9]*\) times clause \([0-9]*\).*/\1 \2/p; s/^less \([0-9]*\) times number \([0-9]*\).*/\1 -\2/p' <<< "$out")
 ok 'a search: its facts' [ "$(sort <<< "$form")" = "$(sort <<< "$listed")" ]
+set_apart
+ok 'a search: its lines' [ "$(head -n 8 <<< "$held")" = "$(awk '
+    /^count/ { counts++; next }
+    /^more/ { outputs++; next }
+    /^group/ { groups++; next }
+    /^form/ { forms++; next }
+    /^cut/ { cuts++; next }
+    /^bound/ { bounds++; next }
+    $2 == "d" { deletions++; next }
+    { additions++ }
+    END {
+        printf "additions: %d\ndeletions: %d\ncounts: %d\nfurther outputs of counts: %d\n", additions, deletions, counts, outputs
+        printf "groups: %d\nlines of forms: %d\ncuts: %d\nbounds: %d\n", groups, forms, cuts, bounds
+    }' tests/program/cuts/network_20_1.lrat)" ]
 
 # Faults.
 lines text 'h 1 2'

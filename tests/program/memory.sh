@@ -10,11 +10,13 @@ if [ ! -e "$work/refuse.so" ]; then
     exit
 fi
 
-# refused N WORD..: the program with these words, with its Nth allocation refused
+# refused N WORD..: the program with these words, with its Nth allocation refused; what stands in `begun`, if anything, is its
+# certificate so far
 refused() {
     local at=$1
     shift
     rm -f "$work/mark" "$work/proof"
+    [ ! -e "$work/begun" ] || cp "$work/begun" "$work/proof"
     (cd "$work" && REFUSE_AT=$at REFUSE_MARK=mark LD_PRELOAD="$work/refuse.so" timeout 60 "$wmax" "$@" > .out 2> .err < /dev/null)
     status=$?
     err=$(cat "$work/.err")
@@ -36,8 +38,10 @@ is_other_way() {
         [ "$(cd "$work" && "$wmax" check $(profile_of "$@") text .out proof)" = YES ]
 }
 
-# is_beginning WORD..: what stands of a certificate after these words: nothing, or in profile 3 lines that are right
+# is_beginning WORD..: what stands of a certificate after these words: nothing, or in profile 3 lines that are right, with all that
+# stood there before
 is_beginning() {
+    [ ! -e "$work/begun" ] || cmp -s -n "$(stat -c %s "$work/begun")" "$work/begun" "$work/proof" || return 1
     [ ! -s "$work/proof" ] || { [ "$(profile_of "$@")" = '--profile 3' ] && (cd "$work" && "$wmax" lower text proof > /dev/null); }
 }
 
@@ -96,6 +100,13 @@ each 'lower: a form' lower text given
 each 'explain: a form' explain text result given
 each 'one of two, profile 3' solve --profile 3 --proof proof text
 each 'from a solution, profile 3' solve --profile 3 --from result --proof proof text
+lines begun 'count 1 1 2 0' 'form 1 1 1 0' 'bound 1 0'
+each 'from a certificate' solve --profile 3 --proof proof --resume text
+lines begun 'form 1 0' 'cut -2 0' '3 1 0 2 1 0' 'bound 3 0'
+each 'from a certificate and a solution' solve --profile 3 --from result --proof proof --resume text
+lines begun 'form 1 3 1 0' 'cut 0'
+each 'from a certificate that has ended' solve --profile 3 --from result --proof proof --resume text
+rm "$work/begun"
 lines text 'h 1 -1 0' '2 1 1 0' '3 -1 0'
 each 'a clause with complementary literals' solve --proof proof text
 printf 'c x\r\n\r\nh -1 0\r\n7 1 0' > "$work/text"

@@ -2,7 +2,7 @@
 # `--progress`: lines on standard error, and nothing else is different.
 source "$(dirname "$0")/../lib"
 
-form='[0-9]+\.[0-9] s, ((no solution( yet)?|cost [0-9]+ \((1 solution|[0-9]+ solutions)\))(, at least [0-9]+(, gap [0-9]+\.[0-9]{2} %)?)?, [0-9]+ conflicts \([0-9]+ a second\),( [0-9]+ MB of memory,)? [0-9]+\.[0-9]{2} % of the effort spent, [0-9]+ propagations, [0-9]+ learned clauses, [0-9]+ restarts|writing the certificate)'
+form='[0-9]+\.[0-9] s, ((no solution( yet)?|cost [0-9]+ \((1 solution|[0-9]+ solutions)\))(, at least [0-9]+(\.[0-9])?( by (cores|the relaxation|conflicts))?(, gap [0-9]+\.[0-9]{2} %)?)?, [0-9]+ conflicts \([0-9]+ a second\),( [0-9]+ MB of memory,)? [0-9]+\.[0-9]{2} % of the effort spent, [0-9]+ propagations, [0-9]+ learned clauses, [0-9]+ restarts|writing the certificate)'
 
 plain() { # WORD..: the run without the option: `out`, `status` and the certificate
     rm -f "$work/proof"
@@ -63,20 +63,25 @@ ok 'profile 3: no word of the certificate' [ -z "$(grep certificate <<< "$err")"
 numbers 'the conflicts of profile 3' '.*, ([0-9]+) conflicts.*'
 numbers 'the propagations of profile 3' '.*, ([0-9]+) propagations.*'
 
-# What is needed at least, as the certificate proves, and the gap.
+# What is needed at least, as the certificate proves, and the gap. Below the cost it has a decimal, which is rounded up: the bound
+# is that, or the next whole number.
 ok 'profile 3: at least, never more than the cost, and the gap' awk -F '[ ,]+' -v best="$(grep '^o' <<< "$out" | tail -n 1 | cut -c 3-)" '
+    function fits(least,    off) { off = gap - 100 * (cost - least) / cost; return off >= -0.0001 && off <= 0.0101 }
     { for (i = 3; i <= NF; i++) { if ($i == "least") low = $(i + 1); if ($i == "cost") cost = $(i + 1); if ($i == "gap") gap = $(i + 1) } }
     / at least / {
-        if (low < last || low > best) wrong = 1
-        last = low
+        is_below = low ~ /\./
+        if (low + 0 < last || low > best + 0 || is_below != (low < cost + 0) || is_below && !/ by /) wrong = 1
+        last = low + 0
         lines++
-        off = gap - 100 * (cost - low) / cost
-        if (/gap/ && (off < -0.0001 || off > 0.0101 || (gap == 0) != (low == cost))) wrong = 1
+        if (/gap/ && (!fits(low) && !(is_below && fits(int(low) + 1)) || (gap == 0) != (low == cost + 0))) wrong = 1
     }
     END { exit wrong || !lines }' <<< "$(grep cost <<< "$err")"
-said=$(sed -nE 's/.*, (at least [0-9]+), .*/\1/p' <<< "$err" | tail -n 1)
+ok 'profile 3: which way the bound came' grep -qE ', at least [0-9]+\.[0-9] by (cores|the relaxation|conflicts), gap ' <<< "$err"
+ok 'profile 3: the effort is spent at the end' grep -q ', 100.00 % of the effort spent, ' <<< "$(tail -n 1 <<< "$err")"
+said=$(sed -nE 's/.*, at least ([0-9.]+)[ ,].*/\1/p' <<< "$err" | tail -n 1)
 call lower text proof
-expect 'profile 3: the last one is what the certificate proves' 0 "$said" ''
+ok "profile 3: $said is what the certificate proves: $out" awk -v said="$said" -v bound="${out#at least }" '
+    BEGIN { exit !(said + 0 <= bound && bound - said <= (said ~ /\./)) }'
 
 # Each solution is shown, also the later ones.
 several=0

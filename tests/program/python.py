@@ -495,6 +495,32 @@ def lies(program):
     expect("the time", "--time-limit 2.500" in (folder / "words").read_text(), True)
     told(words, time_limit=2.5)
     expect("the time, of a program that knows of none", "--time-limit" in (folder / "words").read_text(), False)
+    # The certificate of an earlier run goes on in profile 3, by a program that can; else it is set aside.
+    left, earlier = folder / "left" / "instance.lrat", folder / "left" / "instance.lrat.earlier"
+    left.parent.mkdir()
+    knows = "--profile <1|2|3> --resume"
+    for name, help, given, wanted in (("it goes on", knows, {}, (True, True, False)), ("of no use", knows, {"profile": 2}, (False, False, True)),
+                                      ("of a program that cannot", "--profile <1|2|3>", {}, (False, False, True)),
+                                      ("not wanted", knows, {"resume": False}, (False, False, False))):
+        left.write_text("form 1 0\n")
+        earlier.unlink(missing_ok=True)
+        told(words, help=help, folder=left.parent, **{"resume": True, **given})
+        found = "--resume" in (folder / "words").read_text().split(), left.exists(), earlier.exists()
+        expect(f"an earlier certificate, {name}", found, wanted)
+    for name, status in (("faulty", 1), ("without its solution", 2)):
+        left.write_text("form 1 0\n")
+        found = told(f'case "$*" in *--resume*) echo NO x 1; exit {status} ;; esac; ' + plain, help=knows, folder=left.parent, resume=True)
+        expect(f"an earlier certificate that is {name}", found, (3, True, 30, ["tea"]))
+        expect(f"an earlier certificate that is {name}: it is set aside", (earlier.read_text(), left.exists()), ("form 1 0\n", True))
+    left.write_text("form 1 0\n")
+    found = told("exit 3", help=knows, folder=left.parent, resume=True)
+    expect("an earlier certificate, a fault", (found[0], left.read_text()), ("ProgramFailed", "form 1 0\n"))
+    for said, wanted in (("at least 2.9 by the relaxation", 3), ("at least 3.0 by cores", 3), ("at least 3 by conflicts", 3), ("at least 3", 3)):
+        path = folder / "pretender"
+        path.write_text(PRETENDER.format(solve=f"echo '0.1 s, cost 3 (1 solution), {said}, gap 0.00 %' >&2; " + some, check="exit 3", lower="exit 3",
+                                         help="--profile <2>"))
+        found = shop.solve(program=str(path), warm=False)
+        expect(f"a bound that is told: {said}", max(step.lower or 0 for step in found.history), wanted)
     expect("no program", raised(lambda: shop.solve(program=str(folder / "missing")))[0], "ProgramFailed")
     expect("no effort", raised(lambda: shop.solve(program=program, conflicts=0, warm=False))[0], "NoSolutionFound")
     # A machine that is busy meets its first solution late.
@@ -704,6 +730,38 @@ def again(program):
     expect("no effort by forms and cuts", (found.cost, found.lower, found.is_optimum, found.status), (1, 0, False, 0))
     found = holes.solve(program=program, profile=1, conflicts=0, folder=folder / "holes")
     expect("no bound in another profile", (found.cost, found.lower, found.is_optimum), (1, None, False))
+
+    # Stopped again and again: what is proved never falls, and no line of the certificate is lost.
+    rings = wmax.Instance()
+    for ring in range(12):
+        seats = rings.variables((ring, seat) for seat in range(5))
+        for seat in range(5):
+            rings.hard(seats[seat - 1], seats[seat])
+            rings.soft(1, -seats[seat])
+    home = folder / "rings"
+    lower, before, stops, is_kept = 0, b"", 0, True
+    for effort in range(200):
+        found = raised(lambda: rings.solve(program=program, profile=3, conflicts=effort, folder=home, resume=True, warm=False))
+        proof = (home / "instance.lrat").read_bytes()
+        is_kept = is_kept and proof.startswith(before)
+        before, stops = proof[:proof.rfind(b"\n") + 1], stops + 1
+        if isinstance(found, wmax.Solution):
+            is_kept = is_kept and found.lower is not None and found.lower >= lower
+            lower = found.lower
+            if found.is_optimum:
+                break
+    expect("stopped again and again", (found.cost, found.is_optimum, is_kept, stops > 3), (36, True, True, True))
+    found = rings.solve(program=program, conflicts=1, folder=home, resume=True, warm=False)
+    expect("then it is answered at once", (found.cost, found.is_optimum, found.status), (36, True, 30))
+    expect("then it stays", (home / "instance.lrat").read_bytes() == proof, True)
+    rings.hard(-rings[(0, 0)])
+    rings.soft(2, -rings[(0, 1)])
+    found = rings.solve(program=program, folder=home, resume=True)
+    expect("of another instance", (found.cost, found.is_optimum), (38, True))
+    expect("of another instance: it is set aside", (home / "instance.lrat.earlier").read_bytes() == proof, True)
+    expect("of another instance: it is another", (home / "instance.lrat").read_bytes() != proof, True)
+    found = rings.optima(2, program=program, folder=home, resume=True)
+    expect("optima that go on", [(it.cost, it.is_optimum) for it in found], [(38, True)] * 2)
 
     # Further optima.
     for seed in range(60):
