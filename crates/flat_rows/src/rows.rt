@@ -191,9 +191,10 @@ impl<T: Copy> FlatRows<T> {
         Ok(())
     }
 
-    /// Where less than a quarter of the places in use have an entry, moves all rows to a smaller
-    /// block, side by side, each with room for half as many entries again. Rows that have shrunk
-    /// keep their room otherwise, and those that moved have left places behind.
+    /// Where less than a quarter of the places in use have an entry, moves all rows to the front of
+    /// the block, side by side, each with room for half as many entries again. Rows that have
+    /// shrunk keep their room otherwise, and those that moved have left places behind. In between
+    /// the entries lie in a block that has no room for more.
     ///
     /// # Errors
     ///
@@ -207,7 +208,9 @@ impl<T: Copy> FlatRows<T> {
         }
         let fill = self.block.get(0);
         let packed = self.packed(&fill)?;
-        *self = packed;
+        if self.take_rows(&packed, &fill).is_err() {
+            *self = packed;
+        }
         Ok(())
     }
 
@@ -220,14 +223,14 @@ impl<T: Copy> FlatRows<T> {
         entries < self.used / 4
     }
 
-    /// The same rows side by side, each with room for half as many entries again.
+    /// The same rows side by side in another block, without room for further entries.
     fn packed(&self, fill: &T) -> Result<Self, AllocError>
         ensures { IfOk result (λ packed. packed.rows ≡ self.now.rows) }
     {
         let alloc = *self.heads.allocator();
         let mut rooms = Vec::new(alloc);
         for head in &self.heads {
-            rooms.push(head.length.saturating_add(head.length / 2))?;
+            rooms.push(head.length)?;
         }
         let mut packed = FlatRows::new(alloc, self.rows())?;
         packed.make_rooms(&rooms, fill)?;
@@ -235,6 +238,29 @@ impl<T: Copy> FlatRows<T> {
             packed.copy_row(row, self)?;
         }
         Ok(packed)
+    }
+
+    /// The rows become those of the other one, side by side, each with room for half as many
+    /// entries again.
+    fn take_rows(&mut self, other: &Self, fill: &T) -> Result<(), AllocError>
+        requires even { length self.old.rows ≡ length other.now.rows }
+        ensures { OnOk result (self.new.rows ≡ other.now.rows) }
+    {
+        self.clear();
+        for row in 0..self.rows() {
+            let entries = other.heads[row].length;
+            self.give_room(row, entries.saturating_add(entries / 2), fill)?;
+            self.copy_row(row, other)?;
+        }
+        Ok(())
+    }
+
+    /// Takes all entries and all room from the rows.
+    fn clear(&mut self)
+        ensures { length self.new.rows ≡ length self.old.rows }
+    {
+        self.heads.fill(NO_ROW);
+        self.used = 0;
     }
 
     /// The row becomes that of the other one.
