@@ -1,39 +1,31 @@
 // The state of forms and cuts: a method for each line.
-ghost use Rattle.std.specs.Prelude.{◌≡◌, ℕ, ◌+◌, ◌*◌, ◌<◌, ◌≤◌, ◌^◌, ◌∷◌, [], map, length, sum_by};
-ghost use Rattle.std.specs.Prelude.{◌+ℤ◌, ◌*ℤ◌, pos, slice_index_or};
-ghost use Rattle.std.specs.Prelude.{All, IfOk, IfSome, None, OnErr, OnOk, Some, true};
+ghost use Rattle.std.specs.Prelude.{◌≡◌, ◌<◌, ◌≤◌, ◌^◌, ◌∷◌, [], map, sum_by, ◌+ℤ◌, ◌*ℤ◌, pos};
+ghost use Rattle.std.specs.Prelude.{slice_index_or, All, IfOk, None, OnErr, OnOk};
 ghost use Rattle.std.specs.Option.{option_copied, option_map};
 ghost use Rattle.cnf.specs.declared.limits.TheConstants.{NUMBER_LIMIT, VARIABLE_LIMIT};
 ghost use Rattle.adder.specs.Parts.{weight_in};
-ghost use Rattle.forms.specs.Forms.{forms_of, heard, count_line, more_line, group_line, form_line};
-ghost use Rattle.forms.specs.Forms.{are_known, at_number, begun, bound_line, clause_size, cut_line};
-ghost use Rattle.forms.specs.Forms.{fact_size, less_clause, less_fact, less_facts, less_numbered};
-ghost use Rattle.forms.specs.Forms.{inputs_of, numbered_size, outputs_at};
+ghost use Rattle.forms.specs.Forms.{forms_of, heard, group_line, are_known, at_number, bound_line};
+ghost use Rattle.forms.specs.Forms.{cut_line, inputs_of, outputs_at};
 ghost use Rattle.linear.specs.Costs.{least};
 ghost use Rattle.linear.specs.Linear.{coefficient};
-ghost use Rattle.forms.specs.Answers.{HasFormFault, HasRoom, HasSizeFault, IsFact, IsMade, IsTaken};
-ghost use Rattle.forms.specs.Answers.{MakesStageClauses};
+ghost use Rattle.forms.specs.Answers.{IsTaken, MakesStageClauses};
 
-use crate::citing::{subtract_clause, subtract_item};
-use crate::faults::{LineFault, MOST_COUNT_CLAUSES, MOST_TERMS};
+mod counting;
+mod forming;
+
+use crate::faults::LineFault;
 use crate::groups::are_excluded;
-use crate::growing::{
-    add_output, add_stages, grow_item, more_fault, multiplier_of, push_count, widen,
-};
+use crate::growing::widen;
 use crate::known::{greatest_variable, repeats_variable};
-use crate::numbered::{Numbered, inputs_at, next_stamp, numbered_size, outputs_at};
-use crate::sizes::{clause_size, facts_size};
+use crate::numbered::{Numbered, inputs_at, outputs_at};
 use crate::table::ClauseTable;
-use crate::types::NamedFact;
 use crate::worth::worth_of;
 use adder::relaxations::Relaxation;
-use cnf::clause_list::ClauseList;
 use cnf::marks::Marks;
 use cnf::types::Lit;
 use linear::bounds::CostBound;
 use std::alloc::{AllocError, Global};
 use std::marker::Model;
-use totalizer::totalizer::Totalizer;
 
 /// What the lines of forms and cuts so far leave: counts and groups, the variables that unit
 /// clauses have given a value, and the present form with its least value.
@@ -253,225 +245,5 @@ impl Forms {
         let lits = Vec::from_slice(alloc, lits)?;
         self.numbered.push(Numbered::Group(lits))?;
         Ok(None)
-    }
-
-    /// A form: so many times the cost in place of the present form, or that form itself where there
-    /// is no scale, less these facts. Answers why the line is refused, if it is: `Name` or `Limit`.
-    ///
-    /// # Errors
-    ///
-    /// `AllocError` where memory was refused.
-    pub fn form<T: ClauseTable>(
-        &mut self,
-        table: &T,
-        scale: Option<u64>,
-        facts: &[NamedFact],
-    ) -> Result<Option<LineFault>, AllocError>
-        requires scale { IfSome scale (λ d. d < NUMBER_LIMIT) }
-        requires facts { All IsFact facts.now }
-        ensures { IfOk result (λ fault. IsTaken
-            (form_line (T.at table.now) scale facts.now self.old) self.old self.new fault) }
-    {
-        if let Some(fault) = self.form_fault(table, scale, facts) {
-            return Ok(Some(fault));
-        }
-        self.begin_form(scale);
-        self.subtract_all(table, facts)?;
-        Ok(None)
-    }
-
-    /// Why a form line is refused, if it is.
-    fn form_fault<T: ClauseTable>(
-        &self,
-        table: &T,
-        scale: Option<u64>,
-        facts: &[NamedFact],
-    ) -> Option<LineFault>
-        ensures { HasFormFault (T.at table.now) scale facts.now self.now result }
-    {
-        match scale {
-            None if !self.has_form => Some(LineFault::Name),
-            None => self.size_fault(table, facts),
-            Some(_) => self.size_fault(table, facts),
-        }
-    }
-
-    /// Why there is no room for the facts, if there is none.
-    fn size_fault<T: ClauseTable>(&self, table: &T, facts: &[NamedFact]) -> Option<LineFault>
-        ensures { HasSizeFault (T.at table.now) self.now facts.now result }
-    {
-        match facts_size(&self.numbered, table, facts) {
-            None => Some(LineFault::Name),
-            Some(size) if size > (MOST_TERMS - self.terms) as u128 => Some(LineFault::Limit),
-            Some(_) => None,
-        }
-    }
-
-    /// Begins a form, if there is a scale: so many times the cost.
-    fn begin_form(&mut self, scale: Option<u64>)
-        requires { IfSome scale (λ d. d < NUMBER_LIMIT) }
-        ensures { self.new ≡ begun scale self.old }
-    {
-        match scale {
-            Some(scale) => self.begin(scale),
-            None => {}
-        }
-    }
-
-    /// Takes facts, which are there, off the present form.
-    fn subtract_all<T: ClauseTable>(
-        &mut self,
-        table: &T,
-        facts: &[NamedFact],
-    ) -> Result<(), AllocError>
-        requires facts { All IsFact facts.now }
-        requires room { HasRoom (T.at table.now) self.old facts.now }
-        ensures { OnOk result (self.new ≡ less_facts (T.at table.now) self.old facts.now) }
-    {
-        for fact in facts {
-            self.subtract(table, fact)?;
-        }
-        Ok(())
-    }
-
-    /// Begins a form: so many times the cost.
-    fn begin(&mut self, scale: u64)
-        requires { scale < NUMBER_LIMIT }
-        ensures { self.new ≡ begun (Some scale) self.old }
-    {
-        self.bound.restart(scale);
-        self.has_form = true;
-        self.present = next_stamp(&mut self.numbered, self.present);
-    }
-
-    /// Takes a fact, which is there, off the present form.
-    fn subtract<T: ClauseTable>(&mut self, table: &T, fact: &NamedFact) -> Result<(), AllocError>
-        requires fact { IsFact fact.now }
-        requires room { IfSome (fact_size (T.at table.now) self.old.numbered fact.now)
-            (λ n. self.old.terms + n ≤ MOST_TERMS) }
-        ensures { OnOk result (self.new ≡ less_fact (T.at table.now) self.old fact.now) }
-    {
-        if fact.is_numbered {
-            self.subtract_numbered(fact.weight, fact.number);
-            return Ok(());
-        }
-        match table.find(fact.number) {
-            Some(clause) => self.subtract_clause(fact.weight, clause),
-            None => Ok(()),
-        }
-    }
-
-    /// Takes the fact of a clause off the present form.
-    fn subtract_clause(&mut self, weight: u64, clause: &[Lit]) -> Result<(), AllocError>
-        requires weight { weight < NUMBER_LIMIT }
-        requires room { self.old.terms + clause_size clause.now ≤ MOST_TERMS }
-        ensures { OnOk result (self.new ≡ less_clause weight clause.now self.old) }
-    {
-        self.bound.widen(greatest_variable(clause) as usize + 1)?;
-        subtract_clause(&mut self.bound, clause, weight);
-        self.terms += clause_size(clause);
-        Ok(())
-    }
-
-    /// Takes the fact of a count or group off the present form, if there is one with the number.
-    fn subtract_numbered(&mut self, weight: u64, number: u64)
-        requires weight { weight < NUMBER_LIMIT }
-        requires room { IfSome (at_number self.old.numbered number)
-            (λ n. self.old.terms + numbered_size n ≤ MOST_TERMS) }
-        ensures { self.new ≡ less_numbered weight number self.old }
-    {
-        if number == 0 || number > self.numbered.len() as u64 {
-            return;
-        }
-        let item = &mut self.numbered[number as usize - 1];
-        self.terms += numbered_size(item);
-        subtract_item(&mut self.bound, item, weight, self.present);
-    }
-
-    /// A count of these literals with so many outputs, a totalizer whose clauses, and no others,
-    /// are in `clauses` then. Answers why the line is refused, if it is: `Name` or `Limit`.
-    ///
-    /// # Errors
-    ///
-    /// `AllocError` where memory was refused.
-    pub fn count(
-        &mut self,
-        outputs: u64,
-        inputs: &[Lit],
-        clauses: &mut ClauseList,
-    ) -> Result<Option<LineFault>, AllocError>
-        ensures { IfOk result (λ fault. IsMade (count_line outputs inputs.now self.old)
-            self.old self.new clauses.new fault) }
-    {
-        clauses.clear();
-        if outputs == 0 || outputs > inputs.len() as u64 || !self.are_known(inputs) {
-            return Ok(Some(LineFault::Name));
-        }
-        self.add_count(outputs as usize, inputs, clauses)
-    }
-
-    /// A count of literals that are there, with so many outputs, and its clauses. Answers `Limit`
-    /// where they are too many.
-    fn add_count(
-        &mut self,
-        outputs: usize,
-        inputs: &[Lit],
-        clauses: &mut ClauseList,
-    ) -> Result<Option<LineFault>, AllocError>
-        requires known { are_known self.old inputs.now ≡ true }
-        requires some { 1 ≤ outputs }
-        requires few { outputs ≤ length inputs.now }
-        requires none { clauses.old ≡ [] }
-        ensures { IfOk result (λ fault. IsMade (count_line outputs inputs.now self.old)
-            self.old self.new clauses.new fault) }
-    {
-        let mut totalizer = Totalizer::new(*self.numbered.allocator(), inputs)?;
-        let room = MOST_COUNT_CLAUSES - self.made;
-        let next = add_stages(&mut totalizer, outputs, self.variables + 1, room, clauses)?;
-        let Some(fresh) = next else {
-            clauses.clear();
-            return Ok(Some(LineFault::Limit));
-        };
-        widen(&mut self.bound, &mut self.marks, fresh)?;
-        push_count(&mut self.numbered, inputs, totalizer)?;
-        self.variables = fresh - 1;
-        self.made += clauses.len();
-        Ok(None)
-    }
-
-    /// One more output of the count with a number, whose clauses, and no others, are in `clauses`
-    /// then. The present form has it as often as the count's fact. Answers why the line is refused,
-    /// if it is: `Name` or `Limit`.
-    ///
-    /// # Errors
-    ///
-    /// `AllocError` where memory was refused.
-    pub fn more(
-        &mut self,
-        number: u64,
-        clauses: &mut ClauseList,
-    ) -> Result<Option<LineFault>, AllocError>
-        ensures { IfOk result (λ fault. IsMade (more_line number self.old)
-            self.old self.new clauses.new fault) }
-    {
-        clauses.clear();
-        if let Some(fault) = more_fault(&self.numbered, number, self.made) {
-            return Ok(Some(fault));
-        }
-        let item = &mut self.numbered[number as usize - 1];
-        let multiplier = multiplier_of(item, self.present);
-        let fresh = self.variables + 1;
-        match grow_item(item, &mut self.bound, &mut self.marks, fresh, clauses) {
-            Ok(next) => {
-                self.variables = next - 1;
-                self.made += clauses.len();
-                add_output(&mut self.bound, next - 1, multiplier);
-                Ok(None)
-            }
-            Err(error) => {
-                self.numbered.clear();
-                Err(error)
-            }
-        }
     }
 }
