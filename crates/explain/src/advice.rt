@@ -1,11 +1,16 @@
 // What would mend a faulty line, in a sentence. Nothing rests on it: the fault and its line are the
 // reader's.
-use crate::mending::MOST_SHOWN;
+
+mod places;
+pub(crate) mod signs;
+
+use crate::advice::places::{
+    first_above, first_after_zero, first_other, hidden_column, is_behind_zero, variables_of,
+    word_at, word_start,
+};
+use crate::advice::signs::mend_signs;
 use cnf::limits::{MOST_TEXT_CLAUSES, MOST_VARIABLES};
-use text::cutting::tokens;
-use text::digits::{is_blank, number};
-use text::pieces::Tokens;
-use text::words::{Word, read_word};
+use text::digits::number;
 use wcnf::faults::FaultKind;
 
 /// What is said of a faulty line.
@@ -78,48 +83,6 @@ fn mend(kind: FaultKind, header: &[u8], line: &[u8], word: &[u8]) -> &'static st
 }
 
 const EMPTY: &[u8] = b"";
-
-const BYTE_ORDER_MARK: &str =
-    "It begins with a byte order mark, which editors do not show: save FILE as UTF-8 without it.";
-
-/// The byte order marks of UTF-8 and UTF-16.
-const ORDER_MARKS: [&[u8]; 3] = [b"\xef\xbb\xbf", b"\xff\xfe", b"\xfe\xff"];
-
-pub(crate) const GZIP: &str = "FILE is compressed: give it as '<(zcat FILE)'.";
-
-pub(crate) const XZ: &str = "FILE is compressed: give it as '<(xzcat FILE)'.";
-
-const NO_BREAK_SPACE: &str =
-    "It has a no-break space, which only looks like a space: type a plain one.";
-
-/// A no-break space, and a narrow one.
-const SPACES: [&[u8]; 2] = [b"\xc2\xa0", b"\xe2\x80\xaf"];
-
-const LONG_DASH: &str = "It has a long dash or a typographic minus sign: type a plain '-'.";
-
-/// Hyphens and dashes of typography, and its minus sign.
-const DASHES: [&[u8]; 7] = [
-    b"\xe2\x80\x90",
-    b"\xe2\x80\x91",
-    b"\xe2\x80\x92",
-    b"\xe2\x80\x93",
-    b"\xe2\x80\x94",
-    b"\xe2\x80\x95",
-    b"\xe2\x88\x92",
-];
-
-const HIDDEN_SIGN: &str = "It has a character that editors do not show: type the line again.";
-
-/// Zero-width spaces and joiners, direction marks, line and paragraph separators.
-const HIDDEN_SIGNS: [&[u8]; 7] = [
-    b"\xe2\x80\x8b",
-    b"\xe2\x80\x8c",
-    b"\xe2\x80\x8d",
-    b"\xe2\x80\x8e",
-    b"\xe2\x80\x8f",
-    b"\xe2\x80\xa8",
-    b"\xe2\x80\xa9",
-];
 
 const NO_HEAD: &str =
     "A clause begins with 'h' if it must hold, else with its weight: 'h -1 0' or '3 -1 0'.";
@@ -239,20 +202,6 @@ fn mend_literal(word: &[u8]) -> &'static str {
     }
 }
 
-/// What to do where a word has characters that look like others or like none, or begins a
-/// compressed file.
-fn mend_signs(word: &[u8]) -> Option<&'static str> {
-    match word {
-        [0x1f, 0x8b, ..] => Some(GZIP),
-        [0xfd, b'7', b'z', b'X', b'Z', ..] => Some(XZ),
-        _ if has_one(word, &ORDER_MARKS) => Some(BYTE_ORDER_MARK),
-        _ if has_one(word, &SPACES) || word == BYTE_SPACE => Some(NO_BREAK_SPACE),
-        _ if has_one(word, &DASHES) => Some(LONG_DASH),
-        _ if has_one(word, &HIDDEN_SIGNS) => Some(HIDDEN_SIGN),
-        _ => None,
-    }
-}
-
 /// Why this line is no header.
 fn mend_header(line: &[u8]) -> &'static str {
     if word_at(line, 1) == SAT {
@@ -281,136 +230,7 @@ const SAT: &[u8] = b"cnf";
 /// The second word of the older form.
 const MAXSAT: &[u8] = b"wcnf";
 
-/// A no-break space where each byte is a character.
-const BYTE_SPACE: &[u8] = b"\xa0";
-
-/// The word of the line with this number, which counts from 0; nothing where there is none.
-fn word_at(line: &[u8], place: usize) -> &[u8] {
-    let mut left = place;
-    for word in tokens(line) {
-        if left == 0 {
-            return word;
-        }
-        left -= 1;
-    }
-    EMPTY
-}
-
-/// How many variables a header says, where a `u32` holds them.
-fn variables_of(header: &[u8]) -> u32 {
-    match number(word_at(header, 2)) {
-        Some(variables) => variables.min(u64::from(MOST_VARIABLES)) as u32,
-        None => MOST_VARIABLES,
-    }
-}
-
-/// The words of a clause line after its first.
-fn words_of(line: &[u8]) -> Tokens<'_> {
-    let mut words = tokens(line);
-    let _ = words.next();
-    words
-}
-
-/// Which word is the first that is no literal and no 0; none where there is none.
-fn first_other(line: &[u8]) -> Option<usize> {
-    let mut place: usize = 1;
-    for word in words_of(line) {
-        if matches!(read_word(word), Word::Other) {
-            return Some(place);
-        }
-        place = place.saturating_add(1);
-    }
-    None
-}
-
-/// Whether the first word that is no literal and no 0 stands after a 0.
-fn is_behind_zero(line: &[u8]) -> bool {
-    let mut is_ended = false;
-    for word in words_of(line) {
-        match read_word(word) {
-            Word::Other => return is_ended,
-            Word::End => is_ended = true,
-            _ => {}
-        }
-    }
-    false
-}
-
-/// Which word is the first after the 0; none where there is none.
-fn first_after_zero(line: &[u8]) -> Option<usize> {
-    let mut place: usize = 1;
-    let mut is_ended = false;
-    for word in words_of(line) {
-        if is_ended {
-            return Some(place);
-        }
-        is_ended = matches!(read_word(word), Word::End);
-        place = place.saturating_add(1);
-    }
-    None
-}
-
-/// Which word is the first literal with a variable above this one; none where there is none.
-fn first_above(line: &[u8], most: u32) -> Option<usize> {
-    let mut place: usize = 1;
-    for word in words_of(line) {
-        match read_word(word) {
-            Word::Above => return Some(place),
-            Word::Literal(lit) if lit.variable() > most => return Some(place),
-            _ => {}
-        }
-        place = place.saturating_add(1);
-    }
-    None
-}
-
-/// How many bytes stand before the word of this number, which counts from 0.
-fn word_start(line: &[u8], place: usize) -> usize {
-    let mut left = place;
-    let mut is_between = true;
-    for (at, byte) in line.iter().enumerate() {
-        if is_between && !is_blank(*byte) {
-            if left == 0 {
-                return at;
-            }
-            left -= 1;
-        }
-        is_between = is_blank(*byte);
-    }
-    line.len()
-}
-
-/// The column of a word with so many bytes before it, and so many of its own; 0 where the line as
-/// it is shown has the whole word. No character before a faulty word takes more than one byte.
-fn hidden_column(start: usize, length: usize) -> usize {
-    if start.saturating_add(length) <= MOST_SHOWN {
-        0
-    } else {
-        start.saturating_add(1)
-    }
-}
-
 /// Whether the word has this byte.
 fn has_byte(word: &[u8], byte: u8) -> bool {
     word.contains(&byte)
-}
-
-/// Whether the word has one of these.
-fn has_one(word: &[u8], parts: &[&[u8]]) -> bool {
-    for part in parts {
-        if has_part(word, part) {
-            return true;
-        }
-    }
-    false
-}
-
-/// Whether the word has these bytes one after another.
-fn has_part(word: &[u8], part: &[u8]) -> bool {
-    for at in 0..word.len() {
-        if word[at..].starts_with(part) {
-            return true;
-        }
-    }
-    false
 }

@@ -145,9 +145,8 @@ fn explain_solution<W: Write>(
         (W.contents writer.old) (W.contents writer.new)) }
 {
     let bits = solution.bits.as_slice();
-    let told = solution.cost.cost;
     if bits.len() == instance.vars() as usize {
-        return explain_bits(alloc, text, instance, bits, told, writer);
+        return explain_bits(alloc, text, instance, solution, writer);
     }
     match write_bits(bits.len(), instance.vars(), writer) {
         Ok(()) => Ok(false),
@@ -155,36 +154,34 @@ fn explain_solution<W: Write>(
     }
 }
 
-/// Writes what is to be said of bits, one for each variable.
+/// Writes what is to be said of a solution with a bit for each variable.
 fn explain_bits<W: Write>(
     alloc: Global,
     text: &[u8],
     instance: &Instance,
-    bits: &[bool],
-    told: u64,
+    solution: &ClaimedSolution,
     writer: &mut W,
 ) -> Result<bool, ExplainFault>
-    requires { length bits.now ≡ instance.now.variables }
+    requires { length solution.now.bits.items ≡ instance.now.variables }
     ensures ok { IfOk result (λ is_right. Explains text.now instance.now
-        (OptimumFound told bits.now) is_right (W.contents writer.old) (W.contents writer.new)) }
+        (OptimumFound solution.now.cost.cost solution.now.bits.items) is_right
+        (W.contents writer.old) (W.contents writer.new)) }
     ensures fault { IfErr result (λ fault. LeavesRead fault text.now instance.now
-        (OptimumFound told bits.now) (W.contents writer.old) (W.contents writer.new)) }
+        (OptimumFound solution.now.cost.cost solution.now.bits.items)
+        (W.contents writer.old) (W.contents writer.new)) }
 {
+    let bits = solution.bits.as_slice();
     let Ok(findings) = find(alloc, text, instance, bits) else {
         return Err(ExplainFault::Memory);
     };
     instance.limits();
-    let cost = instance.cost(bits);
-    let is_right = is_solution(instance, bits, told);
-    match write_listing(
-        text,
-        bits,
-        cost,
-        told,
-        instance.soft().len(),
-        &findings,
-        writer,
-    ) {
+    let costs = Costs {
+        cost: instance.cost(bits),
+        told: solution.cost.cost,
+        soft: instance.soft().len(),
+    };
+    let is_right = is_solution(instance, bits, costs.told);
+    match write_listing(text, bits, costs, &findings, writer) {
         Ok(()) => Ok(is_right),
         Err(_) => Err(ExplainFault::Output),
     }
@@ -213,26 +210,36 @@ fn find<'a>(
     Ok(Findings { given_up, lines })
 }
 
+/// What bits cost.
+#[derive(Drop)]
+struct Costs {
+    /// What they do cost.
+    cost: u64,
+    /// What the result says that they cost.
+    told: u64,
+    /// How many soft clauses there are.
+    soft: usize,
+}
+
 /// Writes what was found, and then the names of the true variables.
 fn write_listing<W: Write>(
     text: &[u8],
     bits: &[bool],
-    cost: u64,
-    told: u64,
-    all: usize,
+    costs: Costs,
     findings: &Findings<'_>,
     writer: &mut W,
 ) -> Result<(), WriteFault>
     requires { sum_by (λ g. g.weight) findings.now.given_up.items < 2 ^ 64 }
     ensures { Writes result (W.contents writer.old)
-        (listing_text text.now bits.now cost told all findings.now) (W.contents writer.new) }
+        (listing_text text.now bits.now costs.cost costs.told costs.soft findings.now)
+        (W.contents writer.new) }
 {
     let given_up = findings.given_up.as_slice();
     let soft = findings.lines.soft.as_slice();
     let hard = findings.lines.hard.as_slice();
     let mut sheet = Sheet::new();
-    put_cost(&mut sheet, writer, cost, told);
-    put_count(&mut sheet, writer, given_up.len(), all);
+    put_cost(&mut sheet, writer, costs.cost, costs.told);
+    put_count(&mut sheet, writer, given_up.len(), costs.soft);
     put_given_up(&mut sheet, writer, given_up, soft);
     put_broken(&mut sheet, writer, hard);
     put_names(&mut sheet, writer, text, bits);

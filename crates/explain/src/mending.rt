@@ -5,7 +5,8 @@ ghost use Rattle.explain.specs.Sheets.{Displays};
 ghost use Rattle.explain.specs.Mending.{BreaksMending, Mends, cut_text, is_packed, line_of};
 ghost use Rattle.explain.specs.Mending.{place_text, shown_line, word_line};
 
-use crate::advice::{Advice, GZIP, XZ, advise};
+use crate::advice::signs::{GZIP, XZ};
+use crate::advice::{Advice, advise};
 use crate::sheet::Sheet;
 use crate::showing::put_shown;
 use std::io::Write;

@@ -73,28 +73,28 @@ pub(crate) fn put_given_up<W: Write>(
     let mut paid: u64 = 0;
     for each in given_up {
         paid += each.weight;
-        put_paid(sheet, writer, each.weight, paid, soft, each.place as usize);
+        put_paid(sheet, writer, each, paid, soft);
     }
 }
 
-/// One of them.
+/// One of them, up to which so much is paid.
 fn put_paid<W: Write>(
     sheet: &mut Sheet,
     writer: &mut W,
-    weight: u64,
+    each: &GivenUp,
     paid: u64,
     soft: &[ClauseLine<'_>],
-    place: usize,
 )
     ensures { Displays (W.contents writer.old) sheet.old
-        (paid_line weight paid (source_text_at soft.now place)) (W.contents writer.new) sheet.new }
+        (paid_line each.now.weight paid (source_text_at soft.now each.now.place))
+        (W.contents writer.new) sheet.new }
 {
     sheet.put(writer, b"+ ");
-    sheet.put_number(writer, weight);
+    sheet.put_number(writer, each.weight);
     sheet.put(writer, b" = ");
     sheet.put_number(writer, paid);
     sheet.put(writer, b", ");
-    put_source_at(sheet, writer, soft, place);
+    put_source_at(sheet, writer, soft, each.place as usize);
 }
 
 /// The line at this place.

@@ -40,18 +40,28 @@ fn write_counts<W: Write>(instance: &Instance, writer: &mut W) -> Result<(), Wri
     ensures { Writes result (W.contents writer.old) (summary_text instance.now)
         (W.contents writer.new) }
 {
-    let hard = instance.hard().len();
-    let soft = instance.soft().len();
+    let counts = Counts {
+        vars: instance.vars(),
+        hard: instance.hard().len(),
+        soft: instance.soft().len(),
+        weights: sum_weights(instance),
+    };
     let mut sheet = Sheet::new();
-    put_counts(
-        &mut sheet,
-        writer,
-        instance.vars(),
-        hard,
-        soft,
-        sum_weights(instance),
-    );
+    put_counts(&mut sheet, writer, counts);
     sheet.finish(writer)
+}
+
+/// What there is of an instance.
+#[derive(Drop)]
+struct Counts {
+    /// How many variables it has.
+    vars: u32,
+    /// How many hard clauses.
+    hard: usize,
+    /// How many soft clauses.
+    soft: usize,
+    /// The sum of their weights: below 2^62.
+    weights: u64,
 }
 
 /// The sum of the weights.
@@ -63,24 +73,18 @@ fn sum_weights(instance: &Instance) -> u64
 }
 
 /// Each number, on a line of its own.
-fn put_counts<W: Write>(
-    sheet: &mut Sheet,
-    writer: &mut W,
-    vars: u32,
-    hard: usize,
-    soft: usize,
-    weights: u64,
-)
-    ensures { Displays (W.contents writer.old) sheet.old (counts_text vars hard soft weights)
+fn put_counts<W: Write>(sheet: &mut Sheet, writer: &mut W, counts: Counts)
+    ensures { Displays (W.contents writer.old) sheet.old
+        (counts_text counts.vars counts.hard counts.soft counts.weights)
         (W.contents writer.new) sheet.new }
 {
     sheet.put(writer, b"variables: ");
-    sheet.put_number(writer, vars as u64);
+    sheet.put_number(writer, counts.vars as u64);
     sheet.put(writer, b"\nhard clauses: ");
-    sheet.put_number(writer, hard as u64);
+    sheet.put_number(writer, counts.hard as u64);
     sheet.put(writer, b"\nsoft clauses: ");
-    sheet.put_number(writer, soft as u64);
+    sheet.put_number(writer, counts.soft as u64);
     sheet.put(writer, b"\nsum of weights: ");
-    sheet.put_number(writer, weights);
+    sheet.put_number(writer, counts.weights);
     sheet.put(writer, b"\n");
 }

@@ -10,8 +10,8 @@ use Rattle.explain.proofs.explaining.write_listing.Goals.{After-put_names}
 -- one part after another
 put : (g : Over) (c : After-put_names g)
     → Displays (g.W.Write.contents c.args.writer.now) c.new-sheet.result
-    (listing_text c.args.text.now c.args.bits.now c.args.cost c.args.told c.args.all
-    c.args.findings.now)
+    (listing_text c.args.text.now c.args.bits.now c.args.costs.cost c.args.costs.told
+    c.args.costs.soft c.args.findings.now)
     (g.W.Write.contents c.put_names.new.writer) c.put_names.new.sheet
 put g c =
     rw (
