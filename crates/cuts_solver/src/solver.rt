@@ -36,6 +36,7 @@ use cdcl::guide::Guide;
 use cdcl::guided::{GuidedEnd, are_apart, make_room, search_guided};
 use cdcl::watch::SearchWatch;
 use cdcl::whole::{MOST_ROOM, start_whole};
+use cdcl_order::policy::Policy;
 use cdcl_search::axioms::take_axiom;
 use cdcl_search::input::Input;
 use cdcl_search::search::Search;
@@ -58,6 +59,18 @@ const IDS_A_LINE: u64 = 64;
 
 /// and so many for clauses that its counts have made, twice as many as there may be.
 const IDS_OF_COUNTS: u64 = 1 << 23;
+
+/// A conflict has about so many lines: what it learns comes, and mostly goes.
+const LINES_A_CONFLICT: u64 = 2;
+
+/// The first deletion comes after so many conflicts (`cdcl_order/src/deletions.rt`),
+const FIRST_PAUSE: u64 = 1000;
+
+/// each further one after so many more than the one before,
+const PAUSE_STEP: u64 = 100;
+
+/// and so often that grows.
+const PAUSE_STEPS: u64 = 40;
 
 /// The clauses of counts have so many literals at most.
 const MOST_COUNTED: usize = 3;
@@ -397,9 +410,15 @@ fn start_behind(
     ensures { IfOk result (λ found. IfSome found
         (λ begun. StartsBehind instance.now machine.now.state begun.0 begun.1)) }
 {
+    let alloc = instance.allocator();
     let formula = weighted_formula(instance)?;
     let base = formula.clauses().len() as u64;
     let (mut search, input) = start_whole(formula, room.min(MOST_ROOM))?;
+    count_deletions(
+        &mut search.policy,
+        alloc,
+        machine.lines() / LINES_A_CONFLICT,
+    );
     match take_earlier(&mut search, &input, machine, base) {
         Ok(true) => Ok(Some((search, input))),
         Ok(false) => {
@@ -412,6 +431,21 @@ fn start_behind(
             drop(input);
             Err(AllocError)
         }
+    }
+}
+
+/// Counts the deletions that come with so many conflicts, so that the next ones come as late as if
+/// the search had gone on: as often as at its beginning, they would leave it half of its clauses.
+fn count_deletions(policy: &mut Policy, alloc: Global, conflicts: u64)
+    ensures { policy.new ≡ policy.old }
+{
+    let mut left = conflicts;
+    for deletions in 0..u64::MAX {
+        let pause = FIRST_PAUSE + PAUSE_STEP * deletions.min(PAUSE_STEPS);
+        if left < pause || policy.choose(alloc, &[]).is_err() {
+            return;
+        }
+        left -= pause;
     }
 }
 
