@@ -1,9 +1,12 @@
 //! The program `wmax`: hands its handles to the commands, and their exit status to the system.
 #![tactic(auto)]
 
+mod mistakes;
+mod program;
+
+use crate::program::run_program;
 use std::io::IsTerminal;
 use std::process::ExitCode;
-use wmax_commands::program::run_program;
 use wmax_onlooker::standard_error::Messages;
 
 fn main(rt: HostRuntime) -> ExitCode {

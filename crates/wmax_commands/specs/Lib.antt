@@ -1,5 +1,4 @@
 pub mod Checking
-pub mod Explaining
 pub mod Faults
 pub mod Inputs
 pub mod Refusals

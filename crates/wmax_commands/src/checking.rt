@@ -204,7 +204,7 @@ pub(crate) fn show_for<'a, R: Print, E: Write>(
 }
 
 /// Prints the verdict; its exit status.
-pub(crate) fn show<'a, R: Print>(rt: &R, verdict: &Verdict) -> Result<u8, Fault<'a>> {
+pub fn show<'a, R: Print>(rt: &R, verdict: &Verdict) -> Result<u8, Fault<'a>> {
     let mut out = standard_output(rt);
     let written = deliver(print_verdict(verdict, &mut out), &mut out);
     end_output(written.map(|()| verdict_code(verdict)), out.is_closed())

@@ -70,7 +70,7 @@ const CLOSED: u8 = 141;
 
 /// Tells why a command has no answer; the exit status. A fault that cannot be told changes no
 /// status.
-pub(crate) fn tell_fault<E: Write>(messages: &mut Messages<'_, E>, fault: Fault<'_>) -> u8
+pub fn tell_fault<E: Write>(messages: &mut Messages<'_, E>, fault: Fault<'_>) -> u8
     ensures { result ≡ fault_status fault.entry }
 {
     match fault {
@@ -108,10 +108,7 @@ pub(crate) fn tell_text_fault<E: Write>(
 
 /// What a command comes to once standard output is written: its fault, where that failed, or that
 /// nobody reads it any more.
-pub(crate) fn end_output<'a>(
-    written: Result<u8, RunFault>,
-    is_closed: bool,
-) -> Result<u8, Fault<'a>>
+pub fn end_output<'a>(written: Result<u8, RunFault>, is_closed: bool) -> Result<u8, Fault<'a>>
     ensures { result ≡ output_outcome written is_closed }
 {
     match written {
@@ -126,7 +123,7 @@ pub(crate) fn end_output<'a>(
 /// # Errors
 ///
 /// `Unreadable` where it cannot be opened.
-pub(crate) fn open<'a, R: Files>(rt: &R, path: &'a str) -> Result<R::File, Fault<'a>> {
+pub fn open<'a, R: Files>(rt: &R, path: &'a str) -> Result<R::File, Fault<'a>> {
     match File::open(rt, path) {
         Ok(file) => Ok(file),
         Err(_) => Err(Fault::Unreadable(path)),
@@ -134,7 +131,7 @@ pub(crate) fn open<'a, R: Files>(rt: &R, path: &'a str) -> Result<R::File, Fault
 }
 
 /// Whether the file can be read more than once.
-pub(crate) fn is_regular<R: Files>(rt: &R, path: &str) -> bool {
+pub fn is_regular<R: Files>(rt: &R, path: &str) -> bool {
     match fs::metadata(rt, path) {
         Ok(data) => data.is_file(),
         Err(_) => false,
@@ -146,7 +143,7 @@ pub(crate) fn is_regular<R: Files>(rt: &R, path: &str) -> bool {
 /// # Errors
 ///
 /// `Unreadable` where it cannot be read; `Run` with `Memory`.
-pub(crate) fn read_whole<'a, R: AllocGlobal, F: Read>(
+pub fn read_whole<'a, R: AllocGlobal, F: Read>(
     rt: &R,
     file: &mut F,
     path: &'a str,

@@ -1,18 +1,15 @@
-//! The commands of the program `wmax`: what a command line asks for is done with the files that it
-//! names, and what comes of it is printed.
+//! The commands of the program `wmax` except for `explain`: what a command line asks for is done
+//! with the files that it names, and what comes of it is printed.
 #![tactic(auto)]
 
-mod arguments;
-mod checking;
-mod encoding;
-mod explaining;
-mod faults;
+pub mod arguments;
+pub mod checking;
+pub mod encoding;
+pub mod faults;
 mod inputs;
-mod lower_bounds;
-mod mistakes;
+pub mod lower_bounds;
 mod plain_encoding;
 mod profiles;
-pub mod program;
 mod refusals;
 mod resuming;
-mod solving;
+pub mod solving;

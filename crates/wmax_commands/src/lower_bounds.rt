@@ -29,7 +29,7 @@ pub fn lower<'a, R: Files + AllocGlobal + Print, E: Write>(
 
 /// Judges the certificate, which is at this path, as one of forms and cuts: only such a one proves
 /// something without its result.
-pub(crate) fn judge_lower<'a, R: AllocGlobal, P: Read>(
+pub fn judge_lower<'a, R: AllocGlobal, P: Read>(
     rt: &R,
     text: &[u8],
     proof: &mut P,

@@ -32,10 +32,10 @@ use wmax_onlooker::standard_output::standard_output;
 /// What is said of a time that is none.
 const NO_TIME: &str = "error: --time-limit takes a number of seconds above 0";
 
-/// What is said where no file has a certificate that could go on,
+/// What is said where no file has a certificate that could go on.
 const NO_PATH: &str = "error: solve takes --resume only with --proof";
 
-/// and where it would be one of another profile.
+/// What is said where the certificate that could go on would be one of another profile.
 const NO_CUTS: &str = "error: solve takes --resume only with --profile 3";
 
 /// FILE is opened, then RESULT, if the search begins with one: that is judged by FILE, which is
@@ -110,7 +110,7 @@ struct Plan<'a> {
     deadline: Deadline,
 }
 
-/// The limit that so many seconds are, to a thousandth of one; None where they are not above 0.
+/// The limit of `seconds` seconds, to a thousandth of one; None where they are not above 0.
 fn limit_of(seconds: Option<f64>) -> Option<Option<Duration>> {
     let Some(seconds) = seconds else {
         return Some(None);
@@ -170,9 +170,9 @@ fn solve_into<'a, R: Files + AllocGlobal + Print + Clock, E: Write>(
 /// What is written.
 #[derive(Drop)]
 struct RunOutputs<'a, R: Files, P> {
-    /// The certificate of an earlier run, if it goes on,
+    /// The certificate of an earlier run, if it goes on.
     earlier: Option<Earlier>,
-    /// and where it goes on, or a new one goes.
+    /// Where the certificate goes on, or a new one goes.
     proof: P,
     /// What keeps the best solution.
     keeper: Keeper<'a, R>,
@@ -363,16 +363,36 @@ fn run_search<O: Write, P: Write + Drop, K: RunWatch>(
         out,
         watch,
     };
-    let ended = match (certifying, earlier) {
-        (Certifying::Formula(profile), _) => {
+    match certifying {
+        Certifying::Formula(profile) => {
+            // By a call: that is proved once, and not field by field here.
+            drop(earlier);
             let mut proof = proof;
             let ended = run.solve_read(alloc, instance, &mut proof, profile);
-            return Ok(ended.map(|status| status.code()));
+            Ok(ended.map(|status| status.code()))
         }
-        (Certifying::Cuts, None) => run.solve_read_by_cuts(alloc, instance, proof),
-        (Certifying::Cuts, Some(earlier)) => {
-            run.resume_read_by_cuts(alloc, instance, earlier, proof)?
-        }
+        Certifying::Cuts => run_by_cuts(&mut run, alloc, instance, earlier, proof),
+    }
+}
+
+/// Searches by forms and cuts, behind the lines of an earlier certificate if there is one; the exit
+/// status.
+///
+/// # Errors
+///
+/// `ResumeFault` where that cannot go on.
+fn run_by_cuts<O: Write, P: Write + Drop, K: RunWatch>(
+    run: &mut Run<'_, '_, '_, '_, O, K>,
+    alloc: Global,
+    instance: &Instance,
+    earlier: Option<Earlier>,
+    proof: P,
+) -> Result<Result<u8, RunFault>, ResumeFault>
+    requires { IsFor (Some instance.now) earlier }
+{
+    let ended = match earlier {
+        None => run.solve_read_by_cuts(alloc, instance, proof),
+        Some(earlier) => run.resume_read_by_cuts(alloc, instance, earlier, proof)?,
     };
     Ok(ended.ended.map(|status| status.code()))
 }

@@ -1,17 +1,17 @@
 //! The whole program but for `main`: what the command line asks for is done.
-use crate::arguments::Request;
-use crate::checking::check;
-use crate::encoding::encode;
-use crate::explaining::explain;
-use crate::faults::tell_fault;
-use crate::lower_bounds::lower;
 use crate::mistakes::{refuse, tell_memory, tell_words};
-use crate::solving::solve;
 use report::command_line::make_command;
 use std::env;
 use std::fs::OpenOptions;
 use std::io::Write;
 use std::rt::{Clock, Env, Files};
+use wmax_commands::arguments::Request;
+use wmax_commands::checking::check;
+use wmax_commands::encoding::encode;
+use wmax_commands::faults::tell_fault;
+use wmax_commands::lower_bounds::lower;
+use wmax_commands::solving::solve;
+use wmax_explaining::explaining::explain;
 use wmax_onlooker::standard_error::Messages;
 
 /// Does what the command line asks for; the exit status.
@@ -19,7 +19,7 @@ use wmax_onlooker::standard_error::Messages;
 /// Where standard input, output or error was closed at the start, the next file that is opened
 /// takes its number, and what is meant for the terminal would go into that file. So the empty file
 /// is opened three times first, and held to the end.
-pub fn run_program<R: Files + AllocGlobal + Print + Env + Clock, E: Write>(
+pub(crate) fn run_program<R: Files + AllocGlobal + Print + Env + Clock, E: Write>(
     rt: &R,
     messages: &mut Messages<'_, E>,
 ) -> u8 {

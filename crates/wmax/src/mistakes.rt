@@ -1,10 +1,10 @@
 //! What is said where a command line cannot be read.
-use crate::faults::{Fault, tell_fault};
 use clap::Error;
 use clap::error::ErrorKind;
 use explain::showing::Shown;
 use report::fault::RunFault;
 use std::io::{self, Write};
+use wmax_commands::faults::{Fault, tell_fault};
 use wmax_onlooker::standard_error::Messages;
 use wmax_onlooker::standard_output::is_for_closing;
 

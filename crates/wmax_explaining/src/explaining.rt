@@ -1,12 +1,8 @@
 //! `wmax explain`: what there is of an instance, or what a result comes to, and how much less a
 //! solution could cost.
 ghost use Rattle.text.specs.Writing.{Writes};
-ghost use Rattle.wmax_commands.specs.Explaining.{bound_text};
+ghost use Rattle.wmax_explaining.specs.Explaining.{bound_text};
 
-use crate::arguments::ExplainRequest;
-use crate::checking::show;
-use crate::faults::{Fault, end_output, is_regular, open, read_whole};
-use crate::lower_bounds::judge_lower;
 use contradiction::finding::{Finding, find_contradiction};
 use explain::contradicting::{write_contradiction, write_open, write_refuted};
 use explain::explaining::{ExplainFault, write_explanation};
@@ -20,12 +16,16 @@ use lrat_check::verdicts::{Cause, Verdict};
 use lrat_cuts::last_form::LastForm;
 use report::fault::RunFault;
 use report::printing::{deliver, fault_code, lower_code, print_fault, print_gap, print_lower};
-use std::alloc::Global;
+use std::alloc::{AllocError, Global};
 use std::io::Write;
 use std::rt::Files;
 use text::output::WriteFault;
 use wcnf::faults::{FaultKind, ReadFault};
 use wcnf::reading::read;
+use wmax_commands::arguments::ExplainRequest;
+use wmax_commands::checking::show;
+use wmax_commands::faults::{Fault, end_output, is_regular, open, read_whole};
+use wmax_commands::lower_bounds::judge_lower;
 use wmax_onlooker::standard_error::Messages;
 use wmax_onlooker::standard_output::standard_output;
 
@@ -163,21 +163,36 @@ fn read_inside<'a, 't, R: Files + AllocGlobal>(
 ) -> Result<Option<Inside<'t>>, Fault<'a>> {
     let mut proof = open(rt, path)?;
     let proof = read_whole(rt, &mut proof, path)?;
-    let Ok(instance) = read(rt.alloc(), text) else {
-        return Err(Fault::Run(RunFault::Memory));
-    };
-    let last = match LastForm::read(&instance, &proof) {
-        Ok(Some(last)) => last,
-        Ok(None) => return Ok(None),
-        Err(_) => return Err(Fault::Run(RunFault::Memory)),
-    };
-    match find_reasons(rt.alloc(), text, &instance, &last) {
-        Ok(why) => Ok(Some(Inside {
-            why,
-            holdings: find_holdings(&proof, &last),
-        })),
+    match look_inside(rt.alloc(), text, &proof) {
+        Ok(inside) => Ok(inside),
         Err(_) => Err(Fault::Run(RunFault::Memory)),
     }
+}
+
+/// What this certificate has inside, if it and the text are right.
+///
+/// # Errors
+///
+/// `AllocError` where memory was refused, or the text is faulty.
+fn look_inside<'t>(
+    alloc: Global,
+    text: &'t [u8],
+    proof: &[u8],
+) -> Result<Option<Inside<'t>>, AllocError> {
+    let Ok(instance) = read(alloc, text) else {
+        return Err(AllocError);
+    };
+    let Some(last) = LastForm::read(&instance, proof)? else {
+        return Ok(None);
+    };
+    let why = find_reasons(alloc, text, &instance, &last);
+    let holdings = find_holdings(proof, &last);
+    // By a call: that is proved once, and not field by field here.
+    drop(last);
+    Ok(Some(Inside {
+        why: why?,
+        holdings,
+    }))
 }
 
 /// Prints what the certificate proves by itself, how far the result is from that, why, and how much

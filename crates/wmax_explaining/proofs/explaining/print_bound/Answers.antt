@@ -3,8 +3,8 @@ use Rattle.std.proofs.Common.{◌≡◌, ◌++◌, refl, subst, sym}
 use Rattle.text.specs.Writing.{Writes}
 use Rattle.text.proofs.Laws.{writes_next}
 use Rattle.report.specs.Printing.{gap_text, lower_text}
-use Rattle.wmax_commands.specs.Explaining.{gap_between}
-use Rattle.wmax_commands.proofs.explaining.print_bound.Goals as goal
+use Rattle.wmax_explaining.specs.Explaining.{gap_between}
+use Rattle.wmax_explaining.proofs.explaining.print_bound.Goals as goal
 
 pub returns-in-AtLeast-Right : goal.returns-in-AtLeast-Right
 returns-in-AtLeast-Right g c =
