@@ -10,7 +10,7 @@ use Rattle.adder.specs.Network.{Column, after_cell, added_up}
 use Rattle.adder.specs.Parts.{column_from}
 use Rattle.adder.proofs.Variables.{column_fresh}
 
--- so many steps are enough
+-- one step fewer than literals is enough
 enough : (s t n : ℕ) (ls : List Literal) → length ls ≤ s + 1 → length ls ≤ t + 1
     → added_up s n ls ≡ added_up t n ls
 enough s t n [] h k = refl

@@ -20,8 +20,8 @@ use smallvec::SmallVec;
 use std::alloc::{AllocError, Global};
 use std::marker::Model;
 
-/// Learned clauses of so many literals or fewer keep them inline, so that they take no memory
-/// beside their hints.
+/// The most literals that a learned clause keeps inline, so that it takes no memory except for its
+/// hints.
 pub const SHORT: usize = 8;
 
 /// A clause that follows, and what shows it.
@@ -71,7 +71,7 @@ impl Model for Analyzer {
 }
 
 impl Analyzer {
-    /// One for engines that have so many variables or fewer.
+    /// One for engines of at most `variables` variables.
     ///
     /// # Errors
     ///

@@ -31,7 +31,7 @@ axiom_count ls = count_by (λ l. is_axiom l.kind) ls
 abbrev pub IsGuidedLine : LogLine → Type 0
 IsGuidedLine l = (is_axiom l.kind ≡ true) ⊎ IsLearnedOrShort l
 
--- what was written between two moments: the lines after `before`, of which so many were learned or
+-- what was written between two moments: the lines after `before`, of which `spent` were learned or
 -- came from outside
 pub record WritesOpen (given : Given) (before after : List LogLine) (spent : ℕ) : Type 0 where
   pub more : List LogLine

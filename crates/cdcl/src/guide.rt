@@ -17,7 +17,7 @@ pub enum Advice {
     /// the policy may delete it later, as a learned clause that has it; without one it stays.
     Cut(Option<u32>),
     /// Tell `Guide::explained` why this literal is false, and ask again. It is passed over if the
-    /// literal is not false, or its variable is not there, and where so many were explained at this
+    /// literal is not false, or its variable is not there, and where as many were explained at this
     /// fixpoint as there are variables.
     Explain(Lit),
     /// Nothing: the policy decides.
@@ -69,8 +69,8 @@ pub trait Guide: Drop {
         Ok(())
     }
 
-    /// The search went back: the trail has so many literals, and those behind them are undone. It
-    /// is told so before the trail grows again.
+    /// The search went back: the trail keeps its first `_assigned` literals, and those behind them
+    /// are undone. It is told so before the trail grows again.
     fn went_back(&mut self, _assigned: usize)
         ensures follows { (first : Self) → follows first self.old → follows first self.new }
     {}

@@ -444,7 +444,7 @@ fn take_cut<S: Sink>(
     Ok(Taking::Taken)
 }
 
-/// Makes room for the marks of so many variables.
+/// Makes room for the marks of `variables` variables.
 ///
 /// # Errors
 ///

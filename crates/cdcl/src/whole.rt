@@ -16,7 +16,7 @@ use cnf::types::Formula;
 use eliminate::elimination::keep_whole;
 use std::alloc::{AllocError, Global};
 
-/// A search has room for so many variables at most beside those of the formula.
+/// The most variables that a search has room for in addition to those of the formula.
 pub const MOST_ROOM: u32 = 1 << 20;
 
 /// A search at level 0 over the clauses of the formula, and `room` variables more.

@@ -10,7 +10,7 @@ use Rattle.cdcl_order.specs.declared.deletions.TheConstants.{FIRST_DELETION, DEL
 use Rattle.cdcl_order.specs.declared.deletions.TheConstants.{DELETION_STEPS}
 use Rattle.cdcl_order.specs.declared.standings.TheConstants.{KEPT}
 
--- so many conflicts come between the last deletion and the next one
+-- how many conflicts come between the last deletion and the next one
 abbrev pub due_at : ℕ → ℕ
 due_at deletions = FIRST_DELETION + DELETION_STEP * min deletions DELETION_STEPS
 

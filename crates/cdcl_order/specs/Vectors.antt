@@ -27,7 +27,7 @@ none_left = refl
 waived_then : WaivesAs six_spent (record six_spent { waived = 6 }) 5 9
 waived_then = refl
 
--- so many terms from this power on
+-- the first n terms from this power on
 abbrev terms : ℕ → ℕ → List ℕ
 terms zero _ = []
 terms (suc n) h = term_of h ∷ terms n (next_power h)

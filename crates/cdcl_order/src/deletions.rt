@@ -8,13 +8,13 @@ use crate::standings::{ClauseStanding, KEPT, Standings};
 use clauses::store::CRef;
 use std::alloc::{AllocError, Global};
 
-/// The first deletion comes after so many conflicts.
+/// The conflicts after which the first deletion comes.
 const FIRST_DELETION: u64 = 1000;
 
-/// Each further one after so many more than the one before.
+/// By how many conflicts the time between two deletions grows.
 const DELETION_STEP: u64 = 100;
 
-/// So often the time between two deletions grows.
+/// How many times the time between two deletions grows.
 const DELETION_STEPS: u64 = 40;
 
 /// A learned clause that may be deleted.
@@ -37,7 +37,7 @@ pub(crate) struct Ranked {
     reference: CRef,
 }
 
-/// Whether it is time to delete, where so many conflicts came since the last of so many deletions.
+/// Whether it is time to delete, `conflicts` conflicts after the last of `deletions` deletions.
 pub(crate) fn is_due(conflicts: u64, deletions: u64) -> bool
     ensures { IsTrue result ↔ due_at deletions ≤ conflicts }
 {

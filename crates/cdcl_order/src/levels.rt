@@ -30,7 +30,7 @@ impl Model for Levels {
 }
 
 impl Levels {
-    /// One for the levels of engines over so many variables.
+    /// One for the levels of engines over `variables` variables.
     ///
     /// # Errors
     ///

@@ -22,7 +22,7 @@ pub(crate) struct Phases {
     is_solved: bool,
     // How many conflicts came since a restart last took the values back, up to 2^64 - 1.
     conflicts: u64,
-    // After so many a restart takes them back again: from `WAIT` up to 2^64 - 1.
+    // The conflicts after which a restart takes them back again: from `WAIT` up to 2^64 - 1.
     wait: u64,
 }
 
@@ -43,8 +43,8 @@ impl Model for Phases {
     ghost invariant = { λ p. length p.best.items ≡ length p.last.items };
 }
 
-/// The first restart that takes the values back comes after so many conflicts, and each further one
-/// after so many more than the one before.
+/// The conflicts after which a restart first takes the values back; each further wait is longer
+/// than the one before by as many.
 const WAIT: u64 = 1000;
 
 impl Phases {

@@ -192,7 +192,7 @@ impl Policy {
         self.standings.set(reference, ClauseStanding::fresh(lbd));
     }
 
-    /// The learned clause came to the store, with so many literals, and this LBD.
+    /// The learned clause came to the store, with `length` literals, and this LBD.
     pub fn note_learned(&mut self, reference: CRef, length: usize, lbd: u32)
         ensures same_view { self.new ≡ self.old }
     {

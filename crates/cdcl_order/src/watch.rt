@@ -10,8 +10,8 @@ use crate::budget::Budget;
 pub struct SearchReport {
     /// How many conflicts were paid from the budget so far; each taught a clause.
     pub conflicts: u64,
-    /// How many literals of the trail were taken back, up to 2^64 - 1: so many were propagated or
-    /// decided, but for those that still stand there.
+    /// How many literals were propagated or decided, up to 2^64 - 1, except for those that still
+    /// stand on the trail.
     pub propagations: u64,
     /// How many learned clauses of more than two literals are live.
     pub learned: usize,

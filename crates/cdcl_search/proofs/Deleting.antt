@@ -206,7 +206,7 @@ deleting_ends s p ls doomed d gone =
       few = d.few;
     }
 
--- the first so many of the chosen clauses have left, where they are marked
+-- of the first `first` chosen clauses those that are marked have left
 abbrev pub AreGone : Slots → List ℕ → ℕ → List Bool → Type 0
 AreGone slots chosen first doomed =
     (i : ℕ) → i < first → is_doomed doomed (get_or chosen i 0) ≡ true

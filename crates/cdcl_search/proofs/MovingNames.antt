@@ -13,7 +13,7 @@ use Rattle.lrat_log.specs.declared.lines.Name.TheVariants.{Formula}
 use Rattle.cdcl_search.specs.Invariant.{name_at}
 use Rattle.cdcl_search.specs.Moves.{NamesMoved}
 
--- the first so many moves are done, and what lies behind them is as it was
+-- the first `next` moves are done, and what lies behind them is as it was
 pub record IsMovingNames (old new : List Name) (ms : Renaming) (next : ℕ) : Type 0 where
   pub done : (i : ℕ) → i < next → name_at new (new_at ms i) ≡ name_at old (old_at ms i)
   pub later : (j : ℕ) → ((i : ℕ) → i < next → new_at ms i < j) → name_at new j ≡ name_at old j

@@ -9,6 +9,6 @@ use Rattle.lrat_log.specs.declared.lines.Name.TheVariants.{Formula}
 abbrev pub given_as : ℕ → List Literal → Name × List Literal
 given_as number c = (Formula number, c)
 
--- so many from 1 on, and then those of later clauses
+-- `first` numbers from 1 on, and then those of later clauses
 abbrev pub numbers_with : ℕ → List ℕ → List ℕ
 numbers_with first later = range_with_len 1 first ++ later

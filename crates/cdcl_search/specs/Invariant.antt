@@ -80,7 +80,7 @@ abbrev pub HasUnit : Slots → List (Option ℕ) → Literal → Type 0
 HasUnit slots units l = (r : ℕ) × (slice_index_or units (l.variable - 1) None ≡ Some r)
     × (clause_at slots r ≡ Some (l ∷ []))
 
--- the first so many literals of level 0 do, and above that level all of them
+-- the first `noted` literals of level 0 do, and above that level all of them
 pub record NotesUnits (slots : Slots) (zero : List Literal) (depth : ℕ) (units : List (Option ℕ))
     (noted : ℕ) : Type 0 where
   pub have : AllByRecursion (HasUnit slots units) (take noted zero)

@@ -120,7 +120,7 @@ pub record LogsLine (old new : Search) (before after : List LogLine) (l : LogLin
   pub few : new.additions < LINE_LIMIT
   pub lines : after ≡ before ++ l ∷ []
 
--- what was written between two moments: the lines after `before`, of which so many were learned,
+-- what was written between two moments: the lines after `before`, of which `learned` were learned,
 -- and none came from outside
 pub record Writes (given : Given) (before after : List LogLine) (learned : ℕ) : Type 0 where
   pub more : List LogLine

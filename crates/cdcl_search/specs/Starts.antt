@@ -12,7 +12,7 @@ use Rattle.cdcl_search.specs.declared.search.Search.{Search}
 use Rattle.cdcl_search.specs.Invariant.{name_at}
 use Rattle.cdcl_search.specs.Running.{HasRoom}
 
--- a live clause over so many variables
+-- a live clause over `variables` variables
 pub record IsLiveWithin (slots : Slots) (variables r : ℕ) : Type 0 where
   pub clause : List Literal
   pub live : clause_at slots r ≡ Some clause

@@ -63,7 +63,7 @@ impl Subsets {
     }
 }
 
-/// Literals of so many variables can have marks.
+/// Makes room for the marks of `variables` variables.
 fn make_room(marks: &mut Marks, variables: u32) -> Result<(), AllocError>
     ensures { OnOk result (2 * variables ≤ length marks.new) }
 {

@@ -7,7 +7,7 @@ ghost use Rattle.cdcl_search.specs.Moves.{NamesMoved, UnitsMoved};
 use clauses::store::{CRef, MaybeCRef, Moves};
 use lrat_log::packed_name::PackedName;
 
-/// Moves each name to its clause's new place, of which there are so many. No place is written
+/// Moves each name to its clause's new place, of which there are `places`. No place is written
 /// before it is read, since no reference rises.
 pub(crate) fn move_names(names: &mut Vec<PackedName>, pairs: &[(CRef, CRef)], places: usize)
     requires rising { IsStrictlyIncreasing (map (λ p. p.1) pairs.now) }

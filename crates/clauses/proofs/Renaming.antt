@@ -30,7 +30,7 @@ moves_dead : (old new : ℕ) (ls : List Literal) (h : Head) (hs : List Head) →
     → moves_from old new (slots_of ls (h ∷ hs)) ≡ moves_from (old + 1) new (slots_of ls hs)
 moves_dead old new ls h hs e = rw (slot_dead ls h e) refl
 
--- so many heads were passed, and these are their moves
+-- `old` heads were passed, and these are their moves
 pub record IsListing (hs : List Head) (old : ℕ) (moves : Renaming) : Type 0 where
   pub few : length moves ≤ old
   pub all : (ls : List Literal) → moves ++ moves_from old (length moves) (slots_of ls (drop old hs))

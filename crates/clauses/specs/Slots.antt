@@ -56,8 +56,7 @@ old_at moves i = (slice_index_or moves i (0, 0)).0
 abbrev pub new_at : Renaming → ℕ → ℕ
 new_at moves i = (slice_index_or moves i (0, 0)).1
 
--- the moves that bring the live clauses together, where so many references and so many live ones
--- came before
+-- the moves that bring the live clauses together, after `old` references of which `new` are live
 abbrev pub moves_from : ℕ → ℕ → Slots → Renaming
 moves_from old new [] = []
 moves_from old new (None ∷ slots) = moves_from (old + 1) new slots

@@ -9,7 +9,7 @@ pub record Cnf : Type 0 where
   pub variables : ℕ
   pub clauses : List (List Literal)
 
--- what is known of each clause of a formula with so many variables
+-- what is known of each clause of a formula with `variables` variables
 pub record IsFormulaClause (variables : ℕ) (c : List Literal) : Type 0 where
   pub no_repeat : has_repeat c ≡ false
   pub no_tautology : is_tautology c ≡ false

@@ -39,7 +39,7 @@ impl Fresh {
         self.variable
     }
 
-    /// The next one after so many more.
+    /// The next one after `count` more.
     pub fn after(self, count: u32) -> Self
         requires { self + count < 2 ^ 32 }
         ensures { result ≡ self + count }

@@ -28,6 +28,6 @@ pub const MOST_TEXT_CLAUSES: usize = MOST_HARD + MOST_SOFT;
 /// How many literals a text may have, repeats too.
 pub const MOST_LITERALS: usize = 1 << 26;
 
-/// What lies in flat memory has at most so many places, which take 32 bits each; one more counts as
-/// a refused growth.
+/// The most places of what lies in flat memory, which take 32 bits each; one more counts as a
+/// refused growth.
 pub const MOST_PLACES: usize = 4_294_967_295;

@@ -134,7 +134,7 @@ impl Marks {
     }
 }
 
-/// So many stamps that were never given.
+/// `count` stamps that were never given.
 fn unused_stamps(alloc: Global, count: usize) -> Result<Vec<u16>, AllocError>
     ensures { IfOk result (λ stamps. stamps.items ≡ replicate count 0) }
 {

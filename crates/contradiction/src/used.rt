@@ -3,7 +3,7 @@
 use std::alloc::{AllocError, Global};
 use text::cutting::{lines, number, tokens};
 
-/// For each of so many clauses of the formula, which are numbered from 1, whether the certificate
+/// For each of `count` clauses of the formula, which are numbered from 1, whether the certificate
 /// uses it; true of all where its lines are numbered with large gaps.
 pub(crate) fn used_by(alloc: Global, proof: &[u8], count: usize) -> Result<Vec<bool>, AllocError> {
     let additions = additions_of(alloc, proof)?;

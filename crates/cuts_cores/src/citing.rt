@@ -19,7 +19,7 @@ enum Present {
     Other,
     /// The cost itself.
     Cost,
-    /// That of the cores, with so many of their facts.
+    /// That of the cores, with this number of their facts.
     Cores(usize),
 }
 
@@ -43,7 +43,7 @@ pub(crate) struct Citing {
     present: Present,
     // The greatest bound that was told, by lines before the search, too; 0 before the first one.
     told: u64,
-    // The next one is told in the course of a turn once so many clauses were learned, from 0.
+    // The number of learned clauses at which the next one is told in the course of a turn, from 0.
     next: u64,
 }
 
@@ -58,7 +58,7 @@ impl Citing {
         }
     }
 
-    /// The cores' form is less so many times the fact of the count with this number.
+    /// The cores' form is less `weight` times the fact of the count with this number.
     pub(crate) fn add(&mut self, weight: u64, number: u64) -> Result<(), AllocError> {
         self.facts.push(NamedFact {
             weight,
@@ -82,7 +82,7 @@ impl Citing {
         self.told
     }
 
-    /// So many times the cost, less these facts, becomes the present form; answers whether it is.
+    /// `scale` times the cost, less these facts, becomes the present form; answers whether it is.
     pub(crate) fn cite_other<D: Desk>(
         &mut self,
         desk: &mut D,

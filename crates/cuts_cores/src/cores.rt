@@ -28,8 +28,8 @@ use cnf::types::Lit;
 use forms::types::NamedFact;
 use std::alloc::AllocError;
 
-/// What explains the assumptions that are passed over in one search has about so many literals for
-/// each assumption.
+/// About how many literals there are for each assumption in what explains the assumptions that are
+/// passed over in one search.
 const PASSED: usize = 4;
 
 /// How a turn of a part of the search goes on.
@@ -50,7 +50,7 @@ pub struct Cores {
     items: Items,
     // The cores so far, and their form.
     counting: Counting,
-    // What has at least so much as its rest is assumed false, from 1; 0 before the first stratum.
+    // The least rest of what is assumed false, from 1; 0 before the first stratum.
     threshold: u64,
     // What the cores are worth together, from 0: no solution costs less, but perhaps where a count
     // that was there when the search began was none of a core.
@@ -102,7 +102,7 @@ impl Cores {
         self.counting.citing.told()
     }
 
-    /// Looks for cores until about so many literals were assigned.
+    /// Looks for cores until about `share` literals were assigned.
     pub fn turn<D: Desk>(&mut self, desk: &mut D, share: u64) -> Result<Course, DeskFault>
         ensures follows { (first : D) → D.follows first desk.old → D.follows first desk.new }
     {
@@ -161,7 +161,7 @@ impl Cores {
         self.counting.citing.cite_cores(desk)
     }
 
-    /// So many times the cost, less these facts, becomes the present form; answers whether it has.
+    /// `scale` times the cost, less these facts, becomes the present form; answers whether it has.
     pub fn cite_other<D: Desk>(
         &mut self,
         desk: &mut D,
@@ -369,7 +369,7 @@ impl Cores {
     }
 
     /// Takes the cores one after the other, as long as all their literals have a rest. The turn is
-    /// over where nothing came of them, and of the search since so many clauses were learned.
+    /// over where nothing came of them, and no more than `start` clauses were learned.
     fn take_all<D: Desk>(
         &mut self,
         desk: &mut D,

@@ -18,16 +18,16 @@ use cdcl::outcome::{Passed, Share};
 use cnf::types::Lit;
 use std::alloc::{AllocError, Global};
 
-/// Outputs for one solution make about so many clauses at most.
+/// About the most clauses that outputs for one solution make.
 const GROWTH: usize = 100_000;
 
-/// That the first output of a count is true is looked for with so many conflicts at most.
+/// The most conflicts to show that the first output of a count is true.
 const SHOW_CONFLICTS: u64 = 1000;
 
 /// A core.
 #[derive(Drop)]
 struct Core {
-    // What it is worth, from 1: so much each output of its count costs, from the second on.
+    // What it is worth, from 1; from the second on, each output of its count costs as much.
     weight: u64,
     // Two literals or more, of which one is true.
     lits: Vec<Lit>,
@@ -301,7 +301,7 @@ fn show<D: Desk>(desk: &mut D, lit: Lit) -> Result<(), DeskFault>
     refute(desk, lit, SHOW_CONFLICTS)
 }
 
-/// Searches where the literal is false for about so many conflicts, unless it has a value.
+/// Searches where the literal is false for about `conflicts` conflicts, unless it has a value.
 fn refute<D: Desk>(desk: &mut D, lit: Lit, conflicts: u64) -> Result<(), DeskFault>
     ensures follows { (first : D) → D.follows first desk.old → D.follows first desk.new }
 {

@@ -148,7 +148,7 @@ pub trait Desk: Drop {
     /// The value of the literal where the last search has ended, if it has one.
     fn value(&self, lit: Lit) -> Option<bool>;
 
-    /// Spends units until at most so many are left, and no more.
+    /// Spends units until at most `most` are left, and no more.
     fn charge(&mut self, most: u64)
         ensures left { left self.new ≤ most }
         ensures just { most ≤ left self.old → left self.new ≡ most }
@@ -163,9 +163,9 @@ pub trait Desk: Drop {
     fn descend<G: Guide>(&mut self, guide: &mut G) -> Result<Descent, DeskFault>
         ensures follows { (first : Self) → follows first self.old → follows first self.new };
 
-    /// Walks from the best solution for about so many visits: a cheaper one that is met is the best
-    /// one then. There is no walk where there is no solution, nothing is left of the budget, memory
-    /// is refused for its tables, or the visits are too few. It costs nothing but what is met.
+    /// Walks from the best solution for about `visits` visits: a cheaper one that is met is the
+    /// best one then. There is no walk where there is no solution, nothing is left of the budget,
+    /// memory is refused for its tables, or the visits are too few. It costs only what is met.
     fn walk(&mut self, kind: WalkKind, visits: u64) -> Result<Walked, DeskFault>
         ensures follows { (first : Self) → follows first self.old → follows first self.new };
 
@@ -177,7 +177,7 @@ pub trait Desk: Drop {
     fn suggest(&mut self, values: &[bool])
         ensures follows { (first : Self) → follows first self.old → follows first self.new };
 
-    /// A count of these literals with so many outputs, if it is right and there is room for its
+    /// A count of these literals with `outputs` outputs, if it is right and there is room for its
     /// variables; its number, from 1.
     fn count(&mut self, outputs: u64, inputs: &[Lit]) -> Result<Option<u64>, DeskFault>
         ensures follows { (first : Self) → follows first self.old → follows first self.new };
@@ -192,7 +192,7 @@ pub trait Desk: Drop {
     fn group(&mut self, inputs: &[Lit], ids: &[u64]) -> Result<Option<u64>, DeskFault>
         ensures follows { (first : Self) → follows first self.old → follows first self.new };
 
-    /// So many times the cost, less these facts, in place of the present form; whether that is
+    /// `scale` times the cost, less these facts, in place of the present form; whether that is
     /// right.
     fn form(&mut self, scale: u64, facts: &[NamedFact]) -> Result<bool, DeskFault>
         ensures follows { (first : Self) → follows first self.old → follows first self.new };

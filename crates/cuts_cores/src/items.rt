@@ -77,7 +77,7 @@ impl Items {
         &self.list
     }
 
-    /// So much less is left of the literal's weight.
+    /// Takes `weight` off what is left of the literal's weight.
     pub(crate) fn charge(&mut self, lit: Lit, weight: u64) {
         let left = self.rest(lit).saturating_sub(weight);
         set(&mut self.rests, lit.index(), left);
@@ -90,7 +90,7 @@ impl Items {
         rest
     }
 
-    /// The literal costs so much more.
+    /// The literal costs `weight` more.
     pub(crate) fn credit(&mut self, lit: Lit, weight: u64) -> Result<(), AllocError> {
         let place = lit.index();
         let more = self.rest(lit).saturating_add(weight);
@@ -102,7 +102,7 @@ impl Items {
         Ok(())
     }
 
-    /// The core in this place takes so much from its literals, and the outputs of its count from
+    /// The core in this place takes `weight` from its literals, and the outputs of its count from
     /// the second on cost that much.
     pub(crate) fn exchange(
         &mut self,

@@ -11,22 +11,22 @@ use cdcl::outcome::{Passed, Share};
 use cnf::types::Lit;
 use std::alloc::{AllocError, Global};
 
-/// A core is searched again so often at most,
+/// The most times that a core is searched again.
 const AGAIN: u32 = 5;
 
-/// with so many conflicts each time.
+/// The most conflicts each time that a core is searched again.
 const AGAIN_CONFLICTS: u64 = 1000;
 
 /// A core of more literals is not shortened literal by literal.
 const LONG: usize = 500;
 
-/// A search without one literal takes so many conflicts at most,
+/// The most conflicts of a search without one literal.
 const WITHOUT_ONE: u64 = 50;
 
-/// and all of them for a core about so many.
+/// About the most conflicts of all searches without one literal of the same core.
 const WITHOUT_EACH: u64 = 10 * WITHOUT_ONE;
 
-/// A search that shortens ends once so many variables were decided beside the assumptions.
+/// The decisions, in addition to the assumptions, after which a search that shortens ends.
 const DECISIONS: u64 = 100;
 
 /// What is left of a core.

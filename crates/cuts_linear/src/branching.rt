@@ -22,16 +22,16 @@ use std::num::nearest_u64_to_f64;
 /// What costs as much as this, 2^62, is no solution.
 const NO_COST: u64 = 4_611_686_018_427_387_904;
 
-/// A node takes at most so many iterations,
+/// The most iterations that a node takes.
 const MOST: u32 = 100;
 
-/// and is given up after no fewer than so many.
+/// The fewest iterations after which a node is given up.
 const LEAST: u32 = 10;
 
-/// A variable at 0 or 1 counts as if it were so far from it.
+/// A variable at 0 or 1 counts as if it were this far from it.
 const CLEAR: f64 = 0.05;
 
-/// A variable that was in no conflict counts as if it were so active.
+/// A variable that was in no conflict counts as if it were this active.
 const IDLE: f64 = 0.01;
 
 /// A bound has to pass the target by this part of it.
@@ -59,9 +59,9 @@ pub struct BranchGuide<'n> {
     places: Vec<usize>,
     // What is to be decided again, in order.
     again: Vec<Lit>,
-    // So many of these were decided again.
+    // How many of these were decided again.
     done: usize,
-    // So many coefficients may still be visited.
+    // How many coefficients may still be visited.
     left: u64,
 }
 

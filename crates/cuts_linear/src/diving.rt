@@ -13,10 +13,10 @@ use lp::values::Values;
 use std::alloc::{AllocError, Global};
 use std::num::saturating_f64_to_u64;
 
-/// A relaxation is solved so often in a dive,
+/// About how often a relaxation is solved in a dive.
 const TIMES: usize = 8;
 
-/// with so many iterations.
+/// The iterations each time that a relaxation is solved in a dive.
 const ITERATIONS: u32 = 60;
 
 /// No bound passes this.
@@ -36,18 +36,18 @@ pub struct DiveGuide<'n> {
     order: Vec<u32>,
     // Those before this place have values.
     place: usize,
-    // It is solved again once so many more literals are true.
+    // How many more literals are true when it is solved again.
     period: usize,
     // It is solved again once more literals than this are true.
     next: usize,
-    // So many conflicts may still come.
+    // How many conflicts may still come.
     conflicts: u64,
-    // So many coefficients may still be visited.
+    // How many coefficients may still be visited.
     left: u64,
 }
 
 impl<'n> DiveGuide<'n> {
-    /// A dive from the point of a node that was solved, which ends after so many conflicts, and
+    /// A dive from the point of a node that was solved, which ends after `conflicts` conflicts, and
     /// visits about `share` coefficients.
     ///
     /// # Errors

@@ -33,7 +33,7 @@ impl Facts {
         }
     }
 
-    /// The literal costs so much where it is true, beside what it costs already.
+    /// The literal costs `weight` more where it is true.
     ///
     /// # Errors
     ///
@@ -113,7 +113,7 @@ impl Facts {
         &self.rows
     }
 
-    /// So many times the fact of a row; none where that has no number, or there is no such row.
+    /// `weight` times the fact of a row; none where that has no number, or there is no such row.
     pub(crate) fn named(&self, row: u32, weight: u64) -> Option<NamedFact> {
         let name = self.names.get(row as usize)?;
         if name.number == 0 {

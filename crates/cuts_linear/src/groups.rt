@@ -14,10 +14,10 @@ use cnf::types::Lit;
 use lp::values::Values;
 use std::alloc::{AllocError, Global};
 
-/// A clique has so many literals at most.
+/// The most literals that a clique has.
 const LARGEST: usize = 100;
 
-/// A look at a pair counts as so much work.
+/// The work that a look at a pair counts as.
 const PAIR: u64 = 4;
 
 /// Two literals of which at most one is true, seen from one of them.
@@ -58,8 +58,8 @@ pub struct Groups {
 }
 
 impl Groups {
-    /// The cliques of these clauses, whose numbers are from 1, among the literals that are open,
-    /// found with about so much work.
+    /// The cliques of these clauses, whose numbers are from 1, among the literals that are open;
+    /// `work` is about what may be spent on finding them.
     ///
     /// # Errors
     ///

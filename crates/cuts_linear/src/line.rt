@@ -17,8 +17,8 @@ use forms::types::NamedFact;
 use std::alloc::{AllocError, Global};
 use std::num::{nearest_u64_to_f64, saturating_f64_to_u64};
 
-/// A form has the cost so many times: the first of these that serves is the one. What a relaxation
-/// proves at a node is often far above what is needed there, and whole weights then do.
+/// How many times a form may have the cost: the first of these that serves is the one. What a
+/// relaxation proves at a node is often far above what is needed there, and whole weights then do.
 const SCALES: [u64; 3] = [1, 8, 128];
 
 /// No weight of a fact is as great as this, 2^62.
@@ -27,9 +27,9 @@ const WEIGHT_LIMIT: u64 = 4_611_686_018_427_387_904;
 /// A form line, with what it comes to, and a cut.
 #[derive(Drop)]
 pub struct Line {
-    // So many times the cost.
+    // How many times the form has the cost.
     scale: u64,
-    // Less these facts.
+    // The facts that the form is less.
     facts: Vec<NamedFact>,
     // By variable, from 0, which none has: what the form changes by where it is true.
     coefficients: Vec<i128>,
@@ -51,7 +51,7 @@ impl Line {
         }
     }
 
-    /// So many times the cost.
+    /// How many times the form has the cost.
     pub fn scale(&self) -> u64 {
         self.scale
     }
@@ -92,7 +92,7 @@ impl Line {
     }
 
     /// Makes a form of the multipliers of a relaxation that was solved: `form_scale` times the
-    /// cost, less the facts, each so often as its multiplier is with this scale.
+    /// cost, less the facts, each as often as its multiplier is with this scale.
     ///
     /// # Errors
     ///
@@ -102,7 +102,7 @@ impl Line {
         self.round(node, scale)
     }
 
-    // So many times the cost.
+    // Begins with `scale` times the cost.
     fn begin(&mut self, facts: &Facts, scale: u64) -> Result<(), AllocError> {
         let times = scale as i128;
         self.scale = scale;
@@ -115,7 +115,7 @@ impl Line {
         Ok(())
     }
 
-    // Less the facts of the open rows, each so often as its multiplier is with this scale.
+    // Takes the facts of the open rows off, each as often as its multiplier is with this scale.
     fn round(&mut self, node: &Node, scale: u64) -> Result<(), AllocError> {
         let scale = nearest_u64_to_f64(scale);
         for place in 0..node.relaxation.rows() {
@@ -134,7 +134,7 @@ impl Line {
         Ok(())
     }
 
-    // Less so many times the fact of a row.
+    // Takes `weight` times the fact of a row off.
     fn subtract(&mut self, facts: &Facts, row: u32, weight: u64) -> Result<(), AllocError> {
         let weight = weight as i128;
         let needed = facts.rows().needed(row) as i128;

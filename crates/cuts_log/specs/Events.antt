@@ -35,7 +35,7 @@ lines_in (Word w made) = map axiom_line made
 abbrev pub lines_of : List Event → List LogLine
 lines_of es = flat_map lines_in es
 
--- the tokens of a line, where so many clauses were added before it
+-- the tokens of a line, where `before` clauses were added before it
 abbrev pub tokens_at : ℕ → ℕ → Event → List (List ℕ)
 tokens_at base before (Plain l) = line_tokens (numbered_line base before l)
 tokens_at base before (Word w made) = word_tokens w
@@ -45,6 +45,6 @@ tokens_on base before [] = []
 tokens_on base before (e ∷ es) =
     tokens_at base before e ∷ tokens_on base (before + added_count (lines_in e)) es
 
--- the text of the lines, where so many clauses were added before the first one
+-- the text of the lines, where `before` clauses were added before the first one
 abbrev pub text_of : ℕ → ℕ → List Event → List ℕ
 text_of base before es = flat_map spaced (tokens_on base before es)

@@ -20,7 +20,7 @@ pub record CanBeSaid (f : FormFact) : Type 0 where
   pub weight : IsId f.weight
   pub number : IsId f.number
 
--- it is worth at least so much
+-- it is worth at least `least`
 abbrev pub is_worth : Result (Option ℕ) LineFault → ℕ → Bool
 is_worth (Ok (Some w)) least = nat_le least w
 is_worth (Ok None) least = false

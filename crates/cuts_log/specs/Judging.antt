@@ -30,7 +30,7 @@ pub record Follows (old : CutsState) (made : List (List Literal)) (s : Standing)
   pub forms : new.forms ≡ s.forms
   pub ended : new.ended ≡ s.ended
 
--- the checker stands as the log does, over a formula with so many clauses
+-- the checker stands as the log does, over a formula with `base` clauses
 pub record StandsAs (base : ℕ) (t : CutsState) (s : Standing) : Type 0 where
   pub forms : t.forms ≡ s.forms
   pub ended : t.ended ≡ s.ended

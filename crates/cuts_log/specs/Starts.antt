@@ -27,7 +27,7 @@ abbrev pub lines_for : Option (List Literal) → ℕ → List LogLine
 lines_for (Some c) j = axiom_line c ∷ []
 lines_for None j = axiom_line stand_in ∷ deletion_line j ∷ []
 
--- the first additions, so many, of which these are live
+-- the first n additions, of which these are live
 abbrev pub lines_before : Clauses → ℕ → List LogLine
 lines_before at zero = []
 lines_before at (suc n) = lines_before at n ++ lines_for (at (suc n)) (suc n)
@@ -44,7 +44,7 @@ earlier_lines base s = lines_before (added_at base s) (s.last - base)
 abbrev pub IsReached : Problem → CutsState → Type 0
 IsReached p s = (lines : List (List (List ℕ))) × (judged_lines None (cuts_start p) 1 lines ≡ Ok s)
 
--- a log can go on there, over a formula with these clauses; so many lines stand for what has led
+-- a log can go on there, over a formula with these clauses; `lines` lines stand for what has led
 -- there
 pub record IsResumable (s : CutsState) (clauses : List (List Literal)) (lines : ℕ) : Type 0 where
   pub formula : AreLive (all_live clauses) s.live

@@ -65,7 +65,7 @@ impl<W: Write> Model for Book<W> {
 }
 
 impl<W: Write + Drop> Book<W> {
-    /// No lines yet, over a formula with so many clauses.
+    /// No lines yet, over a formula with `base` clauses.
     ///
     /// # Errors
     ///
@@ -91,7 +91,7 @@ impl<W: Write + Drop> Book<W> {
         })
     }
 
-    /// It goes on with what the checker has judged, over a formula with so many clauses. So many
+    /// It goes on with what the checker has judged, over a formula with `base` clauses. `lines`
     /// lines stand for that.
     ///
     /// # Errors
@@ -150,7 +150,7 @@ impl<W: Write + Drop> Book<W> {
         self.out.has_failed()
     }
 
-    /// Whether there is room for so many lines more.
+    /// Whether there is room for `more` lines more.
     pub(crate) fn has_room(&self, more: usize) -> bool
         ensures works { result ≡ true → self.now.failed ≡ false }
         ensures room { result ≡ true → self.now.lines + more < LINE_LIMIT }

@@ -34,7 +34,7 @@ fn is_live(machine: &CutsMachine, clauses: &ClauseList, place: usize) -> bool
     }
 }
 
-/// How many lines stand for what the checker has judged, over a formula with so many clauses. None
+/// How many lines stand for what the checker has judged, over a formula with `base` clauses. None
 /// where one is the empty clause.
 pub(crate) fn count_lines(machine: &CutsMachine, base: u64) -> Option<usize>
     requires last { base ≤ machine.now.state.last }

@@ -212,7 +212,7 @@ impl<W: Write + Drop> CutsLog<W> {
     ghost use Rattle.std.specs.List.{AllByRecursion};
     ghost use Rattle.cuts_log.specs.Made.{IsMadeClause};
 
-    /// A count of these literals with so many outputs, if the state takes it; its clauses, and no
+    /// A count of these literals with `outputs` outputs, if the state takes it; its clauses, and no
     /// others, are in `made` then, and the log has their lines last. Answers whether it does. The
     /// literals of each clause have different variables, up to the greatest one of the forms.
     ///
@@ -289,7 +289,7 @@ impl<W: Write + Drop> CutsLog<W> {
         Ok(true)
     }
 
-    /// So many times the cost, less these facts, in place of the present form, if the state takes
+    /// `scale` times the cost, less these facts, in place of the present form, if the state takes
     /// it. Answers whether it does. Facts are those of counts, of groups, and of the clauses of the
     /// formula that are live, by their numbers from 1: others are refused.
     ///

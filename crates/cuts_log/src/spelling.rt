@@ -24,7 +24,7 @@ use forms::types::NamedFact;
 use lrat_log::lines::{Hint, Kind, Name};
 use std::io::Write;
 
-/// Puts an addition or a deletion, where so many clauses were added before it.
+/// Puts an addition or a deletion, where `before` clauses were added before it.
 pub(crate) fn put_plain<W: Write>(
     out: &mut Out<W>,
     base: u64,

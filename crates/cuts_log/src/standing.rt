@@ -158,8 +158,8 @@ impl Standing {
         Ok(())
     }
 
-    /// A count of these literals with so many outputs, if it is right; its clauses, and no others,
-    /// are in `made` then. Answers whether it is.
+    /// A count of these literals with `outputs` outputs, if it is right; its clauses, and no
+    /// others, are in `made` then. Answers whether it is.
     ///
     /// # Errors
     ///
@@ -280,7 +280,7 @@ impl Standing {
         Ok(true)
     }
 
-    /// Whether the present form is worth so much: nothing costs less.
+    /// Whether the present form is worth at least `lower`: nothing costs less.
     pub(crate) fn bound(&self, lower: u64) -> bool
         ensures { result ≡ true
             → (cost : ℕ) → TakesWord cost self.now (BoundLine lower) [] self.now }

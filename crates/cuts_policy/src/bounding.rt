@@ -17,7 +17,7 @@ use cuts_cores::desk::{Desk, DeskFault};
 use cuts_cores::tables::{at, set};
 use std::alloc::{AllocError, Global};
 
-/// A literal of a cut counts as so many propagations: its text, its mark in the analysis and its
+/// A literal of a cut counts as this many propagations: its text, its mark in the analysis and its
 /// place in a learned clause. On 16,000 soft clauses nine tenths of the time went there.
 const EACH: u64 = 1;
 
@@ -37,7 +37,7 @@ pub(crate) struct BoundGuide {
     weights: Vec<u64>,
     // More than this is too much; any number from 0.
     limit: u64,
-    // So many literals of the trail were looked at, up to all.
+    // How many literals of the trail were looked at, up to all.
     seen: usize,
     // What the costly ones among them cost together, from 0.
     sum: u128,
@@ -45,13 +45,13 @@ pub(crate) struct BoundGuide {
     paid: Vec<Paid>,
     // The last cut: literals that are false; none before the first one.
     cut: Vec<Lit>,
-    // It stops once the search has so many propagations, less `EACH` for each literal of a cut; at
-    // 0 at once.
+    // At how many propagations of the search it stops, less `EACH` for each literal of a cut; at 0
+    // it stops at once.
     until: u64,
 }
 
 impl BoundGuide {
-    /// The present form as a bound, until there were so many propagations: what is cheaper than the
+    /// The present form as a bound, until there were `until` propagations: what is cheaper than the
     /// best solution stays below it. None where nothing does.
     pub(crate) fn new<D: Desk>(desk: &D, until: u64) -> Result<Option<Self>, AllocError> {
         let Some(limit) = limit_below_best(desk) else {
@@ -69,7 +69,7 @@ impl BoundGuide {
         }))
     }
 
-    /// It stops once the search has so many propagations.
+    /// At how many propagations of the search it stops.
     pub(crate) fn until(&self) -> u64 {
         self.until
     }

@@ -19,48 +19,48 @@ use cuts_linear::groups::Groups;
 use cuts_linear::node::Node;
 use std::alloc::{AllocError, Global};
 
-/// So many coefficients are visited in the time of a propagation.
+/// The coefficients that are visited in the time of a propagation.
 const COEFFICIENTS: u64 = 50;
 
-/// At level 0 a turn makes no fewer iterations, or there is no turn.
+/// The fewest iterations of a turn at level 0; with fewer there is no turn.
 const ROOT_LEAST: u64 = 50;
 
-/// After groups were made, it makes so many at most.
+/// The most iterations at level 0 after groups were made.
 const ROOT_AGAIN: u64 = 100;
 
-/// Groups are found with so much work at most.
+/// The most work for finding groups.
 const GROUP_WORK: u64 = 20_000_000;
 
-/// A dive ends after so many conflicts.
+/// The conflicts after which a dive ends.
 const DIVE_CONFLICTS: u64 = 100;
 
 /// Shares are counted in thousandths.
 const PARTS: u64 = 1000;
 
-/// The first turn has so many of them,
+/// The thousandths of a share that the first turn has.
 const FIRST: u64 = 500;
 
-/// and later ones have from so many
+/// The fewest thousandths of a share that a later turn has.
 const LEAST: u64 = 250;
 
-/// to so many.
+/// The most thousandths of a share that a later turn has.
 const MOST: u64 = 2000;
 
-/// So many conflicts of a turn say whether relaxations are of use here:
+/// The fewest conflicts that say whether relaxations are of use here.
 const FEW: u64 = 6;
 
-/// much where more than so many hundredths of them are their own,
+/// Relaxations are of much use where more than this percentage of the conflicts are their own.
 const MANY: u64 = 55;
 
-/// and some where more than so many are.
+/// Relaxations are of some use where more than this percentage of the conflicts are their own.
 const SOME: u64 = 30;
 
 /// What a turn may take.
 #[derive(Clone, Copy, Drop)]
 struct Effort {
-    // So many coefficients may be visited in branch and bound, and fewer in all that comes before.
+    // The coefficients that may be visited in branch and bound; fewer in all that comes before.
     visits: u64,
-    // So many iterations may be made at level 0, up to what a turn makes there at most.
+    // The iterations that may be made at level 0, up to the most that a turn makes there.
     iterations: u64,
 }
 
@@ -102,7 +102,7 @@ impl LinearBounds {
         self.others
     }
 
-    /// A turn as long as one of so many propagations.
+    /// A turn as long as one of `share` propagations.
     pub(crate) fn turn<D: Desk>(
         &mut self,
         desk: &mut D,
@@ -125,7 +125,7 @@ impl LinearBounds {
         ended
     }
 
-    /// What a turn as long as one of so many propagations may take. Iterations over all rows are a
+    /// What a turn as long as one of `share` propagations may take. Iterations over all rows are a
     /// third of its visits at most.
     fn effort<D: Desk>(&self, desk: &D, share: u64) -> Effort {
         let visits = (share / PARTS)
@@ -142,7 +142,7 @@ impl LinearBounds {
         }
     }
 
-    /// What the relaxation is of before the first turn. Groups are found with so much work.
+    /// What the relaxation is of before the first turn. Finding groups takes about `work` at most.
     fn begin<D: Desk>(
         &mut self,
         desk: &D,
@@ -178,8 +178,8 @@ impl LinearBounds {
         self.branch(desk, node, cores, effort.visits)
     }
 
-    /// The groups that were found get their lines, and level 0 is solved with them, with so many
-    /// iterations at most.
+    /// The groups that were found get their lines, and level 0 is solved with them, with at most
+    /// `most` iterations.
     fn make_groups<D: Desk>(
         &mut self,
         desk: &mut D,
@@ -220,7 +220,7 @@ impl LinearBounds {
         Ok(())
     }
 
-    /// How much of the next rounds it gets, where so many of all conflicts in its turn were its
+    /// How much of the next rounds it gets, where `own` of `all` conflicts in its turn were its
     /// own. A few say nothing.
     fn judge(&mut self, own: u64, all: u64) {
         self.own = (self.own / 2).saturating_add(own);

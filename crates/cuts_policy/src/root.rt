@@ -19,25 +19,25 @@ use lp::values::Values;
 use std::alloc::{AllocError, Global};
 use std::num::nearest_u64_to_f64;
 
-/// A turn makes at most so many iterations.
+/// The most iterations of a turn, until more than `ALL` were made.
 const MOST: u64 = 2000;
 
-/// Once it has made so many in all,
+/// The iterations of all turns after which a turn makes fewer.
 const ALL: u64 = 4000;
 
-/// a turn makes at most so many.
+/// The most iterations of a turn, once more than `ALL` were made.
 const MORE: u64 = 200;
 
-/// The groups that get their lines have about so many pairs at most, twice and in all.
+/// About the most pairs in all groups that get their lines, each pair counted twice.
 const GROUP_PAIRS: usize = 300_000;
 
 /// A group whose multiplier is no greater than this is left out.
 const WORTHLESS: f64 = 1e-4;
 
-/// The form has the cost so many times,
+/// How many times the form has the cost.
 const SCALE: u64 = 1024;
 
-/// and says nothing new where it is no more than about half of one of these above what is known.
+/// A bound no more than this above what is known is no news: about half of 1 / `SCALE`.
 const NO_NEWS: f64 = 0.0005;
 
 /// No bound passes this.
@@ -75,7 +75,7 @@ pub(crate) struct Root {
     pub(crate) point: Point,
     // What the multipliers prove, in floats: finite; 0 before it was solved.
     bound: f64,
-    // So many iterations were made, in all turns.
+    // How many iterations were made, in all turns.
     iterations: u64,
     // The rows of the counts, in the order of the cores' form.
     counts: Vec<CountRow>,
@@ -97,7 +97,7 @@ impl Root {
         if self.iterations > ALL { MORE } else { MOST }
     }
 
-    /// Solves what is open, from where it was left, with so many iterations at most.
+    /// Solves what is open, from where it was left, with at most `most` iterations.
     pub(crate) fn solve<D: Desk>(
         &mut self,
         desk: &D,

@@ -23,20 +23,20 @@ use cuts_cores::desk::{Descent, Desk, DeskFault};
 use cuts_cores::tables::set;
 use std::alloc::{AllocError, Global};
 
-/// The first turns assign about so many literals.
+/// About how many literals each of the first turns assigns.
 const FIRST: u64 = 300_000;
 
-/// Where a search goes on, its first turns assign about so many literals for each clause that was
+/// About how many literals the first turns of a search that goes on assign for each clause that was
 /// learned before: with the first shares of a new search again, bounds of rosters fell behind.
 const EACH_LEARNED: u64 = 6;
 
-/// The first turn that looks for a first solution assigns about so many literals.
+/// About how many literals the first turn that looks for a first solution assigns.
 const FIRST_SOLUTION: u64 = 150_000;
 
 /// Shares are counted in thousandths.
 const PARTS: u64 = 1000;
 
-/// A part that pays gets no more than so many thousandths of the share of a round.
+/// The most thousandths of the share of a round that a part that pays gets.
 const MOST: u64 = 2000;
 
 /// What the parts of a round get of its share, from `PARTS` to `MOST` thousandths.
@@ -57,7 +57,7 @@ fn judge(part: u64, before: u64, after: u64) -> u64 {
     }
 }
 
-/// So many thousandths of a share.
+/// `part` thousandths of a share.
 fn part_of(share: u64, part: u64) -> u64 {
     (share / PARTS).saturating_mul(part)
 }
@@ -196,7 +196,7 @@ fn has_begun<D: Desk>(desk: &D) -> bool {
     desk.has_solution() || desk.is_refuted() || desk.left() == 0
 }
 
-/// Looks for any solution, for so many propagations.
+/// Looks for any solution, for `share` propagations.
 fn search_freely<D: Desk>(desk: &mut D, share: u64) -> Result<(), DeskFault>
     ensures follows { (first : D) → D.follows first desk.old → D.follows first desk.new }
 {
@@ -221,7 +221,7 @@ fn cheap_values(alloc: Global, weights: &[Relaxation], last: u32) -> Result<Vec<
     Ok(values)
 }
 
-/// Looks for solutions below the best one, until about so many literals were assigned.
+/// Looks for solutions below the best one, until about `share` literals were assigned.
 fn descend<D: Desk>(desk: &mut D, cores: &mut Cores, share: u64) -> Result<(), DeskFault>
     ensures follows { (first : D) → D.follows first desk.old → D.follows first desk.new }
 {
@@ -235,7 +235,7 @@ fn descend<D: Desk>(desk: &mut D, cores: &mut Cores, share: u64) -> Result<(), D
     Ok(())
 }
 
-/// Looks for a solution below the best one, until there were so many propagations; answers whether
+/// Looks for a solution below the best one, until there were `until` propagations; answers whether
 /// to go on from where that has led.
 fn descend_once<D: Desk>(
     desk: &mut D,

@@ -3,54 +3,54 @@
 // Each kind finds on some instances what the other does not. It gets a greater part of the turn
 // where it found something, and a smaller one where not.
 //
-// A walk costs no unit of the budget, so all walks together make at most so many visits for each
-// propagation. A visit takes some 13 ns, and a propagation some 170 with all that goes with it.
+// A walk costs no unit of the budget, so the propagations limit the visits of all walks together. A
+// visit takes some 13 ns, and a propagation some 170 with all that goes with it.
 
 use cuts_cores::desk::{Desk, DeskFault};
 use improve_local::kinds::WalkKind;
 
-/// So many visits go with each propagation of the other parts of a turn.
+/// The visits that go with each propagation of the other parts of a turn.
 const VISITS: u64 = 13;
 
-/// Of these the next priced walk after those two makes so many thousandths,
+/// The part of a turn's visits that priced walks make at first, in thousandths.
 const FIRST_PRICED: u64 = 100;
 
-/// and the first growing one so many.
+/// The part of a turn's visits that growing walks make at first, in thousandths.
 const FIRST_GROWING: u64 = 200;
 
-/// A part that is doubled stays below this,
+/// The greatest part of a turn's visits for one kind, in thousandths.
 const MOST: u64 = 700;
 
-/// and one that is halved above this.
+/// The least part of a turn's visits for one kind, in thousandths.
 const LEAST: u64 = 80;
 
 /// Parts are counted in thousandths.
 const PARTS: u64 = 1000;
 
-/// Up to half of the visits of a turn, a priced walk makes at least so many for each literal of the
-/// instance,
+/// The fewest visits of a priced walk for each literal of the instance, up to half of the visits of
+/// a turn.
 const LEAST_PRICED: u64 = 40;
 
-/// and a growing one so many.
+/// The fewest visits of a growing walk for each literal, up to half of the visits of a turn.
 const LEAST_GROWING: u64 = 20;
 
-/// A walk makes no more than so many visits for each literal.
+/// The most visits of a walk for each literal.
 const MOST_EACH: u64 = 1000;
 
-/// The walk from a first solution makes so many visits for each literal: enough to have a cost by
-/// which the first cores can fix literals, and little beside what they take.
+/// The visits for each literal in the walk from a first solution: enough to have a cost by which
+/// the first cores can fix literals, and few compared with what those take.
 const FIRST_EACH: u64 = 20;
 
-/// and so many at most.
+/// The most visits of the walk from a first solution, beyond those that propagations allow.
 const FIRST: u64 = 1_000_000;
 
-/// The priced walk after the first cores makes so many visits for each literal,
+/// The visits for each literal in the priced walk after the first cores.
 const BEGINNING_EACH: u64 = 120;
 
-/// and so many at most. Both are beside what goes with propagations.
+/// The most visits of the priced walk after the first cores, beyond those that propagations allow.
 const BEGINNING: u64 = 10_000_000;
 
-/// All walks may make as many visits as if there were so many propagations more.
+/// All walks may make as many visits as if there were this many propagations more.
 const BEFORE: u64 = 15_000;
 
 /// The walks of one kind.
@@ -60,12 +60,12 @@ struct Way {
     kind: WalkKind,
     // Their part of the visits of a turn, from `LEAST` to `MOST` thousandths.
     part: u64,
-    // So many visits for each literal of the instance, at least: one of the constants.
+    // The fewest visits for each literal of the instance: one of the constants.
     least: u64,
 }
 
 impl Way {
-    /// How many visits a walk is to make, where the turns have about so many propagations each.
+    /// How many visits a walk is to make, where the turns have about `share` propagations each.
     fn visits(&self, size: u64, share: u64) -> u64 {
         let turn = share.saturating_mul(VISITS);
         let part = (turn / PARTS).saturating_mul(self.part);
@@ -124,7 +124,7 @@ impl Walks {
         Ok(())
     }
 
-    /// A walk of each kind, as one of the turns that have about so many propagations each.
+    /// A walk of each kind, as one of the turns that have about `share` propagations each.
     pub(crate) fn turn<D: Desk>(&mut self, desk: &mut D, share: u64) -> Result<(), DeskFault>
         ensures follows { (first : D) → D.follows first desk.old → D.follows first desk.new }
     {
@@ -151,7 +151,7 @@ fn walk<D: Desk>(desk: &mut D, way: &mut Way, made: &mut u64, share: u64) -> Res
     Ok(())
 }
 
-/// A walk of this kind for about so many visits; answers how many it made.
+/// A walk of this kind for about `visits` visits; answers how many it made.
 fn walk_for<D: Desk>(desk: &mut D, way: &mut Way, visits: u64) -> Result<u64, DeskFault>
     ensures follows { (first : D) → D.follows first desk.old → D.follows first desk.new }
 {

@@ -54,10 +54,10 @@ use std::alloc::{AllocError, Global};
 use std::io::Write;
 use std::marker::Model;
 
-/// So many ids may come for each line of a certificate that is gone on with,
+/// The ids that may come for each line of a certificate that is gone on with.
 const IDS_A_LINE: u64 = 64;
 
-/// and so many for clauses that its counts have made, twice as many as there may be.
+/// The ids that may come for clauses of a certificate's counts, twice as many as there may be.
 const IDS_OF_COUNTS: u64 = 1 << 23;
 
 /// A conflict has about so many lines: what it learns comes, and mostly goes.
@@ -72,7 +72,7 @@ const PAUSE_STEP: u64 = 100;
 /// and so often that grows.
 const PAUSE_STEPS: u64 = 40;
 
-/// The clauses of counts have so many literals at most.
+/// The most literals that a clause of a count has.
 const MOST_COUNTED: usize = 3;
 
 /// How a search ended.
@@ -387,7 +387,7 @@ impl<W: Write + Drop> CutsSolver<W> {
         Ok(!self.refuted)
     }
 
-    /// Whether so many variables more would be variables of the engine.
+    /// Whether `more` variables more would be variables of the engine.
     fn has_room(&self, more: u64) -> bool {
         (self.log.forms().variables() as u64).saturating_add(more) <= self.last() as u64
     }
@@ -832,8 +832,8 @@ impl<W: Write + Drop> CutsSolver<W> {
     ghost use Rattle.cuts_log.specs.Logs.{Brings};
     ghost use Rattle.cuts_solver.specs.Solving.{PaysLines, SameSolver};
 
-    /// A count of these literals with so many outputs. False where the log refuses it, where there
-    /// is no room for its variables, and where the empty clause was added.
+    /// A count of these literals with `outputs` outputs. False where the log refuses it, where
+    /// there is no room for its variables, and where the empty clause was added.
     ///
     /// # Errors
     ///
@@ -887,7 +887,7 @@ impl<W: Write + Drop> CutsSolver<W> {
         Ok(true)
     }
 
-    /// So many times the cost, less these facts, in place of the present form. False where the log
+    /// `scale` times the cost, less these facts, in place of the present form. False where the log
     /// refuses it, and where the empty clause was added.
     ///
     /// # Errors

@@ -63,7 +63,7 @@ pub record EliminationLeaves (frozen : List Bool) (before : List (List Literal))
       → HoldsWhatIsLive slots stack.names base (log_live (given_of before) base lines)
   -- each is the clause of a formula with these variables
   pub left : All (IsFormulaClause stack.variables) (live_clauses slots)
-  -- the variables are those of the formula, and at most so many fresh ones
+  -- the variables are those of the formula, and at most `MOST_FRESH` fresh ones
   pub variables : (length frozen ≤ stack.variables)
       × (stack.variables ≤ length frozen + MOST_FRESH)
   -- no eliminated variable occurs

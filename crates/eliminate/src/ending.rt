@@ -18,7 +18,7 @@ use eliminate_tables::schedule::Schedule;
 use lrat_log::sink::Sink;
 use std::alloc::{AllocError, Global};
 
-/// At most so many variables are fresh.
+/// The most variables that are fresh.
 const MOST_FRESH: u32 = 1 << 20;
 
 /// Frees the tables that the last pass does not need: on large formulas its pairs take their room.

@@ -9,7 +9,7 @@ use clauses::store::Store;
 use lrat_log::sink::Sink;
 use std::alloc::AllocError;
 
-/// At most so many rounds.
+/// The most rounds that are made.
 const MOST_ROUNDS: u32 = 8;
 
 /// Subsumes, strengthens and eliminates, until nothing changes or the empty clause is there.

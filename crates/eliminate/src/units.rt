@@ -422,7 +422,7 @@ pub(crate) fn propagate_units<S: Sink>(
     units.propagate(&mut visits, simplifier, store, sink)
 }
 
-/// No clause for each of so many variables.
+/// No clause for each of `count` variables.
 fn no_clauses(alloc: Global, count: usize) -> Result<Vec<MaybeCRef>, AllocError>
     ensures { IfOk result (λ clauses. clauses.items ≡ replicate count None) }
 {

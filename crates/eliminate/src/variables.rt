@@ -25,7 +25,7 @@ use eliminate_tables::worthwhile::{is_candidate, is_worthwhile};
 use lrat_log::sink::Sink;
 use std::alloc::AllocError;
 
-/// For each variable, so many tries in one pass.
+/// The most tries in one pass, per variable on average.
 const MOST_TRIES: usize = 10;
 
 /// The live clauses with a literal, and those with its negation.

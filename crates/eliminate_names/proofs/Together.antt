@@ -20,7 +20,7 @@ use Rattle.eliminate_names.specs.Together.{live_names}
 
 -- The list closes its gaps.
 
--- so many places were passed, of which these names are kept, each in the front
+-- `place` places were passed, of which these names are kept, each in the front
 pub record IsClosing (names all : List Name) (slots : Slots) (kept place : ℕ) : Type 0 where
   pub few : kept ≤ place
   pub long : length names ≡ length all

@@ -24,7 +24,7 @@ pub record NamesState : Type 0 where
 abbrev pub name_at : List Name → ℕ → Name
 name_at names r = slice_index_or names r (Formula 1)
 
--- the name of an addition after so many
+-- the name of the addition after the first `before`
 abbrev pub added_line : ℕ → Name
 added_line before = Added (before + 1)
 
@@ -56,7 +56,7 @@ pub record IsNamed (given : Given) (slots : Slots) (names : List Name) (lines : 
       → AreLiveAs (λ r. id_of base (name_at names r)) slots (log_live given base lines)
       (base + added_count lines)
 
--- each clause of the store is one of a formula with so many variables
+-- each clause of the store is one of a formula with `variables` variables
 abbrev pub AreClauses : ℕ → Slots → Type 0
 AreClauses variables slots = (r : ℕ) (c : List Literal) → clause_at slots r ≡ Some c
     → IsFormulaClause variables c

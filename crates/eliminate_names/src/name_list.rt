@@ -32,7 +32,7 @@ impl Model for NameList {
 }
 
 impl NameList {
-    /// No names, with room for so many, of which memory holds fewer than 2^62.
+    /// No names, with room for `count` of them; memory holds fewer than 2^62.
     pub(crate) fn with_capacity(alloc: Global, count: usize) -> Result<Self, AllocError>
         ensures none { IfOk result (λ n. n ≡ []) }
         ensures few { OnOk result (count < NUMBER_LIMIT) }

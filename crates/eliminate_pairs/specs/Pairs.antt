@@ -202,7 +202,7 @@ abbrev pub Moves : {T E : Type 0} → Result T E → Stage → Stage → Type 0
 Moves result before after =
     MatchResult result (λ _. IsMove before after) (λ _. BreaksOff before after.lines)
 
--- so many moves, one after another
+-- a number of moves, one after another
 abbrev pub AreMoves : ℕ → Stage → Stage → Type 0
 AreMoves zero before after = after ≡ before
 AreMoves (suc n) before after =

@@ -4,11 +4,11 @@ use clauses::store::Store;
 use cnf::types::Lit;
 use std::alloc::{AllocError, Global};
 
-/// A pair may be worth a variable where it stands in so many clauses.
+/// The fewest clauses with a pair that may be worth a variable.
 pub(crate) const FEWEST: usize = 4;
 
-/// In a large store it must stand in so many: each saves one literal, and a definition takes seven.
-/// So a large formula does not get longer.
+/// The fewest clauses with a pair that may be worth a variable in a large store: each saves one
+/// literal, and a definition takes seven. So a large formula does not get longer.
 const FEWEST_IN_A_LARGE_STORE: usize = 8;
 
 /// A store with more literals and clauses, dead ones too, is large.

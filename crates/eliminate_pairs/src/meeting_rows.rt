@@ -113,7 +113,7 @@ pub(crate) fn place_of(meeting: u64) -> u32 {
     (meeting & 0xFFFF_FFFF) as u32
 }
 
-/// The meetings in rows by lower literal, of which there are so many, and where each row ends.
+/// The meetings in `rows` rows, by lower literal, and where each row ends.
 fn dealt(
     alloc: Global,
     written: &[Meeting],

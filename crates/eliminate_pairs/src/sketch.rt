@@ -10,16 +10,16 @@ use std::cmp::Ordering;
 pub(crate) struct Sketch {
     // A power of two of them; each stays at 255.
     counters: Vec<u8>,
-    // A hash of 64 bits less so many is the place of a counter.
+    // By how many bits a hash is shifted right to the place of a counter.
     shift: u32,
-    // A counter of so many is a large one.
+    // The least value of a large counter.
     fewest: usize,
     /// How many of the pairs that were counted have a large counter.
     pub(crate) many: usize,
 }
 
 impl Sketch {
-    /// No pair is counted yet, and room for so many; `fewest` make a large counter.
+    /// No pair is counted yet, and there is room for `pairs`; `fewest` make a large counter.
     pub(crate) fn new(alloc: Global, pairs: usize, fewest: usize) -> Result<Self, AllocError> {
         let bits = bits_for(pairs);
         Ok(Sketch {
@@ -61,7 +61,7 @@ impl Sketch {
     }
 }
 
-/// So many bits that a table of that size has a counter for each pair, within bounds.
+/// How many bits the places of a table with a counter for each pair have, within bounds.
 fn bits_for(pairs: usize) -> u32
     ensures { result ≤ 25 }
 {

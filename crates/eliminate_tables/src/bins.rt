@@ -2,9 +2,9 @@
 // strengthened. Each clause is in one bin, that of one of its literals, with its signature. A
 // clause is compared with a bin eight signatures at a time, and literals are compared only where a
 // signature fits. A bin has room for a hundred clauses, so that a literal that occurs everywhere
-// does not make the search quadratic: no other is compared with a clause that finds no room. Each
-// pass has so many steps that it is linear in the store, also where many long clauses share most of
-// their literals.
+// does not make the search quadratic: no other is compared with a clause that finds no room. The
+// steps of each pass are limited to a number linear in the store, also where many long clauses
+// share most of their literals.
 //
 // All bins lie in two vectors: a vector each for the references and the signatures of a bin would
 // take three times the memory where clauses are short. A bin without room left moves to the end,
@@ -21,9 +21,9 @@ use cnf::types::Lit;
 use std::alloc::{AllocError, Global};
 use std::marker::Model;
 
-/// So many clauses have room in a bin.
+/// The most clauses that have room in a bin.
 const MOST_IN_A_BIN: usize = 100;
-/// A pass has so many steps for each literal of the store, and for each clause. A step looks at a
+/// The steps of a pass for each literal of the store, and for each clause. A step looks at a
 /// literal, or holds eight signatures against one.
 const STEPS: usize = 64;
 

@@ -34,7 +34,7 @@ impl Model for Rows {
 }
 
 impl Rows {
-    /// So many empty rows.
+    /// `count` empty rows.
     pub fn new(alloc: Global, count: usize) -> Result<Self, AllocError>
         ensures { IfOk result (λ r. r ≡ record {
           rows = replicate count [];
@@ -70,7 +70,7 @@ impl Rows {
         self.rows.get(row, place)
     }
 
-    /// Gives each row room for so many references, where it has no more.
+    /// Gives each row room for as many references as `rooms` says, where it has no more.
     pub fn make_rooms(&mut self, rooms: &[u32], fill: CRef) -> Result<(), AllocError>
         ensures rows { self.new.rows ≡ self.old.rows }
         ensures rooms { OnOk result ((i : ℕ) → i < length self.old.rows

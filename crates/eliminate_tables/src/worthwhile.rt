@@ -14,7 +14,7 @@ use clauses::store::{CRef, Store};
 use cnf::marks::Marks;
 use cnf::types::Lit;
 
-/// A variable goes only where at most so many clauses have it, and at most so many its negation.
+/// The most clauses that have a variable that goes, and the most that have its negation.
 const MOST_OF_A_SIGN: usize = 10;
 
 /// No resolvent may have more literals.

@@ -28,7 +28,7 @@ refuted_text = no_solution ++ codes "that is wrong: the hard clauses have a solu
 abbrev pub sources_text : List SourceLine → List ℕ
 sources_text lines = flat_map source_text lines
 
--- so many of all hard clauses, on these lines
+-- `count` of `all` hard clauses, on these lines
 abbrev pub contradiction_text : ℕ → ℕ → List SourceLine → List ℕ
 contradiction_text count all lines =
     no_solution ++ (decimal count ++ (codes " of " ++ (decimal all

@@ -83,7 +83,7 @@ no_lines = record {
 abbrev pub counts_of : List ℕ → LineCounts
 counts_of proof = counted_all no_lines (ended_lines proof)
 
--- so many ids from 1 to n are those of live clauses
+-- how many ids from 1 to n are those of live clauses
 abbrev pub live_up_to : Clauses → ℕ → ℕ
 live_up_to live zero = 0
 live_up_to live (suc n) = by (live (suc n)) + live_up_to live n

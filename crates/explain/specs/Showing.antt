@@ -58,7 +58,7 @@ sets_direction bs =
 abbrev pub visible_length : List ℕ → ℕ
 visible_length bs = if is_control bs || sets_direction bs then 0 else character_length bs
 
--- how many bytes of a character that is shown are left, where so many were left before it and these
+-- how many bytes of a character that is shown are left, where `left` were left before it and these
 -- bytes are next
 abbrev pub left_at : ℕ → List ℕ → ℕ
 left_at left bs = if left == 0 then visible_length bs else left

@@ -80,7 +80,7 @@ fn write_with<W: Write>(more: &[u8], writer: &mut W) -> Result<(), WriteFault>
     sheet.finish(writer)
 }
 
-/// Writes the lines of so many of all hard clauses.
+/// Writes the lines of `count` of `all` hard clauses.
 fn write_lines<W: Write>(
     count: usize,
     all: usize,

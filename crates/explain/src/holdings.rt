@@ -18,7 +18,7 @@ use text::cutting::tokens;
 use text::output::WriteFault;
 use text::pieces::{split_line, without_return};
 
-/// So many ids more than the certificate has bytes are looked at: counts bring many clauses, but
+/// How many more ids are looked at than the certificate has bytes: counts bring many clauses, but
 /// from an addition to the next ids may leap as far as they like.
 const MOST_IDS: u64 = 1 << 26;
 

@@ -10,7 +10,7 @@ use std::alloc::{AllocError, Global};
 pub(crate) enum Meaning {
     /// The soft clause at this place, from 0, is given up.
     GivenUp(usize),
-    /// Of the literals of the count with this number so many are true, or more.
+    /// Of the literals of the count with the first number at least the second number are true.
     Reached(u64, u64),
     /// No more than that.
     Literal(Lit),

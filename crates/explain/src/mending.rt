@@ -104,7 +104,7 @@ fn put_cut<W: Write>(sheet: &mut Sheet, writer: &mut W, bytes: &[u8])
     sheet.put(writer, b" ..");
 }
 
-/// The first bytes, so many at most.
+/// The first bytes, at most `most`.
 fn cut(bytes: &[u8], most: usize) -> &[u8]
     ensures { result.now ≡ take most bytes.now }
 {

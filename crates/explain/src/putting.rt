@@ -77,7 +77,7 @@ pub(crate) fn put_given_up<W: Write>(
     }
 }
 
-/// One of them, up to which so much is paid.
+/// One of them; `paid` is the sum of the weights up to it.
 fn put_paid<W: Write>(
     sheet: &mut Sheet,
     writer: &mut W,

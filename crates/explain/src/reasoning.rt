@@ -28,9 +28,9 @@ pub struct Reasons<'a> {
     // The form: how many times it has the cost, and what it is worth by itself; none where there
     // is no form.
     form: Option<(u64, Option<u64>)>,
-    // The places of the hard clauses that facts say, rising,
+    // The places of the hard clauses that facts say, rising.
     wanted: Vec<u32>,
-    // and the lines of these, and of all soft clauses.
+    // The lines of the wanted hard clauses, and of all soft clauses.
     lines: ClauseLines<'a>,
 }
 

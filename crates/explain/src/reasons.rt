@@ -20,7 +20,7 @@ pub(crate) const MOST_LISTED: usize = 10;
 pub(crate) enum Saying {
     /// This clause of the text holds.
     Source(Place),
-    /// At least so many of some literals are true.
+    /// At least this number of some literals are true.
     AtLeast(u64),
     /// At most one of some literals is true.
     AtMostOne,
@@ -33,9 +33,9 @@ pub(crate) enum Saying {
 pub(crate) struct Reason {
     /// How many times the form has which fact.
     pub(crate) fact: WeightedFact,
-    /// What it says,
+    /// What it says.
     pub(crate) saying: Saying,
-    /// and of which literals.
+    /// The literals of which it says that.
     pub(crate) literals: Vec<Meaning>,
 }
 

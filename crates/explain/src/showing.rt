@@ -40,8 +40,8 @@ pub(crate) fn put_shown<W: Write>(sheet: &mut Sheet, writer: &mut W, line: &[u8]
     }
 }
 
-/// How many bytes of a character that is shown are left, where so many were left before it and
-/// these bytes are next.
+/// How many bytes of a character that is shown are left, where `left` were left before it and these
+/// bytes are next.
 fn left_at(left: usize, bytes: &[u8]) -> usize
     ensures { result ≡ left_at left bytes.now }
 {

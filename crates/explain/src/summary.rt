@@ -51,14 +51,14 @@ fn write_counts<W: Write>(instance: &Instance, writer: &mut W) -> Result<(), Wri
     sheet.finish(writer)
 }
 
-/// What there is of an instance.
+/// What an instance has.
 #[derive(Drop)]
 struct Counts {
-    /// How many variables it has.
+    /// The number of variables.
     vars: u32,
-    /// How many hard clauses.
+    /// The number of hard clauses.
     hard: usize,
-    /// How many soft clauses.
+    /// The number of soft clauses.
     soft: usize,
     /// The sum of their weights: below 2^62.
     weights: u64,

@@ -50,11 +50,11 @@ impl<T: Copy> FlatBlock<T> {
         }
     }
 
-    /// So many times the same value.
+    /// `count` times the same value.
     ///
     /// # Errors
     ///
-    /// `AllocError` where the memory was refused, or where so many values would take 2^63 bytes or
+    /// `AllocError` where the memory was refused, or where `count` values would take 2^63 bytes or
     /// more.
     pub fn new(alloc: Global, count: usize, fill: &T) -> Result<Self, AllocError>
         ensures { IfOk result (λ b. b ≡ replicate count fill.now) }

@@ -37,7 +37,7 @@ impl<T> Model for Places<T> {
     ghost also_shares = { λ c _ κ. places_lent T.row c.at c.items c.filled κ };
 }
 
-/// The right to give the block of so many places back to its allocator.
+/// The right to give the block of `len` places back to its allocator.
 pub struct Deed<T, A: Allocator> {
     // It stands for the block, which lies elsewhere.
     mark: PhantomData<*const (T, A)>,
@@ -55,7 +55,7 @@ impl<T, A: Allocator> Model for Deed<T, A> {
     ghost also_shares = { λ _ _ _. ftrue };
 }
 
-/// So many empty places. Each is to hold a value like `fill`.
+/// `len` empty places. Each is to hold a value like `fill`.
 pub(crate) fn allocate<T, A: Allocator>(
     alloc: &A,
     len: usize,

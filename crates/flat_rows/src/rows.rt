@@ -59,7 +59,7 @@ impl<T> Model for FlatRows<T> {
 }
 
 impl<T: Copy> FlatRows<T> {
-    /// So many empty rows, without room.
+    /// `rows` empty rows, without room.
     ///
     /// # Errors
     ///
@@ -164,9 +164,9 @@ impl<T: Copy> FlatRows<T> {
         }
     }
 
-    /// Gives each row room for so many entries, where it has no more, all side by side: rows that
-    /// grow one by one leave their old places empty. The block gets an eighth more, so that it is
-    /// not copied as soon as one row grows.
+    /// Gives each row room for as many entries as `rooms` says, where it has no more, all side by
+    /// side: rows that grow one by one leave their old places empty. The block gets an eighth more,
+    /// so that it is not copied as soon as one row grows.
     ///
     /// # Errors
     ///
@@ -319,7 +319,7 @@ impl<T: Copy> FlatRows<T> {
         self.give_room(row, room, fill)
     }
 
-    /// Gives a row so much room, in a larger block where this one has none left: half as large
+    /// Gives a row `room` places, in a larger block where this one has too few left: half as large
     /// again, or by that room if it is more.
     ///
     /// # Errors
@@ -345,7 +345,7 @@ impl<T: Copy> FlatRows<T> {
     }
 
     /// Moves a row to the end of what is in use, where it gets `room` places. Where the block has
-    /// not so many left, or the row more entries, it says no, and all stays as it is.
+    /// fewer left, or the row more entries, it says no, and all stays as it is.
     fn move_row(&mut self, row: usize, room: u32) -> bool
         requires { row < length self.old.rows }
         ensures moved { IsTrue result → self.new ≡ record self.old {

@@ -3,13 +3,13 @@ use Rattle.std.proofs.Common.{◌≡◌, ℕ, ◌+◌, ◌*◌, ◌≤◌, ◌^�
 use Rattle.std.proofs.Math.Nat.{mul-add, mul-le-mul_left}
 use Rattle.forms.specs.Kept.{most_mass}
 
--- twice a weight for each of so many literals
+-- twice a weight for each of n literals
 pub weighed : (w n : ℕ) → w ≤ 2 ^ 62 → 2 * w * n ≤ 2 ^ 63 * n
 weighed w n h =
     let e : 2 * w ≤ 2 ^ 63 = omega arith in
     grind (arith, mul-le-mul_left n e)
 
--- facts of so many terms more
+-- facts of `size` terms more
 pub more_mass : (terms size made mass by : ℕ) → mass ≤ most_mass terms made
     → by ≤ 3 * 2 ^ 62 * size → mass + by ≤ most_mass (terms + size) made
 more_mass terms size made mass by h g = grind arith

@@ -10,7 +10,7 @@ use Rattle.totalizer.proofs.Laws.{outputs_count, size_positive, stages_has, stag
 abbrev pub staged_behind : List (List Literal) → Staged → Staged
 staged_behind cs s = record s { clauses = cs ++ s.clauses }
 
--- the stage behind so many
+-- the stage behind `count` others
 pub stages_more : (count h v : ℕ) (t : Tree)
     → stages (suc count) h v t
     ≡ (let g = stages count h v t in staged_behind g.clauses (stage (h + count) g.fresh g.tree))

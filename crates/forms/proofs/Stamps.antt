@@ -84,7 +84,7 @@ found ns (suc j) n lt le is p =
     ∙ ap (λ x. Some (numbered_at p x))
     (ap (λ k. get_or ns k n) (let e : j ≡ suc j - 1 = omega arith in e) ∙ sym is)
 
--- less so many times the fact of what has a number
+-- less w times the fact of what has a number
 pub less_is : (w j : ℕ) (s : Forms) (n : Numbered) → at_number s.numbered j ≡ Some n
     → less_numbered w j s ≡ record s {
       form = less_item w n s.form;

@@ -24,7 +24,7 @@ use Rattle.forms.specs.declared.faults.TheConstants.{MOST_COUNT_CLAUSES, MOST_TE
 -- what has a number: facts with a number are said of these
 pub data Numbered : Type 0 where
   -- a count: the number of its literals that are true, less that of its outputs that are; the
-  -- present form has it so many times
+  -- present form has it `multiplier` times
   Count : (inputs : List Literal) (tree : Tree) (multiplier : ℕ) → Numbered
   -- a group: 1, less the number of its literals that are true
   Group : (inputs : List Literal) → Numbered
@@ -91,7 +91,7 @@ counted inputs s g = with_stage s g (λ t. record t {
   numbered = s.numbered ++ Count inputs g.tree 0 ∷ [];
 })
 
--- a count of these literals, with so many outputs
+-- a count of these literals, with `outputs` outputs
 abbrev pub count_line : ℕ → List Literal → Forms → Result Made LineFault
 count_line outputs inputs s =
     if are_known s inputs && nat_le 1 outputs && nat_le outputs (length inputs) then
@@ -102,7 +102,7 @@ abbrev pub at_number : List Numbered → ℕ → Option Numbered
 at_number ns zero = None
 at_number ns (suc j) = slice_get ns j
 
--- the form with so many times these literals more
+-- the form with w times these literals more
 abbrev pub plus : ℤ → List Literal → CostForm → CostForm
 plus w ls f = record f { rest = plus_literals w ls f.rest }
 
@@ -214,24 +214,24 @@ less w ls f = plus (pos 0 -ℤ pos w) ls f
 abbrev pub plus_number : ℤ → CostForm → CostForm
 plus_number w f = record f { rest = plus_constant w f.rest }
 
--- the form less so many times the fact of a clause
+-- the form less w times the fact of a clause
 abbrev pub less_clause : ℕ → List Literal → Forms → Forms
 less_clause w c s = record s {
   form = plus_number (pos w) (less w c (widened (greatest_variable c + 1) s.form));
   terms = s.terms + clause_size c;
 }
 
--- less so many times the fact of a count or group
+-- less w times the fact of a count or group
 abbrev pub less_item : ℕ → Numbered → CostForm → CostForm
 less_item w (Group inputs) f = plus_number (pos 0 -ℤ pos w) (plus (pos w) inputs f)
 less_item w (Count inputs tree multiplier) f = plus (pos w) (outputs_of tree) (less w inputs f)
 
--- the form has its fact so many times; no group's is counted
+-- how many times the form has its fact; no group's is counted
 abbrev pub multiplier_of : Numbered → ℕ
 multiplier_of (Group inputs) = 0
 multiplier_of (Count inputs tree multiplier) = multiplier
 
--- the form has its fact so many times more
+-- the form has its fact w times more
 abbrev pub cited : ℕ → Numbered → Numbered
 cited w (Group inputs) = Group inputs
 cited w (Count inputs tree multiplier) = Count inputs tree (multiplier + w)
@@ -247,7 +247,7 @@ less_numbered w j s = by (at_number s.numbered j)
       terms = s.terms + numbered_size n;
     }
 
--- less so many times a fact, which is there
+-- less its weight times a fact, which is there
 abbrev pub less_fact : Clauses → Forms → NamedFact → Forms
 less_fact at s f = if f.is_numbered then less_numbered f.weight f.number s else by (at f.number)
   where
@@ -267,13 +267,13 @@ without_multiplier (Group inputs) = Group inputs
 abbrev pub cleared : List Numbered → List Numbered
 cleared ns = map without_multiplier ns
 
--- so many times the cost, in place of the present form, or that form itself
+-- `scale` times the cost, in place of the present form, or that form itself
 abbrev pub begun : Option ℕ → Forms → Forms
 begun None s = s
 begun (Some scale) s =
     record s { form = restarted scale s.form; has_form = true; numbered = cleared s.numbered }
 
--- a form: so many times the cost or the present form, less these facts
+-- a form: `scale` times the cost or the present form, less these facts
 abbrev pub form_line : Clauses → Option ℕ → List NamedFact → Forms → Result Forms LineFault
 form_line at scale facts s =
     if goes_on scale && not s.has_form then Err Name else by (facts_size at s.numbered facts)

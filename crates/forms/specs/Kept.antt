@@ -17,7 +17,7 @@ forms_in f = record {
   terms = f.terms;
 }
 
--- so much may the form have beside the cost, after so many terms and clauses of counts
+-- the most that the form may add to the cost, after `terms` terms and `made` clauses of counts
 abbrev pub most_mass : ℕ → ℕ → ℕ
 most_mass terms made = terms * 2 ^ 62 * (3 + 2 * made)
 

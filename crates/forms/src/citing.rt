@@ -15,7 +15,7 @@ use crate::numbered::{Count, Numbered};
 use cnf::types::Lit;
 use linear::bounds::CostBound;
 
-/// Takes the fact of a count or group off the form with a stamp, so many times.
+/// Takes the fact of a count or group off the form with a stamp, `weight` times.
 pub(crate) fn subtract_item(bound: &mut CostBound, item: &mut Numbered, weight: u64, present: u64)
     requires weight { weight < NUMBER_LIMIT }
     requires can { CanCite (width_of bound.old.form) item.old }

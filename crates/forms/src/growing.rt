@@ -24,7 +24,7 @@ use linear::bounds::CostBound;
 use std::alloc::AllocError;
 use totalizer::totalizer::Totalizer;
 
-/// The first so many stages of a totalizer that has none, as long as they make no more clauses than
+/// The first `count` stages of a totalizer that has none, as long as they make no more clauses than
 /// there is room for: the next new variable after them. None where they make more; then there are
 /// some of the stages.
 ///
@@ -167,7 +167,7 @@ pub(crate) fn grow_item(
     }
 }
 
-/// Adds the latest output of a count, which is a variable, to a form, so many times.
+/// Adds the latest output of a count, which is a variable, to a form, `multiplier` times.
 pub(crate) fn add_output(bound: &mut CostBound, variable: u32, multiplier: u128)
     requires from_one { 0 < variable }
     requires small { variable < VARIABLE_LIMIT }

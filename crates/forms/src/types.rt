@@ -1,6 +1,6 @@
 // What a form line names.
 
-/// So many times a fact of a form line.
+/// A fact of a form line, and how many times it is taken.
 #[derive(Clone, Copy, Debug, PartialEq, Eq, Drop)]
 pub struct NamedFact {
     /// How many times the form is less it: from 1, below 2^62.

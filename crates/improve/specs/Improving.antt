@@ -97,7 +97,7 @@ IsHardLog p ls = IsWorkOver (hard_cnf p).clauses ls × IsNewWork (hard_cnf p).cl
 abbrev pub IsHardWork : Problem → Work → Type 0
 IsHardWork p w = IsHardLog p w.hard
 
--- the ids of the last bound's clauses, and of so many lines for those of the bounds before
+-- the ids of the last bound's clauses, and of `lines` lines for those of the bounds before
 abbrev pub is_of_bounds : Profile → Problem → ℕ → ℕ → ℕ → Bool
 is_of_bounds profile p c lines =
     is_later (length (fixed_clauses profile p)) (length (bound_as profile p c).clauses + lines)
@@ -122,7 +122,7 @@ pub record IsBoundWork (profile : Profile) (p : Problem) (costs : List ℕ) (c :
 
 -- What was found is right, where these costs were told.
 
--- the log refutes the formula for the last bound, which has so many clauses
+-- the log refutes the formula for the last bound, which has `clauses` clauses
 pub record IsRefutation (profile : Profile) (p : Problem) (costs : List ℕ) (c : ℕ)
     (log : List LogLine) (clauses : ℕ) : Type 0 where
   pub accepted : IsAcceptedOver (bound_as profile p c).clauses log

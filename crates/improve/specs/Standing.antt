@@ -44,14 +44,14 @@ pub record HasTold (earlier now : Telling) (costs : List ℕ) : Type 0 where
   pub told : now.told ≡ earlier.told ++ costs
   pub failures : now.failures ≡ earlier.failures
 
--- since the first of these, so many costs were told, so many lines learned, and nothing else spent
+-- since the first of these, the costs were told, `lines` lines learned, and nothing else spent
 pub record HasSpent (before left : BudgetState) (costs : List ℕ) (lines : ℕ) : Type 0 where
   pub limit : left.limit ≡ before.limit
   pub answers : left.answers ≡ before.answers + length costs
   pub learned : left.learned ≡ before.learned + lines
 
 -- on the way from one standing to the other, what was told and spent is just what that took; there
--- were so many learned lines before it, and so many after it
+-- were `was` learned lines before it, and `now` after it
 pub record GoesOn (p : Problem) (old new : Telling) (had left : BudgetState) (s t : Standing)
     (was now : ℕ) : Type 0 where
   pub standing : IsStanding p t
@@ -70,7 +70,7 @@ pub record Descends (p : Problem) (old new : Telling) (had left : BudgetState) (
   pub goes_on : GoesOn p old new had left s (record { best = best; earlier = earlier })
       0 (learned_count (b.solver).sink)
 
--- a search ends so that came to this standing, and had learned so many lines
+-- a search ends so that came to this standing, and had learned `lines` lines
 abbrev pub Ends : Profile → Problem → Result Found ImproveFault → (old new : Telling)
     → (had left : BudgetState) → Standing → ℕ → Type 0
 Ends profile p result old new had left s lines =

@@ -18,14 +18,14 @@ pub struct Work {
 #[derive(Drop)]
 pub enum Found {
     /// The bits are a solution of this cost, and none is cheaper. The log refutes the formula for
-    /// 'cheaper than that', which has so many clauses, fewer than 2^28.
+    /// 'cheaper than that', which has `clauses` clauses, fewer than 2^28.
     Optimum {
         cost: u64,
         bits: Vec<bool>,
         log: Log,
         clauses: u64,
     },
-    /// There is no solution. The log refutes the formula of the hard clauses, which has so many
+    /// There is no solution. The log refutes the formula of the hard clauses, which has `clauses`
     /// clauses, fewer than 2^28.
     Unsat {
         log: Log,

@@ -31,7 +31,7 @@ pub fn freeze_outputs(
     Ok(frozen)
 }
 
-/// So many values, all of them false: no variable is frozen.
+/// `count` values, all of them false: no variable is frozen.
 ///
 /// # Errors
 ///

@@ -37,7 +37,7 @@ pub fn numbered_in(forms: &Forms) -> u64 {
     u64::MAX
 }
 
-/// Spends units, as if for clauses that are learned, until at most so many are left.
+/// Spends units, as if for clauses that are learned, until at most `most` are left.
 pub fn spend_to(budget: &mut Budget, most: u64)
     ensures left { left_of budget.new ≤ most }
     ensures just { most ≤ left_of budget.old → left_of budget.new ≡ most }

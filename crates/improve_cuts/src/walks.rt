@@ -31,7 +31,7 @@ impl Tables {
         };
     }
 
-    /// Walks from a solution of the instance for about so many visits.
+    /// Walks from a solution of the instance for about `visits` visits.
     fn walk(&mut self, instance: &Instance, from: &Solution, kind: WalkKind, visits: u64) -> Found
         ensures { IfSome result.better (λ b. AreFeasible instance.now b.items) }
     {
@@ -70,7 +70,7 @@ impl Walks {
         }
     }
 
-    /// Walks from a solution of the instance for about so many visits, and answers the bits of a
+    /// Walks from a solution of the instance for about `visits` visits, and answers the bits of a
     /// cheaper one, if it meets any.
     pub fn walk(
         &mut self,

@@ -16,7 +16,7 @@ pub(crate) struct Best {
 }
 
 impl Best {
-    /// Room for the bits of so many variables, each of them false.
+    /// Room for the bits of `variables` variables, each of them false.
     pub(crate) fn new(alloc: Global, variables: usize) -> Result<Self, AllocError> {
         Ok(Best {
             bits: Vec::from_elem(alloc, false, variables)?,

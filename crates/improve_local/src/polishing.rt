@@ -10,10 +10,10 @@ use crate::kinds::WalkKind;
 use crate::walking::LocalSearch;
 use cnf::types::Instance;
 
-/// A round takes so many visits for each literal of the instance,
+/// The visits that a round takes for each literal of the instance.
 const VISITS: u64 = 120;
 
-/// and both rounds at most so many.
+/// The most visits that both rounds take.
 const MOST_VISITS: u64 = 10_000_000;
 
 /// A solution that costs no more than this one; where memory is refused, this one. The time is

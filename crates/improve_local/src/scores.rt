@@ -20,14 +20,13 @@ const UNITS: u64 = 16;
 /// number.
 const SMALL: u64 = 288_230_376_151_711_744;
 
-/// A hard clause weighs so many units at the start, as a soft one does in the mean,
+/// The units that a hard clause weighs at the start, as a soft one does in the mean.
 pub(crate) const HARD_START: i64 = 16;
 
-/// and no less than so many where it becomes lighter.
+/// The fewest units that a hard clause weighs once it became lighter.
 const HARD_LEAST: i64 = 3;
 
-/// A soft clause becomes no heavier where it weighs more than so many times what it does at the
-/// start.
+/// A soft clause that weighs more than this times its weight at the start becomes no heavier.
 const SOFT_MOST: i64 = 50;
 
 /// The bits, and the tables that go with them. Variables and clauses are numbers from 0.
@@ -133,7 +132,7 @@ impl Scores {
         self.change(variable, back);
     }
 
-    /// A hard clause that is false becomes heavier by so many units.
+    /// A hard clause that is false becomes heavier by `units` units.
     pub(crate) fn weigh(&mut self, instance: &Instance, number: u32, units: i64) {
         self.add_weight(instance, number, self.unit.saturating_mul(units));
     }
@@ -148,7 +147,7 @@ impl Scores {
         }
     }
 
-    // A clause that is false becomes heavier by so much.
+    // A clause that is false becomes heavier by `by`.
     fn add_weight(&mut self, instance: &Instance, number: u32, by: i64) {
         let weight = at(&self.weights, number as usize).saturating_add(by);
         set(&mut self.weights, number as usize, weight);
@@ -173,7 +172,7 @@ impl Scores {
         self.is_weighed = true;
     }
 
-    /// So many hard clauses become lighter by a unit, each in its turn. All of them are true.
+    /// `clauses` hard clauses become lighter by a unit, each in its turn. All of them are true.
     pub(crate) fn lighten(&mut self, instance: &Instance, clauses: usize) {
         let hard = instance.hard().len();
         for _clause in 0..clauses.min(hard) {
@@ -251,7 +250,7 @@ impl Scores {
         self.add_share(instance, number);
     }
 
-    // So many more literals of the clause are true: that of this variable became so or was it.
+    // The clause has `more` more true literals: that of this variable became true or was it.
     fn count_true(&mut self, number: u32, more: i32, variable: u32) {
         self.work = self.work.saturating_add(1);
         if let Some(count) = self.true_counts.get_mut(number as usize) {
@@ -284,7 +283,7 @@ impl Scores {
         }
     }
 
-    // The scores of the clause's variables become greater by so much.
+    // The scores of the clause's variables become greater by `by`.
     fn change_all(&mut self, instance: &Instance, number: u32, by: i64) {
         for lit in lits(instance, number) {
             self.work = self.work.saturating_add(1);
@@ -292,7 +291,7 @@ impl Scores {
         }
     }
 
-    // The score of a variable becomes greater by so much.
+    // The score of a variable becomes greater by `by`.
     fn change(&mut self, variable: u32, by: i64) {
         if let Some(score) = self.scores.get_mut(variable as usize) {
             let was_good = *score > 0;

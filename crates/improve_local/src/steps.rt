@@ -14,25 +14,25 @@ use crate::scores::{HARD_START, Scores};
 use cnf::types::Instance;
 use std::alloc::{AllocError, Global};
 
-/// The best of so many good variables is flipped in a priced walk,
+/// The most good variables of which the best one is flipped in a priced walk.
 const SAMPLE: usize = 10;
 
-/// and of so many in a growing one.
+/// The most good variables of which the best one is flipped in a growing walk.
 const GROWING_SAMPLE: usize = 20;
 
-/// In a priced walk a variable that was flipped is not again for so many flips.
+/// For how many flips a priced walk avoids a variable that was flipped.
 const TABU: u64 = 2;
 
-/// In a priced walk so many hard clauses that are false become heavier at a time,
+/// The most false hard clauses that become heavier at a time in a priced walk.
 const HEAVIER: usize = 16;
 
-/// or so many that are true lighter,
+/// The most hard clauses that become lighter at a time in a priced walk.
 const LIGHTER: usize = 64;
 
-/// and no more than this part of all hard clauses.
+/// In a priced walk no more than this part of all hard clauses becomes lighter at a time.
 const LIGHTER_PART: usize = 8;
 
-/// In a growing walk so many soft clauses that are false become heavier at a time.
+/// The most false soft clauses that become heavier at a time in a growing walk.
 const HEAVIER_SOFT: usize = 100;
 
 /// A walk, and what it takes along to the next one.
@@ -77,7 +77,7 @@ impl Walk {
     }
 
     /// Walks from bits that meet the hard clauses, in rounds: each begins with the best bits, and
-    /// ends once so many visits were made in all.
+    /// ends after its number of visits in all, from `ends`.
     pub(crate) fn run(
         &mut self,
         instance: &Instance,
@@ -113,7 +113,7 @@ impl Walk {
         self.best.bits()
     }
 
-    // Flips variables until so many visits were made.
+    // Flips variables until `end` visits were made.
     fn walk(&mut self, instance: &Instance, places: &Occurrences, end: u64) {
         for _step in 0..end {
             if self.best_cost == 0 || self.scores.work >= end {

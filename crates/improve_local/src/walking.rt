@@ -69,7 +69,7 @@ impl LocalSearch {
         self.places.len() as u64
     }
 
-    /// Walks from these bits for about so many visits, and answers the best bits that it meets, if
+    /// Walks from these bits for about `visits` visits, and answers the best bits that it meets, if
     /// they are a solution that costs less than this. Memory is needed for the answer alone: where
     /// it is refused, there is none.
     pub fn walk(&mut self, instance: &Instance, bits: &[bool], cost: u64, visits: u64) -> Found
@@ -91,7 +91,7 @@ impl LocalSearch {
         }
     }
 
-    /// The same, in rounds that each go on from the best bits, and end at so many visits in all.
+    /// The same, in rounds that each go on from the best bits, and end at `ends` visits in all.
     pub(crate) fn walk_rounds(
         &mut self,
         instance: &Instance,

@@ -136,7 +136,7 @@ times_more : (w : ℤ) (n : ℕ) (b : Bool)
 times_more w n true = omega (arith, ints)
 times_more w n false = omega (arith, ints)
 
--- so many times the number of literals that are true
+-- w times the number of literals that are true
 pub value_literals : (w : ℤ) (ls : List Literal) (f : Linear) (n : ℕ) (t : Assignment)
     → n ≡ length f.coefficients → AllByRecursion (λ l. l.variable < n) ls
     → value (plus_literals w ls f) t ≡ value f t +ℤ (w *ℤ pos (true_count t ls))

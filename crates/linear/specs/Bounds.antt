@@ -4,7 +4,7 @@ use Rattle.std.specs.Int.RustNames.{unsigned_abs}
 use Rattle.linear.specs.Costs.{CostForm, HasOneWidth, least, restarted}
 
 pub record BoundState : Type 0 where
-  -- so many times the cost, and what stands beside it
+  -- a multiple of the cost, and what is added to it
   pub form : CostForm
   -- the sum of the weights that were added
   pub weights : ℕ

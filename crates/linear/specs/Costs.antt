@@ -1,5 +1,5 @@
--- So many times a cost, and something beside it: the least value over all values of the variables
--- that have none.
+-- A multiple of a cost, plus something else: the least value over all values of the variables that
+-- have none.
 use Rattle.std.specs.Prelude.{◌≡◌, ℕ, ℤ, pos, ◌+ℤ◌, ◌*ℤ◌, ◌-◌, Bool, not, List}
 use Rattle.std.specs.Prelude.{[], ◌∷◌, ◌++◌, length, replicate, Option, Some, None, slice_set}
 use Rattle.std.specs.Prelude.{slice_index_or}
@@ -58,7 +58,7 @@ widened width f =
       fixed = f.fixed ++ replicate more None;
     }
 
--- so many times the cost, and nothing beside it
+-- `scale` times the cost, and nothing added
 abbrev pub restarted : ℕ → CostForm → CostForm
 restarted scale f = record f { scale = scale; rest = zero_below (width_of f) }
 

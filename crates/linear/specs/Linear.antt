@@ -12,21 +12,21 @@ pub record Linear : Type 0 where
 abbrev pub coefficient : Linear → ℕ → ℤ
 coefficient f v = slice_index_or f.coefficients v (pos 0)
 
--- with so much more
+-- with w more
 abbrev pub plus_constant : ℤ → Linear → Linear
 plus_constant w f = record f { constant = f.constant +ℤ w }
 
--- with so much more at a variable
+-- with w more at a variable
 abbrev pub plus_at : ℤ → ℕ → Linear → Linear
 plus_at w v f = record f { coefficients = slice_set f.coefficients v (coefficient f v +ℤ w) }
 
--- with so many times a literal: x, or 1 - x for the negation of x
+-- with w times a literal: x, or 1 - x for the negation of x
 abbrev pub plus_literal : ℤ → Literal → Linear → Linear
 plus_literal w l f =
     if l.negated then plus_at (pos 0 -ℤ w) l.variable (plus_constant w f)
     else plus_at w l.variable f
 
--- with so many times each literal
+-- with w times each literal
 abbrev pub plus_literals : ℤ → List Literal → Linear → Linear
 plus_literals w [] f = f
 plus_literals w (l ∷ ls) f = plus_literals w ls (plus_literal w l f)

@@ -1,4 +1,4 @@
-// So many times the cost, with something beside it that changes, and its least value.
+// A multiple of the cost, plus something that changes, and its least value.
 ghost use Rattle.std.specs.Prelude.{◌≡◌, ◌+◌, ◌*◌, ◌<◌, ◌≤◌, ◌^◌, pos, false, [], length};
 ghost use Rattle.std.specs.Prelude.{◌+ℤ◌, ◌*ℤ◌, None, slice_index_or};
 ghost use Rattle.std.specs.Prelude.{IfOk, MatchResult, All};
@@ -17,8 +17,8 @@ use cnf::types::Lit;
 use std::alloc::{AllocError, Global};
 use std::marker::Model;
 
-/// So many times what a solution costs, and a linear function beside it, over variables of which
-/// some have a value.
+/// A multiple of what a solution costs, plus a linear function, over variables of which some have a
+/// value.
 ///
 /// Its least value is at hand, and so is that of the cost alone: to begin anew takes constant time.
 #[derive(Drop)]
@@ -83,8 +83,8 @@ impl CostBound {
         self.scale
     }
 
-    /// What a variable adds that is true: so many times its coefficient of the cost, with the one
-    /// beside it. Where the variable has no place it is 0.
+    /// What a variable adds that is true: its coefficient of the cost times the scale, plus that of
+    /// the rest. Where the variable has no place it is 0.
     pub fn coefficient(&self, variable: usize) -> i128
         ensures { result ≡ (pos self.now.form.scale *ℤ coefficient self.now.form.cost variable)
             +ℤ coefficient self.now.form.rest variable }
@@ -147,7 +147,7 @@ impl CostBound {
         total
     }
 
-    /// What a literal costs that is true: so much more.
+    /// A literal costs `weight` more where it is true.
     pub fn add_weight(&mut self, lit: Lit, weight: u64)
         requires variable { lit.variable < width_of self.old.form }
         requires small { self.old.weights + weight < 2 ^ 62 }
@@ -172,7 +172,7 @@ impl CostBound {
         self.terms[variable] = new;
     }
 
-    /// Takes the cost so many times, with nothing beside it. It takes constant time, but for one
+    /// Takes the cost `scale` times, with nothing added. It takes constant time, except for one
     /// call in 2^32.
     pub fn restart(&mut self, scale: u64)
         requires { scale < 2 ^ 62 }
@@ -200,7 +200,7 @@ impl CostBound {
         self.mass += weight.unsigned_abs();
     }
 
-    /// Adds so many times each literal beside the cost.
+    /// Adds `weight` times each literal, in addition to the cost.
     pub fn add_literals(&mut self, lits: &[Lit], weight: i128)
         requires variables { All (λ l. l.variable < width_of self.old.form) lits.now }
         requires room { self.old.mass + 2 * unsigned_abs weight * length lits.now ≤ 2 ^ 120 }
@@ -214,7 +214,7 @@ impl CostBound {
         }
     }
 
-    /// Adds so many times a literal beside the cost.
+    /// Adds `weight` times a literal, in addition to the cost.
     fn add_literal(&mut self, lit: Lit, weight: i128)
         requires variable { lit.variable < width_of self.old.form }
         requires room { self.old.mass + 2 * unsigned_abs weight ≤ 2 ^ 120 }
@@ -231,7 +231,7 @@ impl CostBound {
         }
     }
 
-    /// Adds so many times a variable beside the cost.
+    /// Adds `weight` times a variable, in addition to the cost.
     fn add_at(&mut self, variable: usize, weight: i128)
         requires variable { variable < width_of self.old.form }
         requires room { self.old.mass + unsigned_abs weight ≤ 2 ^ 120 }

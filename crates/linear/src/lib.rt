@@ -1,5 +1,5 @@
-//! Linear functions of variables that are 0 or 1: so many times what a solution costs, and
-//! something beside it, with the least value at hand.
+//! Linear functions of variables that are 0 or 1: a multiple of what a solution costs, plus
+//! something else, with the least value at hand.
 #![tactic(auto)]
 
 pub mod bounds;

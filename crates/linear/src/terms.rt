@@ -35,7 +35,7 @@ pub fn rest_at(term: &Term, present: u32) -> i128
     if term.stamp == present { term.rest } else { 0 }
 }
 
-/// The coefficient of so many times the cost, with what stands beside it.
+/// The coefficient of `scale` times the cost, with `rest` added.
 pub fn coefficient(scale: u64, cost: i64, rest: i128) -> i128
     requires { AreSmall scale cost rest }
     ensures value { result ≡ (pos scale *ℤ cost) +ℤ rest }
@@ -75,7 +75,7 @@ pub fn moved(sum: i128, old: i128, new: i128) -> i128
     sum - old + new
 }
 
-/// A sum with so much more.
+/// A sum with `by` added.
 pub fn raised(sum: i128, by: i128) -> i128
     requires sum { unsigned_abs sum < 2 ^ 126 }
     requires by { unsigned_abs by < 2 ^ 126 }
@@ -85,7 +85,7 @@ pub fn raised(sum: i128, by: i128) -> i128
     sum + by
 }
 
-/// The least that a variable gives: so many times its coefficient of the cost, with one beside it.
+/// The least that a variable gives: `scale` times its coefficient of the cost, plus `rest`.
 pub fn least_at(scale: u64, term: &Term, rest: i128) -> i128
     requires { AreSmall scale term.now.cost rest }
     ensures value { result ≡ least_term ((pos scale *ℤ term.now.cost) +ℤ rest) term.now.value }
@@ -94,7 +94,7 @@ pub fn least_at(scale: u64, term: &Term, rest: i128) -> i128
     least_of(coefficient(scale, term.cost, rest), term.value)
 }
 
-/// The coefficient of the cost with so much more.
+/// The coefficient of the cost with `weight` added.
 pub fn raised_cost(cost: i64, weight: i64) -> i64
     requires cost { unsigned_abs cost < 2 ^ 62 }
     requires weight { unsigned_abs weight < 2 ^ 62 }
@@ -150,7 +150,7 @@ fn take_stamps(terms: &mut [Term])
     }
 }
 
-/// So many times a least cost.
+/// `scale` times a least cost.
 pub fn scaled(scale: u64, least: i128) -> i128
     requires scale { scale < 2 ^ 62 }
     requires least { unsigned_abs least < 2 ^ 63 }

@@ -3,9 +3,9 @@
 /// How long a relaxation is solved.
 #[derive(Clone, Copy, Drop)]
 pub struct Limits {
-    /// At most so many iterations.
+    /// The most iterations that are made.
     pub most: u32,
-    /// It is given up after no fewer.
+    /// The fewest iterations after which it is given up.
     pub least: u32,
     /// A bound above this is enough.
     pub target: f64,
@@ -20,8 +20,8 @@ pub struct Relaxed {
     pub bound: f64,
     /// About what the optimum of the relaxation is at most; 1e300 where nothing is known.
     pub estimate: f64,
-    /// So many iterations were made.
+    /// How many iterations were made.
     pub iterations: u32,
-    /// So many coefficients were visited.
+    /// How many coefficients were visited.
     pub visited: u64,
 }

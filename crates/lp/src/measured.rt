@@ -25,7 +25,7 @@ impl Measured {
         }
     }
 
-    /// With one more row, of this bound, which lacks so much, and has this multiplier.
+    /// With one more row, which has this bound, lack and multiplier.
     #[inline]
     pub(crate) fn add_row(&mut self, bound: f64, lack: f64, multiplier: f64) {
         self.bound += bound * multiplier;

@@ -53,7 +53,7 @@ pub(crate) struct Open {
     pub(crate) rows: Vec<OpenRow>,
     // The coefficients of all rows, row after row.
     pub(crate) places: Vec<u32>,
-    // So many of them are those of `rows`; what follows is a row that is being made.
+    // How many of them are those of `rows`; what follows is a row that is being made.
     done: usize,
     // By variable, the place of the coefficient 1; only those of open variables count.
     found: Vec<u32>,

@@ -68,7 +68,7 @@ impl Point {
         Ok(())
     }
 
-    /// There is room for so many variables, from 0, and rows.
+    /// There is room for `variables` variables, from 0, and `rows` rows.
     pub(crate) fn widen(&mut self, variables: usize, rows: usize) -> Result<(), AllocError> {
         if self.values.len() < variables {
             self.values.resize(variables, MIDDLE)?;

@@ -34,7 +34,7 @@ use crate::values::Values;
 use crate::work::Work;
 use std::alloc::{AllocError, Global};
 
-/// So many iterations lie between two looks at the bound: a look costs as much as an iteration.
+/// The iterations between two looks at the bound: a look costs as much as an iteration.
 const LOOK: u32 = 10;
 
 /// The relaxation of what some values leave open.

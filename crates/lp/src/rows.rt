@@ -11,7 +11,7 @@ pub(crate) struct RowHead {
     start: u32,
     // The number of its literals.
     length: u32,
-    // So many of them are true, or more.
+    // How many of them are true, at least.
     pub(crate) needed: u32,
     // Whether it takes part in no relaxation now.
     pub(crate) is_asleep: bool,
@@ -19,8 +19,8 @@ pub(crate) struct RowHead {
     maker: u64,
 }
 
-/// Rows, each of which says that at least so many of its literals are true, and the cost: a number
-/// for each variable that is true, and a constant. A clause is a row that needs one; a literal that
+/// Rows, each of which says how many of its literals are true at least, and the cost: a number for
+/// each variable that is true, and a constant. A clause is a row that needs one; a literal that
 /// stands twice counts twice.
 #[derive(Drop)]
 pub struct Rows {
@@ -78,7 +78,7 @@ impl Rows {
         Ok(number)
     }
 
-    /// The literal costs so much where it is true, beside what it costs already.
+    /// The literal costs `weight` more where it is true.
     ///
     /// # Errors
     ///

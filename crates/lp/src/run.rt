@@ -11,13 +11,13 @@ const UNKNOWN: f64 = 1e300;
 /// The scale stays within this factor of the balance of costs and bounds.
 const RANGE: f64 = 1e3;
 
-/// It restarts once the error is this part of that of the last restart,
+/// It restarts once the error is this part of that of the last restart.
 const FAST: f64 = 0.2;
 
-/// or this part, and grows again,
+/// It restarts once the error is this part of that of the last restart, and grows again.
 const SLOW: f64 = 0.8;
 
-/// or once this part of all iterations was made since.
+/// It restarts once this part of all iterations was made since the last restart.
 const LONG: f64 = 0.36;
 
 /// It has converged where the error is this part of the bound.
@@ -48,7 +48,7 @@ pub(crate) struct Run {
     restart_error: f64,
     // The error when it was measured last, since then.
     last_error: f64,
-    // So many coefficients were visited.
+    // How many coefficients were visited.
     pub(crate) visited: u64,
 }
 
@@ -89,14 +89,14 @@ impl Run {
         }
     }
 
-    /// A step was made over so many coefficients.
+    /// A step was made over `coefficients` coefficients.
     pub(crate) fn stepped(&mut self, coefficients: u64) {
         self.iterations = self.iterations.saturating_add(1);
         self.since = self.since.saturating_add(1);
         self.visit(coefficients);
     }
 
-    /// So many coefficients were visited.
+    /// `coefficients` coefficients were visited.
     pub(crate) fn visit(&mut self, coefficients: u64) {
         self.visited = self.visited.saturating_add(coefficients);
     }

@@ -56,7 +56,7 @@ impl Column {
         trial: 0.0,
     };
 
-    /// A step, where rows pull so much: answers what they see of it.
+    /// A step, where rows pull by `pull`: answers what they see of it.
     #[inline]
     fn advance(&mut self, pull: f64, pace: &Pace) -> f64 {
         let target = self.now - self.step * pace.inverse * (self.cost - pull);
@@ -92,7 +92,7 @@ impl Row {
         best: 0.0,
     };
 
-    /// A step of a row that lacks so much: answers where its multiplier is.
+    /// A step of a row that lacks `lack`: answers where its multiplier is.
     #[inline]
     fn advance(&mut self, lack: f64, pace: &Pace) -> f64 {
         self.trial = from_zero(self.now + self.step * pace.scale * lack);
@@ -177,7 +177,7 @@ pub(crate) fn measure_rows(left: &Open, rows: &[Row], seen: &[f64], pull: &mut [
     measured
 }
 
-/// The least that columns add to the cost, where they are pulled so much.
+/// The least that columns add to the cost, where rows pull them by `pull`.
 pub(crate) fn measure_columns(columns: &[Column], pull: &[f64], measured: &mut Measured)
     requires { 2 * length columns.now ≤ length pull.now }
 {

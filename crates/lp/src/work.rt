@@ -47,7 +47,7 @@ impl Work {
         self.rows.clear();
     }
 
-    /// For so many columns and rows, whose numbers are those of nothing.
+    /// For `columns` columns and `rows` rows, whose numbers are those of nothing.
     pub(crate) fn fit(&mut self, columns: usize, rows: usize) -> Result<(), AllocError>
         ensures columns { OnOk result (vec_len self.new.columns ≡ columns) }
         ensures rows { OnOk result (vec_len self.new.rows ≡ rows) }

@@ -16,7 +16,7 @@ feeds (b ∷ bs) = (if b == 10 then 1 else 0) + feeds bs
 abbrev pub Settles : (List ℕ → Verdict) → List ℕ → Type 0
 Settles verdict bytes = (v : Verdict) × ((more : List ℕ) → verdict (bytes ++ more) ≡ v)
 
--- the bytes go at most so many lines on behind some that leave the verdict open
+-- the bytes go at most `most` lines on behind some that leave the verdict open
 pub record GoesOnFor (most : ℕ) (verdict : List ℕ → Verdict) (bytes : List ℕ) : Type 0 where
   pub done : List ℕ
   pub over : List ℕ

@@ -34,7 +34,7 @@ use Rattle.lrat_cuts.proofs.LawResults.{err_ok, ok_same}
 use Rattle.lrat_cuts.proofs.LawCounts.{greatest_below, item_more, same_count}
 use Rattle.lrat_cuts.proofs.LawMore.{all_here, all_place, all_set, all_back}
 
--- so many times less
+-- less w times a number
 pub times_less : (w n : ℕ) → (pos 0 -ℤ pos w) *ℤ pos n ≡ pos 0 -ℤ pos (w * n)
 times_less zero n =
     let z = zero-mul n in

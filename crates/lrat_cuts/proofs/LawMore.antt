@@ -67,7 +67,7 @@ pub count_push : (t : Assignment) (c : List Literal) (l : Literal)
 count_push t [] l = omega arith
 count_push t (m ∷ c) l = omega (arith, count_push t c l)
 
--- so many times the difference, with one more output
+-- m times the difference, with one more output
 less_slack : (m a b o : ℕ) → b + o ≤ a → m * (a - (b + o)) + m * o ≡ m * (a - b)
 less_slack m a b o le =
     let e : (a - (b + o)) + o ≡ a - b = omega (arith, le) in

@@ -83,7 +83,7 @@ fn cause_of(fault: LineFault) -> Cause
     }
 }
 
-/// What a cut is taken for that is worth so much under a form of this scale. Where it has to hold
+/// What a cut is taken for that is worth `worth` under a form of this scale. Where it has to hold
 /// for a cost, it has to be worth that.
 fn taken_worth(cost: Option<u64>, scale: u64, worth: Option<u64>) -> Option<u64>
     ensures { result ≡ taken_worth cost scale worth }
@@ -274,7 +274,7 @@ impl CutsBase {
 }
 
 impl CutsBase {
-    /// A count over the literals with so many outputs, whose clauses are in `made` then. Answers
+    /// A count over the literals with `outputs` outputs, whose clauses are in `made` then. Answers
     /// the fault of the line, if it has one.
     pub(crate) fn count(
         &mut self,

@@ -29,7 +29,7 @@ spans_from start [] = []
 spans_from start (c ∷ cs) =
     record { start = start; length = length c } ∷ spans_from (start + length c) cs
 
--- the live ones lie within so many literals
+-- the live ones lie within the first `most` literals
 abbrev pub AreWithin : List LiveSpan → ℕ → Type 0
 AreWithin ss most = (p : ℕ) (d : LiveSpan) → p < length ss → is_live (get_or ss p d) ≡ true
     → (get_or ss p d).start + (get_or ss p d).length ≤ most
@@ -57,7 +57,7 @@ pub record NearParts : Type 0 where
 abbrev pub all_of : NearParts → List (ℕ × List Literal) → List (ℕ × List Literal)
 all_of near far = near.given ++ (far ++ near.recent)
 
--- the id of a place: the formula has so many clauses, and so many ids are passed over after them
+-- the id of a place: the formula has `given` clauses, and `gap` ids are passed over after them
 abbrev pub id_at : ℕ → ℕ → ℕ → ℕ
 id_at given gap place = if nat_le place given then place else place + gap
 

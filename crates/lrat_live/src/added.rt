@@ -22,7 +22,7 @@ use std::marker::Model;
 /// An entry takes as much memory as six literals.
 const ENTRY: usize = 6;
 
-/// So much garbage, in literals, is left where it is.
+/// Garbage of no more literals than this is left where it is.
 const LITTLE: usize = 4096;
 
 /// The live ones of the added clauses that are recent no longer, with their ids.

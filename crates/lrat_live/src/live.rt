@@ -232,8 +232,8 @@ impl LiveClauses {
         Ok(self.take_all(lit, total, ids))
     }
 
-    /// Whether the ids rise and their clauses have the literal so often together, each at least
-    /// once.
+    /// Whether the ids rise and their clauses have the literal `total` times together, each at
+    /// least once.
     fn take_all(&self, lit: Lit, total: usize, ids: &[u64]) -> bool
         ensures { result ≡ take_all (times_at lit self.now) total 0 ids.now }
     {

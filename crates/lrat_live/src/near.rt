@@ -37,7 +37,7 @@ pub(crate) struct Near {
     given: u64,
     /// How many literals they have.
     given_lits: usize,
-    /// So many ids after the formula's have no span; the id after them is that of the first recent
+    /// How many ids after the formula's have no span; the id after them is that of the first recent
     /// span.
     gap: u64,
     /// How many recent clauses are live; more than that only after a refusal of memory.

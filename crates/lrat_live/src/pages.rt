@@ -10,7 +10,7 @@ ghost use Rattle.lrat_live.specs.declared.pages.TheConstants.{PAGE};
 use std::alloc::{AllocError, Global};
 use std::marker::Model;
 
-/// So many literals have their counts in one page.
+/// How many literals have their counts in one page.
 const PAGE: usize = 4096;
 
 /// A count for each place, 0 at first.

@@ -27,7 +27,7 @@ pub(crate) struct LiveSpan {
 /// The start of a clause that is not live; no literal has this place.
 pub(crate) const DEAD: u32 = 4_294_967_295;
 
-/// There are at most so many literals, and entries, so that each place is below `DEAD`.
+/// The most literals, and the most entries, that are kept, so that each place is below `DEAD`.
 pub(crate) const MOST_KEPT: usize = 4_294_967_294;
 
 /// The span of no clause.

@@ -11,10 +11,10 @@ use crate::spans::{DEAD, LiveSpan, is_live, literals_at, nowhere};
 use cnf::types::Lit;
 use std::alloc::AllocError;
 
-/// At most so many ids are skipped, each with a span of no clause.
+/// The most ids that are skipped, each with a span of no clause.
 const PASSED: u64 = 16;
 
-/// A window of so many spans may be empty.
+/// A window of up to this many spans may be empty.
 const EMPTY_WINDOW: usize = 65_536;
 
 /// The place of an id's span in a window that begins at `head` and with the id `first`, unless it

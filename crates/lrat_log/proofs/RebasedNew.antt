@@ -132,7 +132,7 @@ module _ (first others : List (List Literal)) (ws : WeakerList)
         (sym (leading_ids-names b moved ∙ leading_ids_moved (length first) (length ws) b hs))
         after)
 
-  -- line by line, after so many of the old log
+  -- line by line, after the lines `before` of the old log
   lines_new : (before ls : List LogLine) (left : Live)
       → AllByRecursion (LineKnown a is_added) (before ++ ls)
       → Chain (start_over before_move a) (numbered_lines a (before ++ ls)) left

@@ -23,7 +23,7 @@ pub record AddsAxiom (id : ℕ) (old : Live) (l : LogLine) (new : Live) : Type 0
   pub addable : IsAddable old id l.clause
   pub live : new ≡ with_clause old id l.clause
 
--- the line, where the log has so many additions before it, is a clause from outside or a step
+-- the line, where the log has `before` additions before it, is a clause from outside or a step
 abbrev pub IsOpenStep : ℕ → ℕ → Live → LogLine → Live → Type 0
 IsOpenStep base before old l new =
     AddsAxiom (base + before + 1) old l new ⊎ Step old (numbered_line base before l) new

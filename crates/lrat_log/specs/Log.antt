@@ -93,7 +93,7 @@ group_ids base (Plain n ∷ hs) = group_ids base hs
 group_ids base (Group n ∷ hs) =
     record { candidate = id_of base n; hints = leading_ids base hs } ∷ group_ids base hs
 
--- the line, where the log has so many additions before it
+-- the line, where the log has `before` additions before it
 abbrev pub numbered_line : ℕ → ℕ → LogLine → ProofLine
 numbered_line base before l =
     if is_delete l.kind then Deletion (base + before) (map (λ h. id_of base (name_of h)) l.hints)

@@ -19,7 +19,7 @@ use std::marker::Model;
 /// A word of four bytes holds what is below this.
 const WORD: u64 = 1 << 32;
 
-/// So many lines have one base.
+/// How many lines have one base.
 const BLOCK: usize = 32;
 
 /// In a near word, literals are counted by this.

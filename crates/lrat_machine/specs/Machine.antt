@@ -21,7 +21,7 @@ pub record MachineState : Type 0 where
   -- how many lines there were
   pub lines : ℕ
 
--- what so many lines left
+-- what `lines` lines left
 abbrev pub state_with : ClauseBase → ℕ → MachineState
 state_with base lines = record {
   clauses = base.live;
@@ -30,7 +30,7 @@ state_with base lines = record {
   lines = lines;
 }
 
--- the same with so many lines more, of which none has a token
+-- the same with n lines more, of which none has a token
 abbrev pub after_lines : MachineState → ℕ → MachineState
 after_lines s n = record {
   clauses = s.clauses;
@@ -53,8 +53,8 @@ StepsTo old ts fault new =
     → MatchOption fault (verdict_after old (ts ∷ more) ≡ verdict_after new more)
     (λ cause. verdict_after old (ts ∷ more) ≡ No cause (old.lines + 1))
 
--- what came of applying a line of this form: from one base, after so many lines, it leads on to the
--- other, or the certificate fails at it; where memory was refused, the base is as before
+-- what came of applying a line of this form: from one base, after `before` lines, it leads on to
+-- the other, or the certificate fails at it; where memory was refused, the base is as before
 abbrev pub IsApplied : Form → LineState → ClauseBase → ℕ → ClauseBase → ℕ
     → Result (Option Cause) AllocError → Type 0
 IsApplied form line old before new after (Ok fault) =

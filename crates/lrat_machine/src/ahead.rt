@@ -9,7 +9,7 @@
 use lrat_live::live::LiveClauses;
 use lrat_read::batch::Batch;
 
-/// So many lines are read ahead together.
+/// How many lines are read ahead together.
 const LINES: usize = 16;
 
 /// With more clauses than these the caches do not hold what look-ups read.

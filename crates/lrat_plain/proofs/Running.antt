@@ -187,7 +187,7 @@ module _ (x y : Run) (piece left : List ℕ) (a b d e : Option (List ℕ))
       (fault_longer x (p.taken ++ text) rest fault
       (fault_further x y p.taken text a b d e fault p.runs h))
 
--- so much was read
+-- some bytes were read, and a run went on by them
 pub record HasRead (old new : Run) (had left a b d e : Option (List ℕ)) : Type 0 where
   pub bytes : List ℕ
   pub read : Consumes had left bytes

@@ -29,7 +29,7 @@ use Rattle.lrat_plain.proofs.Naming.{map_ids}
 use Rattle.lrat_plain.proofs.Stepping.{judged_next, lines_next, made_next}
 use Rattle.lrat_plain.proofs.Texts.{passed_as}
 
--- names that are over the same, after so many clauses more
+-- names that are over the same, after `count` clauses more
 abbrev AreOver : Names → Names → ℕ → Type 0
 AreOver old new count =
     (new.given ≡ old.given) × (new.all ≡ old.all) × (new.made ≡ old.made + count)

@@ -39,7 +39,7 @@ named id n = record n {
   places = insert_entry nat_cmp n.places id (n.given + n.made + 1);
 }
 
--- a line made so many clauses, under the ids that follow the last one
+-- a line made `count` clauses, under the ids that follow the last one
 abbrev pub named_all : ℕ → ℕ → Names → Names
 named_all last zero n = n
 named_all last (suc count) n = named_all (last + 1) count (named (last + 1) n)

@@ -56,7 +56,7 @@ FaultWithin machine kept had left fault =
     × ((more : List ℕ) → (IsAtEnd left → more ≡ [])
     → judged_after machine (token_lines (kept ++ (bytes ++ more))) ≡ Err (cause, n))
 
--- the lines of a text are right for a cost, and make so much
+-- the lines of a text are right for a cost, and make what has these sizes
 pub record AreSizes (s : Sizes) (cost : ℕ) (p : Problem) (had left : Option (List ℕ)) : Type 0 where
   pub bytes : List ℕ
   pub read : Consumes had left bytes

@@ -45,8 +45,7 @@ impl Model for Names {
 }
 
 impl Names {
-    /// Before the first line, for a formula of so many clauses, and so many with those that lines
-    /// make.
+    /// Before the first line, for a formula of `given` clauses, `all` with those that lines make.
     pub(crate) fn new(alloc: Global, given: u64, all: u64) -> Self
         requires within { given ≤ all }
         requires small { all ≤ NUMBER_LIMIT }
@@ -140,7 +139,7 @@ impl Names {
         let _ = &self.made;
     }
 
-    /// A line made so many clauses, under the ids that follow the last one. Answers the last id
+    /// A line made `count` clauses, under the ids that follow the last one. Answers the last id
     /// then.
     ///
     /// # Errors

@@ -37,9 +37,9 @@ pub(crate) struct Steps {
     pub(crate) names: Names,
     // The id of the last clause that came: at most 2^62, and one more for each that a line made.
     pub(crate) last: u64,
-    // What is not written yet of the formula,
+    // What is not written yet of the formula.
     pub(crate) formula: Block,
-    // and of the plain certificate.
+    // What is not written yet of the plain certificate.
     pub(crate) certificate: Block,
 }
 
@@ -55,8 +55,8 @@ fn lead(line: &[u8]) -> u64
 }
 
 impl Steps {
-    /// Before the first line, over a formula of so many clauses, and so many with those that lines
-    /// make. Cuts have to hold for the cost.
+    /// Before the first line, over a formula of `given` clauses, `all` with those that lines make.
+    /// Cuts have to hold for the cost.
     pub(crate) fn new(
         instance: &Instance,
         cost: u64,

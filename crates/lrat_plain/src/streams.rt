@@ -243,8 +243,8 @@ impl Run {
     }
 }
 
-/// A run before the first byte, over a formula of so many clauses, and so many with those that
-/// lines make.
+/// A run before the first byte, over a formula of `given` clauses, `all` with those that lines
+/// make.
 fn begin(claim: Claim<'_>, given: u64, all: u64) -> Result<Run, PlainFault>
     requires within { given ≤ all }
     requires small { all ≤ NUMBER_LIMIT }

@@ -11,8 +11,8 @@ use Rattle.lrat_read.specs.declared.words.Word.{Word}
 use Rattle.lrat_read.specs.declared.words.Word.TheVariants.{Count, More, Group, Form, Cut, Bound}
 use Rattle.lrat_read.specs.declared.words.WordAt.{WordAt}
 
--- so many times a fact: that of the clause with this id, or of the count or group with this number
--- where there is a dash
+-- a fact, and how many times it is taken: that of the clause with this id, or of the count or group
+-- with this number where there is a dash
 pub record NamedFact : Type 0 where
   pub weight : ℕ
   pub is_numbered : Bool

@@ -12,7 +12,7 @@ use std::alloc::{AllocError, Global};
 use std::marker::Model;
 use text::pieces::line_feed_at;
 
-/// At most so many literals, and so many hints, are held of lines that are read together.
+/// The most literals, and the most hints, that are held of lines that are read together.
 const ROOM: usize = 16_384;
 
 /// The lines that were read together, in buffers that are used again.
@@ -48,7 +48,7 @@ struct NextLine {
     end: usize,
 }
 
-/// Makes room for the numbers of a text of so many bytes, though not for more than `ROOM`.
+/// Makes room for the numbers of a text of `bytes` bytes, though not for more than `ROOM`.
 fn make_room(
     lits: &mut Vec<Lit>,
     hints: &mut Vec<SignedId>,
@@ -64,8 +64,8 @@ fn make_room(
     Ok(())
 }
 
-/// Whether each number of a line finds room in a buffer of which so much is used: a number takes
-/// two bytes at least.
+/// Whether each number of a line finds room in a buffer of which `used` places are used: a number
+/// takes two bytes at least.
 #[inline(always)]
 fn has_room(room: usize, used: usize, line: &[u8]) -> bool
     requires { used ≤ room }

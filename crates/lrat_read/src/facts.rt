@@ -8,8 +8,8 @@ use crate::types::SignedId;
 use std::alloc::AllocError;
 use std::marker::Model;
 
-/// So many times a fact: that of the clause with an id, or, with a dash, of the count or group with
-/// a number.
+/// A fact, and how many times it is taken: that of the clause with an id, or, with a dash, of the
+/// count or group with a number.
 #[derive(Clone, Copy, Drop)]
 pub struct WeightedFact {
     // How many times, from 1 to 2^62 - 1.

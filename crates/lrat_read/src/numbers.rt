@@ -11,7 +11,7 @@ ghost use Rattle.lrat_read.specs.Words.{ended_number};
 
 use cnf::limits::NUMBER_LIMIT;
 
-/// Any number of so many digits fits 64 bits, and one with more is too large for an id.
+/// Any number of up to this many digits fits 64 bits, and one with more is too large for an id.
 const MOST_DIGITS: usize = 19;
 
 /// What stands in a line from a place on.

@@ -38,7 +38,7 @@ pub record IsWatch (e : EngineState) (c : List Literal) (w : Literal) : Type 0 w
   pub covered : IsCovered (literals_of e.trail) e.watches.qhead c w
   pub stays : StaysCovered e.trail e.watches.stable_qhead c w
 
--- a clause over so many variables
+-- a clause over `variables` variables
 abbrev pub IsWithin : ℕ → List Literal → Type 0
 IsWithin variables c = All (λ l. 0 < l.variable) c × (greatest_variable c ≤ variables)
 

@@ -62,7 +62,7 @@ SetsAttached old new r attached = (is_attached new r ≡ attached)
 abbrev pub SameFrame : EngineState → EngineState → Type 0
 SameFrame old new = (new.variables ≡ old.variables) × (new.failed ≡ old.failed)
 
--- over so many variables, with nothing true, and it has not failed
+-- over `variables` variables, with nothing true, and it has not failed
 abbrev pub IsBare : ℕ → EngineState → Type 0
 IsBare variables e = (e.variables ≡ variables) × (e.trail ≡ []) × (e.failed ≡ false)
 

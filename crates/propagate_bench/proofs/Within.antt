@@ -1,4 +1,4 @@
--- Clauses over so many variables, and stores that grow.
+-- Clauses over a number of variables, and stores that grow.
 use Rattle.std.proofs.Common.{ℕ, ◌<◌, ◌≤◌, List, [], ◌∷◌, arith}
 use Rattle.std.specs.List.{AllByRecursion}
 use Rattle.std.proofs.lemmas.List.Elements.{All-from_recursion}

@@ -15,7 +15,7 @@ use std::process::ExitCode;
 use std::rt::{Env, Files};
 use std::{env, fs};
 
-/// Reads the formula of a file and plays so many rounds on it.
+/// Reads the formula of a file and plays `rounds` rounds on it.
 fn measure<R: Files + AllocGlobal>(
     rt: &R,
     path: &str,

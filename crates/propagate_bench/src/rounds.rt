@@ -40,7 +40,7 @@ impl Signs {
     }
 }
 
-/// Plays so many rounds.
+/// Plays `rounds` rounds.
 pub(crate) fn play_rounds(
     engine: &mut Engine,
     store: &Store,
@@ -115,7 +115,7 @@ fn play(
     Ok(())
 }
 
-/// The place so many steps on, where the places go round.
+/// The place `step` steps on, where the places go round.
 fn next_place(at: u32, step: u32, places: u32) -> u32
     requires at { at < places }
     requires step { step < places }

@@ -14,7 +14,7 @@ pub record TrailState : Type 0 where
   pub variables : ℕ
   pub assigned : List Assigned
 
--- a literal of one of so many variables, which are numbered from 1
+-- a literal of one of `variables` variables, which are numbered from 1
 abbrev pub IsVariable : ℕ → Literal → Type 0
 IsVariable variables l = (0 < l.variable) × (l.variable ≤ variables)
 

@@ -63,7 +63,7 @@ fn rename_vardata(vardata: &mut [VarData], moves: &Moves)
 }
 
 impl VarTable {
-    /// So many variables, without levels.
+    /// `count` variables, without levels.
     ///
     /// # Errors
     ///

@@ -99,7 +99,7 @@ attachments_set_pair (x ∷ ks) (y ∷ ps) zero p a b e = let h = pair_here x y 
 attachments_set_pair (x ∷ ks) (y ∷ ps) (suc r) p a b e =
     ap (λ zs. attachment_of x y ∷ zs) (attachments_set_pair ks ps r p a b e)
 
--- both lists grow by so many
+-- both lists grow by n
 pub attachments_grow : (ks : List Tag) (ps : List Pair) (n : ℕ) (k : Tag) (p : Pair)
     → length ps ≡ length ks → attachments (ks ++ replicate n k) (ps ++ replicate n p)
     ≡ attachments ks ps ++ replicate n (attachment_of k p)

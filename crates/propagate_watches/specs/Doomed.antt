@@ -21,7 +21,7 @@ pub record IsSpared (doomed : List Bool) (old new : List Attachment) : Type 0 wh
   pub gone : (r : ℕ) → is_doomed doomed r ≡ true → attachment_in new r ≡ Detached
   pub stays : (r : ℕ) → is_doomed doomed r ≡ false → attachment_in new r ≡ attachment_in old r
 
--- the same of so many references, and the others as they were
+-- the same of the references below `at`, and the others as they were
 pub record IsSparing (doomed : List Bool) (old new : List Attachment) (at : ℕ) : Type 0 where
   pub long : length new ≡ length old
   pub gone : (r : ℕ) → r < at → is_doomed doomed r ≡ true → attachment_in new r ≡ Detached

@@ -19,7 +19,7 @@ pub record IsMoved (old new : List Attachment) (moves : Renaming) : Type 0 where
   pub from : (q : ℕ) → is_kept (attachment_in new q) ≡ true → (i : ℕ) × (i < length moves)
       × (new_at moves i ≡ q)
 
--- so many references have what goes there, by so many moves
+-- the references below `at` have what goes there, by the first `next` moves
 pub record IsMoving (old new : List Attachment) (moves : Renaming) (at next : ℕ) : Type 0 where
   pub later : (j : ℕ) → at ≤ j → attachment_in new j ≡ attachment_in old j
   pub to : (i : ℕ) → i < next → attachment_in new (new_at moves i)

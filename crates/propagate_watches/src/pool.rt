@@ -47,7 +47,7 @@ impl Model for WatchPool {
 }
 
 impl WatchPool {
-    /// So many empty rows.
+    /// `rows` empty rows.
     ///
     /// # Errors
     ///
@@ -199,8 +199,8 @@ impl WatchPool {
         }
     }
 
-    /// Gives each row room for so many entries, where it has no more, all side by side: rows that
-    /// grow one by one leave their old places empty.
+    /// Gives each row room for as many entries as `rooms` says, where it has no more, all side by
+    /// side: rows that grow one by one leave their old places empty.
     ///
     /// # Errors
     ///

@@ -1,4 +1,4 @@
-//! Measures the linear relaxation: solves that of an instance so many times from nothing, and
+//! Measures the linear relaxation: solves that of an instance a number of times from nothing, and
 //! prints what came of it.
 #![tactic(auto)]
 
@@ -21,7 +21,7 @@ use wcnf::reading::read;
 /// A bound that no relaxation comes to.
 const NEVER: f64 = 1e300;
 
-/// Solves the relaxation so many times from nothing, with at most `most` iterations each time.
+/// Solves the relaxation `rounds` times from nothing, with at most `most` iterations each time.
 fn solve(alloc: Global, rows: &Rows, most: u32, rounds: u32) -> Result<Relaxed, BenchFault> {
     let limits = Limits {
         most,

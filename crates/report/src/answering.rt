@@ -54,7 +54,7 @@ pub fn write_answer<O: Write, P: Write>(
     }
 }
 
-/// Writes the log as a certificate whose formula has so many clauses, and flushes.
+/// Writes the log as a certificate whose formula has `clauses` clauses, and flushes.
 fn deliver_proof<P: Write>(log: &Log, clauses: u64, proof: &mut P) -> Result<(), RunFault>
     requires few { clauses < CLAUSE_LIMIT }
     requires ids { clauses + length log.now < NUMBER_LIMIT → HasSmallIds clauses log.now }

@@ -40,13 +40,13 @@ use std::alloc::{AllocError, Global};
 use std::io::{Read, Write};
 use wcnf::reading::read_from;
 
-/// There are at most so many variables to count with.
+/// The most variables to count with.
 const MOST_COUNT_ROOM: usize = 1 << 20;
 
-/// Beside two thousand, there are so many for each soft clause of a small instance,
+/// The variables to count with for each soft clause of a small instance, beyond two thousand.
 const ROOM_EACH_FEW: usize = 8;
 
-/// and beside ten thousand so many for each one of a large instance.
+/// The variables to count with for each soft clause of a large instance, beyond ten thousand.
 const ROOM_EACH_MANY: usize = 2;
 
 /// What a run by forms and cuts leaves.

@@ -31,7 +31,7 @@ tells_tenth n b [] h = omega (arith, h)
 tells_tenth n b (r ∷ rs) h =
     ((λ l. h.0.0 (omega arith), λ l. h.0.1 (omega arith)), tells_tenth n (10 * b) rs h.1)
 
--- so many are the digits
+-- as many are told as there are digits
 all_told : (n : ℕ) (rs : List ℕ) → n < 2 ^ 27 → TellsFrom n 10 rs
     → told rs ≡ length (decimal n)
 all_told n [] small h = omega (arith, length_one n h)

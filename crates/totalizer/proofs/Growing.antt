@@ -1,4 +1,4 @@
--- Trees that have so many stages get one more.
+-- Trees that have any number of stages get one more.
 use Rattle.std.proofs.Common.{◌≡◌, ℕ, zero, suc, ◌+◌, ◌-◌, ◌/◌, ◌<◌, ◌≤◌, min, Bool, true, false}
 use Rattle.std.proofs.Common.{List, [], ◌∷◌, length, take, drop, refl, arith}
 use Rattle.std.proofs.Common.{nat_le, length-append, subst}
@@ -87,7 +87,7 @@ stage_has h v (Node a b own) has =
         let few = leb-false (h + 1) (size_of a + size_of b) e in
         rw e (few_enough h (h + 1) (Node a b own) (omega arith) (omega arith) has)
 
--- so many more stages
+-- `count` more stages
 pub stages_has : (count h v : ℕ) (t : Tree) → HasStages h t
     → HasStages (h + count) (stages count (h + 1) v t).tree
 stages_has zero h v t has = subst (λ k. HasStages k t) (omega arith) has
@@ -156,7 +156,7 @@ stage_worth h v (Node a b own) has =
         rw e (omega arith)
     by false e p q = rw e (omega arith)
 
--- so many more stages
+-- `count` more stages
 pub stages_worth : (count h v : ℕ) (t : Tree) → HasStages h t
     → (stages count (h + 1) v t).fresh ≤ v + length (stages count (h + 1) v t).clauses
 stages_worth zero h v t has = omega arith
@@ -170,7 +170,7 @@ stages_worth (suc count) h v t has =
       length-append first.clauses more.clauses,
     )
 
--- so many stages of a tree without any
+-- `count` stages of a tree without any
 pub totalizer_has : (count v : ℕ) (xs : List Literal)
     → HasStages count (totalizer_of count v xs).tree
 totalizer_has count v xs =

@@ -17,7 +17,7 @@ use Rattle.totalizer.proofs.Staging.{right_stage}
 use Rattle.totalizer.proofs.Growing.{stage_has, bare_has}
 use Rattle.totalizer.proofs.Unary.{outputs_unary, unary_front, unary_last}
 
--- what is listed unless there are so many is true where there are not
+-- what is listed unless there are i is true where there are fewer
 module _ (t : Assignment) (xs : List Literal) (n : ℕ) (unary : AreUnary t xs n) where
   unless_true : (i : ℕ) (p : List Literal) → unless_at_least xs i ≡ Some p → n < i
       → clause_value t p ≡ true
@@ -35,7 +35,7 @@ module _ (t : Assignment) (xs : List Literal) (n : ℕ) (unary : AreUnary t xs n
           let value = negation-value t l (unary i l g ∙ off) in
           subst (λ c. clause_value t c ≡ true) same (rw value refl)
 
--- the clauses of a sum, where a new variable means that there are so many leaves together
+-- the clauses of a sum, where a new variable means that there are i + j leaves together
 module _ (t : Assignment) (left right : List Literal) (v n m : ℕ) (in_left : AreUnary t left n)
     (in_right : AreUnary t right m) where
   sum_true : (i j : ℕ) → (i + j ≤ n + m → t v ≡ true)

@@ -7,7 +7,7 @@ use Rattle.std.proofs.lemmas.Option.{slice_get_past, slice_get_read}
 use Rattle.cnf.specs.Literal.{Literal, positive, negation}
 use Rattle.totalizer.specs.Stages.{sum_clause, sum_clauses}
 
--- the clauses for i, i + 1, .. on the left, so many of them
+-- the clauses for i, i + 1, .. on the left, as many as the last number says
 abbrev pub sums_left : List Literal → List Literal → ℕ → ℕ → ℕ → List (List Literal)
 sums_left left right v i zero = []
 sums_left left right v i (suc j) = sum_clauses left right v i j

@@ -7,7 +7,7 @@ use Rattle.cnf.specs.Literal.{Literal, Assignment, literal_value}
 use Rattle.cnf.specs.Clause.{has_repeat, is_tautology, AreBelow}
 use Rattle.totalizer.specs.Stages.{Tree, Leaf, Node, size_of, outputs_of, true_leaves}
 
--- each node has one output for each of so many stages, as long as it has the leaves
+-- each node has one output for each of the first h stages, as long as it has the leaves
 abbrev pub HasStages : ℕ → Tree → Type 0
 HasStages h (Leaf l) = Unit {0}
 HasStages h (Node a b outputs) =

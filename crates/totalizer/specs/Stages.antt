@@ -44,7 +44,7 @@ unless_at_least outputs (suc i) = by (slice_get outputs i)
     by None = None
     by (Some l) = Some (negation l ∷ [])
 
--- i leaves on the left and j on the right are so many together, as v says
+-- i leaves on the left and j on the right are i + j together, as v says
 abbrev pub sum_clause : List Literal → List Literal → ℕ → ℕ → ℕ → List (List Literal)
 sum_clause left right v i j = by (unless_at_least left i) (unless_at_least right j)
   where
@@ -90,7 +90,7 @@ stage h v (Node a b outputs) =
       fresh = r + 1;
     } else record { tree = Node a b outputs; clauses = []; fresh = v }
 
--- the stages h, h + 1, .., so many of them
+-- the stages h, h + 1, .., `count` of them
 abbrev pub stages : ℕ → ℕ → ℕ → Tree → Staged
 stages zero h v t = record { tree = t; clauses = []; fresh = v }
 stages (suc count) h v t =
@@ -102,7 +102,7 @@ stages (suc count) h v t =
       fresh = more.fresh;
     }
 
--- a totalizer of these literals with so many outputs; new variables from v on
+-- a totalizer of these literals with `count` outputs; new variables from v on
 abbrev pub totalizer_of : ℕ → ℕ → List Literal → Staged
 totalizer_of count v xs = stages count 1 v (tree_of xs)
 

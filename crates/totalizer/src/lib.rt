@@ -1,5 +1,5 @@
-//! Totalizers that grow by stages: counts of true literals, each output of which is a literal that
-//! is true where at least so many inputs are.
+//! Totalizers that grow by stages: counts of true literals, whose output number k is a literal that
+//! is true where at least k inputs are.
 #![tactic(auto)]
 
 mod stages;

@@ -12,8 +12,8 @@ use cnf::clause_list::ClauseList;
 use cnf::types::Lit;
 use std::alloc::AllocError;
 
-/// Gives each node that has so many inputs its next output, which is true where at least so many
-/// are; answers the next new variable. The clauses come behind those that are there.
+/// Gives each node with `at_least` inputs or more its next output, which is true where at least
+/// that many are; answers the next new variable. The clauses come behind those that are there.
 ///
 /// # Errors
 ///
@@ -56,7 +56,7 @@ pub(crate) fn add_outputs(
     Ok(fresh + 1)
 }
 
-/// How many clauses the next outputs take, where each node with so many inputs gets one.
+/// How many clauses the next outputs take, where each node with `at_least` inputs or more gets one.
 pub(crate) fn count_clauses(inputs: &[Lit], outputs: &[Vec<Lit>], at_least: usize) -> usize
     requires laid { IsLaid inputs.now outputs.now }
     requires room { length inputs.now * (at_least + 2) < 2 ^ 64 }
@@ -80,7 +80,7 @@ pub(crate) fn count_clauses(inputs: &[Lit], outputs: &[Vec<Lit>], at_least: usiz
     before + count_sums(left, right, at_least) + count_order(own)
 }
 
-/// How many outputs a node has once each node with so many inputs got its next one.
+/// How many outputs a node has once each node with `at_least` inputs or more got its next one.
 fn count_outputs(inputs: &[Lit], outputs: &[Vec<Lit>], at_least: usize) -> usize
     requires laid { IsLaid inputs.now outputs.now }
     ensures { (v : ℕ) → result
@@ -96,7 +96,7 @@ fn count_outputs(inputs: &[Lit], outputs: &[Vec<Lit>], at_least: usize) -> usize
     }
 }
 
-/// How many clauses `push_sums` pushes, for so many outputs on each side.
+/// How many clauses `push_sums` pushes, for `left` and `right` outputs on the two sides.
 fn count_sums(left: usize, right: usize, at_least: usize) -> usize
     requires { at_least + 1 < 2 ^ 64 }
     ensures { result ≡ min left at_least + 1 - (at_least - right) }
@@ -126,7 +126,7 @@ fn count_order(own: &[Lit]) -> usize
     }
 }
 
-/// The clauses by which so many inputs on both sides make the sum true.
+/// The clauses by which `at_least` inputs on both sides together make the sum true.
 fn push_sums(
     left: &[Lit],
     right: &[Lit],

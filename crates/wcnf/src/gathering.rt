@@ -20,7 +20,7 @@ use std::marker::Model;
 use text::pieces::Tokens;
 use text::words::{Word, read_word};
 
-/// A clause of at most so many literals has no marks.
+/// The most literals of a clause that has no marks.
 pub(crate) const UNMARKED_LENGTH: usize = 8;
 
 /// The clause that is being read, each literal once, and the greatest variable of the text so far.

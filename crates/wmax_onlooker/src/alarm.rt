@@ -14,7 +14,7 @@ pub struct Deadline {
 }
 
 impl Deadline {
-    /// A run begins now, and has so much time.
+    /// A run begins now, with this limit of time.
     pub fn start<R: Clock>(rt: &R, limit: Option<Duration>) -> Self {
         if limit.is_none() {
             return Deadline { begun: None, limit };

@@ -10,10 +10,10 @@ use std::io::Write;
 use std::rt::{Clock, Files};
 use std::time::{Duration, Instant};
 
-/// The clock is read after so many conflicts, and at each better solution.
+/// The conflicts after which the clock is read; it is at each better solution, too.
 const LOOK: u64 = 16;
 
-/// No line comes sooner after another than so many seconds, but at a better solution.
+/// The fewest seconds from one line to the next, except at a better solution.
 const PAUSE: u64 = 1;
 
 /// Where the system says what memory the process holds.

@@ -96,7 +96,7 @@ pub struct ResumedFile<F: Write + Seek + OpenFile> {
 }
 
 impl<F: Write + Seek + OpenFile> ResumedFile<F> {
-    /// Writes behind so many bytes of a file.
+    /// Writes behind the first `kept` bytes of a file.
     pub fn new(file: F, kept: u64) -> Self
         ensures file { result.file ≡ file }
         ensures kept { result.kept ≡ Some kept }

@@ -103,8 +103,8 @@ pub(super) fn word_start(line: &[u8], place: usize) -> usize {
     line.len()
 }
 
-/// The column of a word with so many bytes before it, and so many of its own; 0 where the line as
-/// it is shown has the whole word. No character before a faulty word takes more than one byte.
+/// The column of a word of `length` bytes with `start` bytes before it; 0 where the line as it is
+/// shown has the whole word. No character before a faulty word takes more than one byte.
 pub(super) fn hidden_column(start: usize, length: usize) -> usize {
     if start.saturating_add(length) <= MOST_SHOWN {
         0

@@ -14,7 +14,7 @@ use std::alloc::AllocError;
 use totalizer::totalizer::Totalizer;
 
 impl Forms {
-    /// A count of these literals with so many outputs, a totalizer whose clauses, and no others,
+    /// A count of these literals with `outputs` outputs, a totalizer whose clauses, and no others,
     /// are in `clauses` then. Answers why the line is refused, if it is: `Name` or `Limit`.
     ///
     /// # Errors
@@ -36,7 +36,7 @@ impl Forms {
         self.add_count(outputs as usize, inputs, clauses)
     }
 
-    /// A count of literals that are there, with so many outputs, and its clauses. Answers `Limit`
+    /// A count of literals that are there, with `outputs` outputs, and its clauses. Answers `Limit`
     /// where they are too many.
     fn add_count(
         &mut self,

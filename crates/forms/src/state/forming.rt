@@ -19,7 +19,7 @@ use cnf::types::Lit;
 use std::alloc::AllocError;
 
 impl Forms {
-    /// A form: so many times the cost in place of the present form, or that form itself where there
+    /// A form: `scale` times the cost in place of the present form, or that form itself where there
     /// is no scale, less these facts. Answers why the line is refused, if it is: `Name` or `Limit`.
     ///
     /// # Errors
@@ -71,7 +71,7 @@ impl Forms {
         }
     }
 
-    /// Begins a form, if there is a scale: so many times the cost.
+    /// Begins a form, if there is a scale: `scale` times the cost.
     fn begin_form(&mut self, scale: Option<u64>)
         requires { IfSome scale (λ d. d < NUMBER_LIMIT) }
         ensures { self.new ≡ begun scale self.old }
@@ -98,7 +98,7 @@ impl Forms {
         Ok(())
     }
 
-    /// Begins a form: so many times the cost.
+    /// Begins a form: `scale` times the cost.
     fn begin(&mut self, scale: u64)
         requires { scale < NUMBER_LIMIT }
         ensures { self.new ≡ begun (Some scale) self.old }

@@ -1,4 +1,4 @@
--- So many lines stand for the additions before this number.
+-- `lines` lines stand for the first `number` additions.
 use Rattle.std.proofs.Common.{◌≡◌, ◌≤◌, ◌*◌, length}
 use Rattle.lrat_log.specs.Steps.{AddsNoEmptyClause}
 use Rattle.cuts_log.specs.Starts.{added_at, lines_before}

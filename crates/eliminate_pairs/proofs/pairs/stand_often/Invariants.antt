@@ -1,4 +1,4 @@
--- So many clauses with the pair stand below the place.
+-- At least `count` clauses with the pair stand below the place.
 use Rattle.std.proofs.Common.{◌<◌, ◌≤◌, take}
 use Rattle.eliminate_pairs.specs.Pairs.{meetings}
 use Rattle.eliminate_pairs.proofs.pairs.stand_often.Given as goal

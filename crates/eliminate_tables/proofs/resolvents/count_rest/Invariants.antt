@@ -1,4 +1,4 @@
--- So many literals so far, none of which clashes.
+-- There are `count` literals so far, none of which clashes.
 use Rattle.std.proofs.Common.{◌≡◌, ◌≤◌, false, length, take}
 use Rattle.std.specs.List.{list_any}
 use Rattle.eliminate_tables.specs.Resolvents.{unmarked_rest, clashes}

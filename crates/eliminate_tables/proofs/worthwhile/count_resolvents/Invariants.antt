@@ -1,4 +1,4 @@
--- So many resolvents so far, none of which is long.
+-- There are `count` resolvents so far, none of which is long.
 use Rattle.std.proofs.Common.{◌≡◌, ◌≤◌, true, take}
 use Rattle.eliminate_tables.specs.Rows.{clauses_under}
 use Rattle.eliminate_tables.specs.Worthwhile.{are_short, resolvent_count}

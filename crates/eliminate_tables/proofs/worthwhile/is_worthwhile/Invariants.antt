@@ -1,4 +1,4 @@
--- The table of marks keeps its size; so many resolvents so far, none of which is long.
+-- The table of marks keeps its size; there are `count` resolvents so far, none of which is long.
 use Rattle.std.proofs.Common.{◌≡◌, ◌≤◌, ◌*◌, true, length, take}
 use Rattle.std.specs.Prelude.{sum_by}
 use Rattle.std.specs.List.{list_all}

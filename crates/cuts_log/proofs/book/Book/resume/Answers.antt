@@ -1,4 +1,4 @@
--- So many lines stand for what was judged.
+-- `lines` lines stand for what was judged.
 use Rattle.std.proofs.Common.{◌<◌, length, rules, arith, subst}
 use Rattle.lrat_log.specs.declared.log.TheConstants.{LINE_LIMIT}
 use Rattle.cuts_log.specs.Starts.{earlier_lines}
