@@ -23,7 +23,7 @@ pub(crate) fn run_program<R: Files + AllocGlobal + Print + Env + Clock, E: Write
     rt: &R,
     messages: &mut Messages<'_, E>,
 ) -> u8 {
-    let held = [open_nothing(rt), open_nothing(rt), open_nothing(rt)];
+    let held = (open_nothing(rt), open_nothing(rt), open_nothing(rt));
     let ended = run_command(rt, messages);
     messages.below();
     let _ = held;
