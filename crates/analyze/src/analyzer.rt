@@ -8,7 +8,7 @@ ghost use Rattle.propagate.specs.Fits.{Fits};
 ghost use Rattle.analyze.specs.Analyzer.{IsAsserting, IsConflict, IsInTrailOrder, IsRefutedBy};
 ghost use Rattle.analyze.specs.Analyzer.{CanLearn, Learns, IsFalsified, IsFinal};
 
-use crate::collect::{collect, greatest};
+use crate::collect::{Derivation, collect, greatest};
 use crate::final_clause::learn_final;
 use crate::marks::{Marking, clear, mark_clause, resolve};
 use crate::minimise::Minimiser;
@@ -203,23 +203,13 @@ fn learn(
     let mut lits = SmallVec::new(alloc);
     // Room for all at once, so that they do not grow step by step.
     let mut hints = Vec::with_capacity(alloc, marking.met.len() + 1)?;
-    collect(
-        engine,
-        asserting,
+    let derivation = Derivation {
         conflict,
-        &marking.marks,
-        &marking.met,
-        &mut lits,
-        &mut hints,
-    )?;
+        asserting,
+    };
+    collect(engine, &derivation, marking, &mut lits, &mut hints)?;
     let back_level = greatest(engine, &lits.as_slice()[1..]);
-    minimiser.meet_reasons(
-        engine,
-        store,
-        lits.as_slice(),
-        &marking.marks,
-        &mut marking.list,
-    );
+    minimiser.meet_reasons(engine, store, lits.as_slice(), marking);
     Ok(Learned {
         lits,
         back_level,

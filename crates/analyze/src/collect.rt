@@ -5,33 +5,44 @@ ghost use Rattle.analyze.specs.Met.{GoesAlong};
 ghost use Rattle.analyze.specs.Marks.{learned_from, resolved_of};
 
 use crate::analyzer::SHORT;
-use crate::marks::{Mark, literal_at};
+use crate::marks::{Mark, Marking, literal_at};
 use clauses::store::CRef;
 use cnf::types::Lit;
 use propagate::engine::Engine;
 use smallvec::SmallVec;
 use std::alloc::AllocError;
 
+/// Where the resolution of a clause began and ended.
+#[derive(Drop)]
+pub(crate) struct Derivation {
+    /// The clause with which it began, the last of the hints.
+    pub(crate) conflict: CRef,
+    /// The literal whose negation comes first in the clause with which it ended.
+    pub(crate) asserting: Lit,
+}
+
 /// The clause, its asserting literal first, the others in the order of the trail; and the reasons
 /// of what was resolved, in the order of the trail, and then the conflict.
 pub(crate) fn collect(
     engine: &Engine,
-    asserting: Lit,
-    conflict: CRef,
-    marks: &[Mark],
-    met: &[u32],
+    derivation: &Derivation,
+    marking: &Marking,
     lits: &mut SmallVec<Lit, SHORT>,
     hints: &mut Vec<CRef>,
 ) -> Result<(), AllocError>
-    requires along { GoesAlong engine.now marks.now met.now }
+    requires along { GoesAlong engine.now marking.now.marks.items marking.now.met.items }
     requires none { lits.old.items ≡ [] }
     requires no_hints { hints.old.items ≡ [] }
-    requires room { length met.now < vec_capacity hints.old }
-    ensures lits { OnOk result
-        (lits.new.items ≡ learned_from engine.now.trail marks.now asserting) }
+    requires room { length marking.now.met.items < vec_capacity hints.old }
+    ensures lits { OnOk result (lits.new.items
+        ≡ learned_from engine.now.trail marking.now.marks.items derivation.now.asserting) }
     ensures hints { OnOk result (hints.new.items ≡ chosen_reasons
-        (λ l. resolved_of marks.now l.variable) engine.now.trail ++ conflict ∷ []) }
+        (λ l. resolved_of marking.now.marks.items l.variable) engine.now.trail
+        ++ derivation.now.conflict ∷ []) }
 {
+    let asserting = derivation.asserting;
+    let marks: &[Mark] = &marking.marks;
+    let met: &[u32] = &marking.met;
     lits.push(asserting.negation())?;
     for position in met {
         let lit = literal_at(engine, *position);
@@ -46,7 +57,7 @@ pub(crate) fn collect(
             hints.push_reserved(reason);
         }
     }
-    hints.push_reserved(conflict);
+    hints.push_reserved(derivation.conflict);
     Ok(())
 }
 

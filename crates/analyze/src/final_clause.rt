@@ -11,7 +11,7 @@ ghost use Rattle.analyze.specs.Marks.{IsBefore, ReducesBefore};
 ghost use Rattle.analyze.specs.Met.{IsMarking, HasNoMarks, ListsMarked};
 
 use crate::analyzer::FinalClause;
-use crate::collect::collect;
+use crate::collect::{Derivation, collect};
 use crate::marks::{Mark, Marking, mark_clause, resolve_one};
 use crate::minimise::variable_of;
 use crate::ordering::put_in_order;
@@ -66,14 +66,10 @@ pub(crate) fn learn_final(
     let mut lits = SmallVec::new(alloc);
     // Room for all at once, so that they do not grow step by step.
     let mut hints = Vec::with_capacity(alloc, marking.met.len() + 1)?;
-    collect(
-        engine,
-        falsified,
-        reason,
-        &marking.marks,
-        &marking.met,
-        &mut lits,
-        &mut hints,
-    )?;
+    let derivation = Derivation {
+        conflict: reason,
+        asserting: falsified,
+    };
+    collect(engine, &derivation, marking, &mut lits, &mut hints)?;
     Ok(FinalClause { lits, hints })
 }

@@ -124,13 +124,7 @@ impl Minimiser {
         requires { CanMinimise engine.now store.now.slots marking.old asserting }
         ensures { ReducesToOne engine.now store.now.slots marking.old marking.new asserting }
     {
-        self.start(
-            engine,
-            asserting,
-            &marking.marks,
-            &marking.met,
-            &mut marking.list,
-        );
+        self.start(engine, asserting, marking);
         for variable in marking.list.iter() {
             self.find_redundant(engine, store, *variable, &marking.marks);
         }
@@ -145,21 +139,23 @@ impl Minimiser {
         engine: &Engine,
         store: &Store,
         lits: &[Lit],
-        marks: &[Mark],
-        beside: &mut Vec<u32>,
+        marking: &mut Marking,
     )
-        requires fits { FitsMarks engine.now store.now.slots marks.now }
-        requires named { AreVariables marks.now beside.old.items }
-        ensures named { AreVariables marks.now beside.new.items }
+        requires fits { FitsMarks engine.now store.now.slots marking.old.marks.items }
+        requires named { AreVariables marking.old.marks.items marking.old.list.items }
+        ensures named { AreVariables marking.old.marks.items marking.new.list.items }
+        ensures rest { marking.new ≡ record marking.old { list = marking.new.list } }
     {
+        let marks: &[Mark] = &marking.marks;
+        let list = &mut marking.list;
         for lit in lits {
             let variable = lit.variable().min(engine.variables());
             if let Some(reason) = engine.reason(variable) {
                 let lits = store.lits(reason);
-                self.take_in(engine, lits, marks, beside);
+                self.take_in(engine, lits, marks, list);
             }
         }
-        for variable in beside.iter() {
+        for variable in list.iter() {
             note(&mut self.ideas, *variable, Idea::Unknown);
         }
     }
@@ -174,21 +170,17 @@ impl Minimiser {
 
     /// Lists what is kept, but for the asserting literal, and notes for each level where the first
     /// literal of it stands.
-    fn start(
-        &mut self,
-        engine: &Engine,
-        asserting: Lit,
-        marks: &[Mark],
-        met: &[u32],
-        kept: &mut Vec<u32>,
-    )
-        requires { engine.now.variables < length marks.now }
+    fn start(&mut self, engine: &Engine, asserting: Lit, marking: &mut Marking)
+        requires { engine.now.variables < length marking.old.marks.items }
+        ensures { marking.new ≡ record marking.old { list = marking.new.list } }
     {
-        kept.clear();
-        for position in met {
+        let marks: &[Mark] = &marking.marks;
+        let list = &mut marking.list;
+        list.clear();
+        for position in marking.met.iter() {
             let variable = variable_of(engine, *position);
             if marks[variable as usize] == Mark::Kept && variable != asserting.variable() {
-                put(kept, variable);
+                put(list, variable);
                 if let Some(first) = self.firsts.get_mut(level_of(engine, variable) as usize) {
                     *first = (*first).min(*position);
                 }

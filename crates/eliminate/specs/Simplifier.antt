@@ -82,7 +82,7 @@ IsAddable s slots lines l = (start : Start) → IsSimplified start s slots lines
     → IsAddableLine start s lines l
 
 -- the clause that was built stands behind those before, under this reference
-pub record Adds (s : Simplifier) (held : Slots) (t : Simplifier) (more : Slots) (r : ℕ) :
+pub record AddsBuilt (s : Simplifier) (held : Slots) (t : Simplifier) (more : Slots) (r : ℕ) :
     Type 0 where
   pub reference : r ≡ length held
   pub slots : more ≡ held ++ Some s.clause.items ∷ []

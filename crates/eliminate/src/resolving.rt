@@ -18,41 +18,51 @@ use lrat_log::lines::{Hint, Kind};
 use lrat_log::sink::Sink;
 use std::alloc::AllocError;
 
-/// Adds the resolvent of two clauses, the first with the pivot and the second with its negation,
-/// where it has no complementary literals. The empty one ends everything.
+/// Two clauses of the store that clash on a literal.
+#[derive(Drop)]
+pub(crate) struct Clash {
+    /// The literal.
+    pub(crate) pivot: Lit,
+    /// A clause with the pivot.
+    pub(crate) first: CRef,
+    /// One with its negation.
+    pub(crate) second: CRef,
+}
+
+/// Adds the resolvent of two clauses, where it has no complementary literals. The empty one ends
+/// everything.
 pub(crate) fn add_resolvent<S: Sink>(
     simplifier: &mut Simplifier,
     store: &mut Store,
     sink: &mut S,
-    pivot: Lit,
-    first: CRef,
-    second: CRef,
+    clash: &Clash,
 ) -> Result<Option<CRef>, AllocError>
     requires is_open { IsOpen simplifier.old store.old.slots (S.lines sink.old) }
-    requires first { IsWith pivot store.old.slots first }
-    requires second { IsWith (negation pivot) store.old.slots second }
+    requires first { IsWith clash.now.pivot store.old.slots clash.now.first }
+    requires second { IsWith (negation clash.now.pivot) store.old.slots clash.now.second }
     ensures passes { Passes result simplifier.old store.old.slots (S.lines sink.old)
         simplifier.new store.new.slots (S.lines sink.new) }
-    ensures grows { IfOk result (λ _. GrowsWithout pivot store.old.slots store.new.slots) }
-    ensures resolved { IfOk result (λ _.
-        IsPairResolved pivot store.old.slots store.new.slots first second) }
+    ensures grows { IfOk result (λ _.
+        GrowsWithout clash.now.pivot store.old.slots store.new.slots) }
+    ensures resolved { IfOk result (λ _. IsPairResolved clash.now.pivot store.old.slots
+        store.new.slots clash.now.first clash.now.second) }
     ensures added { IfOk result (λ added. IfSome added (λ r. (r ≡ length store.old.slots)
-        × ((c d : List Literal) → clause_at store.old.slots first ≡ Some c
-        → clause_at store.old.slots second ≡ Some d
-        → clause_at store.new.slots r ≡ Some (resolvent pivot c d)))) }
+        × ((c d : List Literal) → clause_at store.old.slots clash.now.first ≡ Some c
+        → clause_at store.old.slots clash.now.second ≡ Some d
+        → clause_at store.new.slots r ≡ Some (resolvent clash.now.pivot c d)))) }
     ensures none { IfOk result (λ added. added ≡ None → simplifier.new.is_refuted ≡ false) }
 {
     let is_plain = resolve(
         &mut simplifier.marks,
-        pivot,
-        store.lits(first),
-        store.lits(second),
+        clash.pivot,
+        store.lits(clash.first),
+        store.lits(clash.second),
         &mut simplifier.clause,
     )?;
     if !is_plain {
         return Ok(None);
     }
-    let hints = parents(&simplifier.names, first, second);
+    let hints = parents(&simplifier.names, clash.first, clash.second);
     let kind = kind_of(&simplifier.clause);
     let reference = simplifier.add(store, sink, kind, &hints)?;
     Ok(Some(reference))

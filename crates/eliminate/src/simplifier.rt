@@ -9,13 +9,13 @@ ghost use Rattle.cnf.specs.Clause.{is_empty_clause};
 ghost use Rattle.eliminate_tables.specs.Rows.{AreRows};
 ghost use Rattle.eliminate_tables.specs.declared.against.Against.TheVariants.{Within};
 ghost use Rattle.eliminate.specs.Simplifier.{IsSimplified, IsOpen, IsAddable};
-ghost use Rattle.eliminate.specs.Simplifier.{Adds, Deletes, Passes};
+ghost use Rattle.eliminate.specs.Simplifier.{AddsBuilt, Deletes, Passes};
 ghost use Rattle.eliminate.specs.Subsuming.{IsFoundBeside};
 
 use clauses::store::{CRef, Store};
 use cnf::marks::Marks;
 use cnf::types::Lit;
-use eliminate_names::names::{Names, add, delete};
+use eliminate_names::names::{Addition, Names, add, delete};
 use eliminate_tables::bins::Bins;
 use eliminate_tables::rows::Rows;
 use eliminate_tables::schedule::Schedule;
@@ -120,12 +120,17 @@ impl Simplifier {
           clause = self.old.clause.items;
           hints = hints.now;
         }) }
-        ensures adds { IfOk result (Adds self.old store.old.slots self.new store.new.slots) }
+        ensures adds { IfOk result (AddsBuilt self.old store.old.slots self.new store.new.slots) }
         ensures passes { Passes result self.old store.old.slots (S.lines sink.old)
             self.new store.new.slots (S.lines sink.new) }
     {
         sink.is_short();
-        let reference = add(store, &mut self.names, sink, kind, &self.clause, hints)?;
+        let addition = Addition {
+            kind,
+            lits: &self.clause,
+            hints,
+        };
+        let reference = add(store, &mut self.names, sink, &addition)?;
         self.occurrences.add(&self.clause, reference)?;
         self.schedule.enter(&self.clause)?;
         self.is_refuted = is_empty_clause(&self.clause);

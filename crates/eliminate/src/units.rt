@@ -3,8 +3,8 @@
 // a clause only once a count says that at most one of its literals may be open, so that all visits
 // together are linear in the literals of the formula. Nothing rests on the counts: the last sweep
 // finds no clause that is false or unit.
-ghost use Rattle.std.specs.Prelude.{◌≡◌, ◌+◌, ◌*◌, ◌<◌, ◌∷◌, [], true, false, List};
-ghost use Rattle.std.specs.Prelude.{length, replicate, Some, None, IfOk, OnOk};
+ghost use Rattle.std.specs.Prelude.{◌≡◌, ◌<◌, ◌∷◌, [], true, false, List, length, replicate, Some};
+ghost use Rattle.std.specs.Prelude.{None, IfOk, OnOk};
 ghost use Rattle.cnf.specs.Literal.{Literal, negation};
 ghost use Rattle.cnf.specs.Clause.{contains_literal};
 ghost use Rattle.cnf.specs.Refute.{IsRefutedByHints};
@@ -16,7 +16,10 @@ ghost use Rattle.eliminate.specs.Units.{HasStateAt, AreUnits, AreSettled, unit_h
 ghost use Rattle.eliminate.specs.Units.{MakesTrue, IsPropagating, Moves, MakesProgress};
 ghost use Rattle.eliminate.specs.Units.{AsksNothing};
 
+mod visiting;
+
 use crate::simplifier::Simplifier;
+use crate::units::visiting::Visits;
 use clauses::store::{CRef, MaybeCRef, Store};
 use cnf::marks::Marks;
 use cnf::types::Lit;
@@ -36,15 +39,6 @@ pub(crate) struct Units {
     trail: Vec<Lit>,
 }
 
-/// How far the queue of propagation has come.
-#[derive(Drop)]
-struct Visits {
-    // The place on the trail of the first literal whose clauses were not visited.
-    qhead: usize,
-    // By reference, how many literals of the clause were not met as false.
-    unmet: Vec<u32>,
-}
-
 /// What the true literals make of a clause.
 #[derive(Clone, Copy, Debug, PartialEq, Eq, Drop)]
 pub(crate) enum ClauseState {
@@ -56,18 +50,11 @@ pub(crate) enum ClauseState {
     Falsified,
 }
 
-impl Visits {
-    /// No literal was visited.
-    fn new(alloc: Global, store: &Store) -> Result<Self, AllocError> {
-        let mut unmet = Vec::new(alloc);
-        for place in 0..store.places() {
-            unmet.push(match store.live_at(place) {
-                Some(reference) => count(store.lits(reference)),
-                None => 0,
-            })?;
-        }
-        Ok(Visits { qhead: 0, unmet })
-    }
+/// A literal that a clause makes true, since all its other literals are false.
+#[derive(Drop)]
+struct Implied {
+    lit: Lit,
+    by: CRef,
 }
 
 impl Units {
@@ -132,33 +119,34 @@ impl Units {
         Ok(hints)
     }
 
-    /// The clause of the one literal that is open in a clause: the clause itself, where it has no
-    /// other, or one that is added.
+    /// The clause that has just the implied literal: the one that implies it, where that has no
+    /// other literal, or one that is added.
     fn unit_clause<S: Sink>(
         &self,
         simplifier: &mut Simplifier,
         store: &mut Store,
         sink: &mut S,
-        reference: CRef,
-        lit: Lit,
+        implied: &Implied,
     ) -> Result<CRef, AllocError>
         requires propagating { IsPropagating self.now simplifier.old store.old.slots
             (S.lines sink.old) }
-        requires live { IsLive store.old.slots reference }
-        requires unit { HasStateAt self.now store.old.slots reference (ClauseState.Unit lit) }
-        ensures alone { IfOk result (λ r. clause_at store.new.slots r ≡ Some (lit ∷ [])) }
+        requires live { IsLive store.old.slots implied.now.by }
+        requires unit { HasStateAt self.now store.old.slots implied.now.by
+            (ClauseState.Unit implied.now.lit) }
+        ensures alone { IfOk result (λ r.
+            clause_at store.new.slots r ≡ Some (implied.now.lit ∷ [])) }
         ensures grows { IfOk result (λ _. Grows store.old.slots store.new.slots) }
         ensures passes { Passes result simplifier.old store.old.slots (S.lines sink.old)
             simplifier.new store.new.slots (S.lines sink.new) }
         ensures going { OnOk result (simplifier.new.is_refuted ≡ false) }
         ensures vars { OnOk result (simplifier.new.vars ≡ simplifier.old.vars) }
     {
-        if store.lits(reference).len() == 1 {
-            return Ok(reference);
+        if store.lits(implied.by).len() == 1 {
+            return Ok(implied.by);
         }
-        let hints = self.hints(&simplifier.names, store, reference)?;
+        let hints = self.hints(&simplifier.names, store, implied.by)?;
         simplifier.clause.clear();
-        simplifier.clause.push(lit)?;
+        simplifier.clause.push(implied.lit)?;
         let unit = simplifier.add(store, sink, Kind::Unit, &hints)?;
         Ok(unit)
     }
@@ -225,7 +213,8 @@ impl Units {
         match self.state(store, reference) {
             ClauseState::Settled => Ok(false),
             ClauseState::Unit(lit) => {
-                let unit = self.unit_clause(simplifier, store, sink, reference, lit)?;
+                let implied = Implied { lit, by: reference };
+                let unit = self.unit_clause(simplifier, store, sink, &implied)?;
                 self.assign(store, lit, unit)?;
                 Ok(true)
             }
@@ -290,77 +279,6 @@ impl Units {
         Ok(found)
     }
 
-    /// Meets the clause at this place among those in which a literal that is false occurs, where it
-    /// may ask for something.
-    fn visit_at<S: Sink>(
-        &mut self,
-        unmet: &mut [u32],
-        simplifier: &mut Simplifier,
-        store: &mut Store,
-        sink: &mut S,
-        lit: Lit,
-        at: usize,
-    ) -> Result<(), AllocError>
-        requires { IsPropagating self.old simplifier.old store.old.slots (S.lines sink.old) }
-        ensures { Moves result self.old simplifier.old store.old.slots (S.lines sink.old)
-            self.new simplifier.new store.new.slots (S.lines sink.new) }
-    {
-        let Some(reference) = simplifier.occurrence(store, lit, at) else {
-            return Ok(());
-        };
-        if !is_due(unmet, reference) {
-            return Ok(());
-        }
-        self.meet(simplifier, store, sink, reference)?;
-        Ok(())
-    }
-
-    /// Visits the clauses in which a literal that is false occurs.
-    fn visit<S: Sink>(
-        &mut self,
-        unmet: &mut [u32],
-        simplifier: &mut Simplifier,
-        store: &mut Store,
-        sink: &mut S,
-        lit: Lit,
-    ) -> Result<(), AllocError>
-        requires { IsPropagating self.old simplifier.old store.old.slots (S.lines sink.old) }
-        ensures { Moves result self.old simplifier.old store.old.slots (S.lines sink.old)
-            self.new simplifier.new store.new.slots (S.lines sink.new) }
-    {
-        for at in 0..simplifier.occurrence_count(lit) {
-            self.visit_at(unmet, simplifier, store, sink, lit, at)?;
-            if simplifier.is_refuted {
-                return Ok(());
-            }
-        }
-        Ok(())
-    }
-
-    /// Visits the clauses of the literals on the trail that were not visited, and of those that
-    /// become true on the way.
-    fn follow<S: Sink>(
-        &mut self,
-        visits: &mut Visits,
-        simplifier: &mut Simplifier,
-        store: &mut Store,
-        sink: &mut S,
-    ) -> Result<(), AllocError>
-        requires { IsPropagating self.old simplifier.old store.old.slots (S.lines sink.old) }
-        ensures { Moves result self.old simplifier.old store.old.slots (S.lines sink.old)
-            self.new simplifier.new store.new.slots (S.lines sink.new) }
-    {
-        while visits.qhead < self.trail.len() {
-            let lit = self.trail[visits.qhead].negation();
-            visits.qhead += 1;
-            self.visit(&mut visits.unmet, simplifier, store, sink, lit)?;
-            if simplifier.is_refuted {
-                return Ok(());
-            }
-        }
-        Ok(())
-    }
-
     /// Sweeps, and follows what became true, until a sweep finds nothing or the empty clause is
     /// added.
     fn propagate<S: Sink>(
@@ -392,17 +310,6 @@ impl Units {
     }
 }
 
-/// Counts a literal of a clause as false. The answer is whether all but one may be so now.
-fn is_due(unmet: &mut [u32], reference: CRef) -> bool {
-    match unmet.get_mut(reference.index()) {
-        Some(unmet) => {
-            *unmet = unmet.saturating_sub(1);
-            *unmet <= 1
-        }
-        None => false,
-    }
-}
-
 /// Propagates the clauses of one literal to the end. Either the empty clause is added then, or no
 /// hints refute the clauses before.
 pub(crate) fn propagate_units<S: Sink>(
@@ -427,9 +334,4 @@ fn no_clauses(alloc: Global, count: usize) -> Result<Vec<MaybeCRef>, AllocError>
     ensures { IfOk result (λ clauses. clauses.items ≡ replicate count None) }
 {
     Vec::from_elem(alloc, MaybeCRef::new(None), count)
-}
-
-/// How many literals there are, up to the greatest number that a count takes.
-fn count(lits: &[Lit]) -> u32 {
-    u32::try_from(lits.len()).unwrap_or(u32::MAX)
 }

@@ -15,7 +15,7 @@ ghost use Rattle.eliminate.specs.Variables.{IsOpenOver, PassesOver, IsWith};
 ghost use Rattle.eliminate.specs.Variables.{AreThoseWith, GrowsWithout, IsPairResolved};
 ghost use Rattle.eliminate.specs.Variables.{ArePairsResolved, LeavesOut, KeepsWork, KeepsLog};
 
-use crate::resolving::add_resolvent;
+use crate::resolving::{Clash, add_resolvent};
 use crate::simplifier::Simplifier;
 use clauses::store::{CRef, Store};
 use cnf::types::Lit;
@@ -28,9 +28,11 @@ use std::alloc::AllocError;
 /// The most tries in one pass, per variable on average.
 const MOST_TRIES: usize = 10;
 
-/// The live clauses with a literal, and those with its negation.
+/// A literal with the live clauses that have it, and those that have its negation.
 #[derive(Drop)]
 struct Parents {
+    // The literal: it is not negated.
+    pivot: Lit,
     // Those with the literal, each once.
     positive: Vec<CRef>,
     // Those with its negation, each once.
@@ -51,6 +53,7 @@ pub(crate) fn eliminate_variables<S: Sink>(
 {
     let alloc = store.allocator();
     let mut parents = Parents {
+        pivot: Lit::new(1, false),
         positive: Vec::new(alloc),
         negative: Vec::new(alloc),
     };
@@ -60,7 +63,8 @@ pub(crate) fn eliminate_variables<S: Sink>(
             return Ok(is_changed);
         };
         if is_free(variable, frozen) {
-            let is_gone = try_variable(simplifier, store, sink, frozen, variable, &mut parents)?;
+            parents.pivot = Lit::new(variable, false);
+            let is_gone = try_variable(simplifier, store, sink, frozen, &mut parents)?;
             is_changed = is_changed || is_gone;
             if simplifier.is_refuted {
                 return Ok(true);
@@ -83,64 +87,49 @@ fn is_free(variable: u32, frozen: &[bool]) -> bool
     }
 }
 
-/// Eliminates the variable where that does not make the formula larger. The answer is whether it
-/// went.
+/// Eliminates the variable of the pivot where that does not make the formula larger. The answer is
+/// whether it went.
 fn try_variable<S: Sink>(
     simplifier: &mut Simplifier,
     store: &mut Store,
     sink: &mut S,
     frozen: &[bool],
-    variable: u32,
     parents: &mut Parents,
 ) -> Result<bool, AllocError>
     requires is_open { IsOpenOver frozen.now simplifier.old store.old.slots (S.lines sink.old) }
-    requires free { IsFree frozen.now variable }
+    requires free { IsFree frozen.now parents.old.pivot.variable }
+    requires plain { parents.old.pivot ≡ positive parents.old.pivot.variable }
     ensures { PassesOver frozen.now result simplifier.old store.old.slots (S.lines sink.old)
         simplifier.new store.new.slots (S.lines sink.new) }
 {
-    let pivot = Lit::new(variable, false);
-    if !find_parents(simplifier, store, pivot, parents)? {
+    if !find_parents(simplifier, store, parents)? {
         return Ok(false);
     }
-    add_resolvents(
-        simplifier,
-        store,
-        sink,
-        pivot,
-        &parents.positive,
-        &parents.negative,
-    )?;
+    add_resolvents(simplifier, store, sink, parents)?;
     if simplifier.is_refuted {
         return Ok(false);
     }
-    remove_variable(
-        simplifier,
-        store,
-        sink,
-        frozen,
-        variable,
-        &parents.positive,
-        &parents.negative,
-    )?;
+    remove_variable(simplifier, store, sink, frozen, parents)?;
     Ok(true)
 }
 
-/// Finds the clauses with the variable. The answer is whether these should go.
+/// Finds the clauses with the variable of the pivot. The answer is whether these should go.
 fn find_parents(
     simplifier: &mut Simplifier,
     store: &Store,
-    pivot: Lit,
     parents: &mut Parents,
 ) -> Result<bool, AllocError>
-    requires place { HasPlace (length simplifier.old.occurrences.rows) pivot }
+    requires place { HasPlace (length simplifier.old.occurrences.rows) parents.old.pivot }
     requires rows { AreRows simplifier.old.occurrences.rows store.now.slots }
     requires placed { ArePlaced (length simplifier.old.marks) store.now.slots }
     ensures form { KeepsForm simplifier.old simplifier.new store.now.slots }
+    ensures pivot { parents.new.pivot ≡ parents.old.pivot }
     ensures positive { IfOk result (λ good. good ≡ true
-        → AreThoseWith pivot store.now.slots parents.new.positive.items) }
+        → AreThoseWith parents.new.pivot store.now.slots parents.new.positive.items) }
     ensures negative { IfOk result (λ good. good ≡ true
-        → AreThoseWith (negation pivot) store.now.slots parents.new.negative.items) }
+        → AreThoseWith (negation parents.new.pivot) store.now.slots parents.new.negative.items) }
 {
+    let pivot = parents.pivot;
     if !is_candidate(&simplifier.schedule, pivot) {
         return Ok(false);
     }
@@ -185,21 +174,22 @@ fn add_resolvents<S: Sink>(
     simplifier: &mut Simplifier,
     store: &mut Store,
     sink: &mut S,
-    pivot: Lit,
-    firsts: &[CRef],
-    seconds: &[CRef],
+    parents: &Parents,
 ) -> Result<(), AllocError>
     requires is_open { IsOpen simplifier.old store.old.slots (S.lines sink.old) }
-    requires firsts { All (IsWith pivot store.old.slots) firsts.now }
-    requires seconds { All (IsWith (negation pivot) store.old.slots) seconds.now }
+    requires firsts { All (IsWith parents.now.pivot store.old.slots) parents.now.positive.items }
+    requires seconds { All (IsWith (negation parents.now.pivot) store.old.slots)
+        parents.now.negative.items }
     ensures passes { Passes result simplifier.old store.old.slots (S.lines sink.old)
         simplifier.new store.new.slots (S.lines sink.new) }
-    ensures grows { IfOk result (λ _. GrowsWithout pivot store.old.slots store.new.slots) }
+    ensures grows { IfOk result (λ _.
+        GrowsWithout parents.now.pivot store.old.slots store.new.slots) }
     ensures resolved { IfOk result (λ _. simplifier.new.is_refuted ≡ false
-        → ArePairsResolved pivot store.old.slots store.new.slots firsts.now seconds.now) }
+        → ArePairsResolved parents.now.pivot store.old.slots store.new.slots
+        parents.now.positive.items parents.now.negative.items) }
 {
-    for first in firsts {
-        add_resolvents_of(simplifier, store, sink, pivot, *first, seconds)?;
+    for first in &parents.positive {
+        add_resolvents_of(simplifier, store, sink, *first, parents)?;
         if simplifier.is_refuted {
             return Ok(());
         }
@@ -207,26 +197,33 @@ fn add_resolvents<S: Sink>(
     Ok(())
 }
 
-/// Adds the resolvents of one clause with the others.
+/// Adds the resolvents of one clause that has the pivot.
 fn add_resolvents_of<S: Sink>(
     simplifier: &mut Simplifier,
     store: &mut Store,
     sink: &mut S,
-    pivot: Lit,
     first: CRef,
-    seconds: &[CRef],
+    parents: &Parents,
 ) -> Result<(), AllocError>
     requires is_open { IsOpen simplifier.old store.old.slots (S.lines sink.old) }
-    requires first { IsWith pivot store.old.slots first }
-    requires seconds { All (IsWith (negation pivot) store.old.slots) seconds.now }
+    requires first { IsWith parents.now.pivot store.old.slots first }
+    requires seconds { All (IsWith (negation parents.now.pivot) store.old.slots)
+        parents.now.negative.items }
     ensures passes { Passes result simplifier.old store.old.slots (S.lines sink.old)
         simplifier.new store.new.slots (S.lines sink.new) }
-    ensures grows { IfOk result (λ _. GrowsWithout pivot store.old.slots store.new.slots) }
+    ensures grows { IfOk result (λ _.
+        GrowsWithout parents.now.pivot store.old.slots store.new.slots) }
     ensures resolved { IfOk result (λ _. simplifier.new.is_refuted ≡ false
-        → All (IsPairResolved pivot store.old.slots store.new.slots first) seconds.now) }
+        → All (IsPairResolved parents.now.pivot store.old.slots store.new.slots first)
+        parents.now.negative.items) }
 {
-    for second in seconds {
-        add_resolvent(simplifier, store, sink, pivot, first, *second)?;
+    for second in &parents.negative {
+        let clash = Clash {
+            pivot: parents.pivot,
+            first,
+            second: *second,
+        };
+        add_resolvent(simplifier, store, sink, &clash)?;
         if simplifier.is_refuted {
             return Ok(());
         }
@@ -234,26 +231,29 @@ fn add_resolvents_of<S: Sink>(
     Ok(())
 }
 
-/// Takes the variable out, whose resolvents are all there: its clauses are kept for
+/// Takes the variable of the pivot out, whose resolvents are all there: its clauses are kept for
 /// reconstruction, and deleted. Only the contract reads `frozen`.
 fn remove_variable<S: Sink>(
     simplifier: &mut Simplifier,
     store: &mut Store,
     sink: &mut S,
     frozen: &[bool],
-    variable: u32,
-    firsts: &[CRef],
-    seconds: &[CRef],
+    parents: &Parents,
 ) -> Result<(), AllocError>
     requires is_open { IsOpenOver frozen.now simplifier.old store.old.slots (S.lines sink.old) }
-    requires free { IsFree frozen.now variable }
-    requires firsts { AreThoseWith (positive variable) store.old.slots firsts.now }
-    requires seconds { AreThoseWith (negation (positive variable)) store.old.slots seconds.now }
-    requires resolved { ArePairsResolved (positive variable) store.old.slots store.old.slots
-        firsts.now seconds.now }
+    requires free { IsFree frozen.now parents.now.pivot.variable }
+    requires plain { parents.now.pivot ≡ positive parents.now.pivot.variable }
+    requires firsts { AreThoseWith parents.now.pivot store.old.slots parents.now.positive.items }
+    requires seconds { AreThoseWith (negation parents.now.pivot) store.old.slots
+        parents.now.negative.items }
+    requires resolved { ArePairsResolved parents.now.pivot store.old.slots store.old.slots
+        parents.now.positive.items parents.now.negative.items }
     ensures { PassesOver frozen.now result simplifier.old store.old.slots (S.lines sink.old)
         simplifier.new store.new.slots (S.lines sink.new) }
 {
+    let variable = parents.pivot.variable();
+    let firsts: &[CRef] = &parents.positive;
+    let seconds: &[CRef] = &parents.negative;
     simplifier.removals.push(variable, firsts, store)?;
     let names = &simplifier.names;
     let schedule = &mut simplifier.schedule;

@@ -114,28 +114,42 @@ pub fn move_together(store: &mut Store, names: &mut Names)
     store.shrink_to_fit();
 }
 
+/// A clause that is added, and what its line in the log says besides.
+#[derive(Clone, Copy, Drop)]
+pub struct Addition<'l, 'h> {
+    /// What the line is for.
+    pub kind: Kind,
+    /// The literals of the clause.
+    pub lits: &'l [Lit],
+    /// The clauses by which it follows, under their names.
+    pub hints: &'h [Hint],
+}
+
 /// Adds a clause to the store and its line to the log. The line comes last: where one is refused,
 /// the log is as it was.
 pub fn add<S: Sink>(
     store: &mut Store,
     names: &mut Names,
     sink: &mut S,
-    kind: Kind,
-    lits: &[Lit],
-    hints: &[Hint],
+    addition: &Addition<'_, '_>,
 ) -> Result<CRef, AllocError>
-    requires line { IsLine (record { kind = kind; clause = lits.now; hints = hints.now }) }
+    requires line { IsLine (record {
+      kind = addition.now.kind;
+      clause = addition.now.lits.now;
+      hints = addition.now.hints.now;
+    }) }
     requires counted { names.old.additions ≡ added_count (S.lines sink.old) }
     ensures reference { IfOk result (λ r. r ≡ length store.old.slots) }
-    ensures slots { IfOk result (λ _. store.new.slots ≡ store.old.slots ++ Some lits.now ∷ []) }
+    ensures slots { IfOk result (λ _.
+        store.new.slots ≡ store.old.slots ++ Some addition.now.lits.now ∷ []) }
     ensures names { IfOk result (λ _. names.new ≡ record {
       names = names.old.names ++ added_line names.old.additions ∷ [];
       additions = names.old.additions + 1;
     }) }
     ensures lines { IfOk result (λ _. S.lines sink.new ≡ S.lines sink.old ++ record {
-      kind = kind;
-      clause = lits.now;
-      hints = hints.now;
+      kind = addition.now.kind;
+      clause = addition.now.lits.now;
+      hints = addition.now.hints.now;
     } ∷ []) }
     ensures err { OnErr result (S.lines sink.new ≡ S.lines sink.old) }
 {
@@ -143,8 +157,8 @@ pub fn add<S: Sink>(
     let name = Name::Added(Number::new(names.additions + 1));
     names.names.push(name)?;
     names.additions += 1;
-    let reference = store.add(lits)?;
-    sink.append(kind, lits, hints)?;
+    let reference = store.add(addition.lits)?;
+    sink.append(addition.kind, addition.lits, addition.hints)?;
     Ok(reference)
 }
 

@@ -8,3 +8,4 @@ mod pair_table;
 pub mod pairs;
 mod runs;
 mod sketch;
+mod standing;

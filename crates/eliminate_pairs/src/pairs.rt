@@ -7,26 +7,25 @@
 // the clauses move together. In a large store a further round looks only at the clauses that the
 // round before it made: a pair that was left comes again only where it occurs in enough of these.
 ghost use Rattle.std.specs.Prelude.{◌≡◌, ◌+◌, ◌<◌, ◌≤◌, List, length};
-ghost use Rattle.std.specs.Prelude.{IsTrue, IfOk, OnOk, OnErr, Some};
-ghost use Rattle.std.specs.List.{AllByRecursion};
+ghost use Rattle.std.specs.Prelude.{IfOk, OnOk, OnErr, Some, All};
 ghost use Rattle.cnf.specs.declared.limits.TheConstants.{VARIABLE_LIMIT};
 ghost use Rattle.cnf.specs.Literal.{Literal};
-ghost use Rattle.cnf.specs.Clause.{contains_literal};
 ghost use Rattle.cnf.specs.Lrat.{IsId};
 ghost use Rattle.clauses.specs.Slots.{IsLive, clause_at};
 ghost use Rattle.lrat_log.specs.Log.{number_in};
 ghost use Rattle.lrat_log.specs.declared.lines.Hint.TheVariants.{Plain};
 ghost use Rattle.lrat_log.specs.Steps.{added_count};
 ghost use Rattle.eliminate_names.specs.Work.{name_at};
-ghost use Rattle.eliminate_pairs.specs.Pairs.{side_line, replaced, together};
-ghost use Rattle.eliminate_pairs.specs.Pairs.{IsOnOther, StandAt, StandOften, HasPairOf, IsDefined};
-ghost use Rattle.eliminate_pairs.specs.Pairs.{stage_of, AddsLine, FitNames, Moves, Passes};
+ghost use Rattle.eliminate_pairs.specs.Pairs.{whole_clause, side_line, replaced, stage_of};
+ghost use Rattle.eliminate_pairs.specs.Pairs.{StandOften, HasPairOf};
+ghost use Rattle.eliminate_pairs.specs.Pairs.{IsDefined, AddsLine, FitNames, Moves, Passes};
 
-use crate::frequencies::{FEWEST, SHORTEST, first_looked_at};
-use crate::pair_table::{PairCandidate, PairTable};
+use crate::frequencies::first_looked_at;
+use crate::pair_table::PairTable;
+use crate::standing::{NextPair, has_pair, stand_often};
 use clauses::store::{CRef, Store};
 use cnf::types::Lit;
-use eliminate_names::names::{Names, add, delete, move_together};
+use eliminate_names::names::{Addition, Names, add, delete, move_together};
 use lrat_log::lines::{Hint, Kind};
 use lrat_log::sink::Sink;
 use std::alloc::{AllocError, Global};
@@ -37,18 +36,36 @@ const MOST_ROUNDS: u32 = 6;
 /// A fresh variable that means 'left or right', and the three clauses that say so.
 #[derive(Drop)]
 pub(crate) struct PairDefinition {
-    // Above the variables of all clauses before it, below 2^27.
-    variable: u32,
-    // The literal of the pair with the lower index.
-    left: Lit,
-    // The other one.
-    right: Lit,
+    /// Above the variables of all clauses before it, below 2^27.
+    pub(crate) variable: u32,
+    /// The literal of the pair with the lower index.
+    pub(crate) left: Lit,
+    /// The other one.
+    pub(crate) right: Lit,
     // 'not the variable, or left or right'
     whole: CRef,
     // 'the variable, or not left'
     left_side: CRef,
     // 'the variable, or not right'
     right_side: CRef,
+}
+
+/// The numbers that fresh variables may get: those above `after`, up to `most`.
+#[derive(Drop)]
+struct FreshRange {
+    // The last variable of the clauses.
+    after: u32,
+    // At least `after`, and below 2^27.
+    most: u32,
+}
+
+/// What one of the clauses 'the variable, or not the literal' is made from.
+#[derive(Drop)]
+struct Side {
+    variable: u32,
+    lit: Lit,
+    // The clause with the variable's negation, which comes first.
+    whole: CRef,
 }
 
 /// Replaces pairs that stand in many clauses by fresh variables, the first of which is `vars + 1`;
@@ -72,7 +89,11 @@ pub fn define_pairs<S: Sink>(
     for _round in 0..MOST_ROUNDS {
         let before = last;
         let places = store.places();
-        last = define_counted(store, names, sink, first, before, most)?;
+        let range = FreshRange {
+            after: before,
+            most,
+        };
+        last = define_counted(store, names, sink, first, &range)?;
         if last == before {
             return Ok(last);
         }
@@ -97,25 +118,29 @@ fn define_counted<S: Sink>(
     names: &mut Names,
     sink: &mut S,
     first: usize,
-    vars: u32,
-    most: u32,
+    range: &FreshRange,
 ) -> Result<u32, AllocError>
-    requires room { vars ≤ most }
-    requires most { most < VARIABLE_LIMIT }
+    requires room { range.now.after ≤ range.now.most }
+    requires most { range.now.most < VARIABLE_LIMIT }
     requires fit { FitNames names.old store.old.slots (S.lines sink.old) }
-    ensures { Passes result (stage_of vars store.old.slots names.old (S.lines sink.old))
-        most store.new.slots names.new (S.lines sink.new) }
+    ensures { Passes result (stage_of range.now.after store.old.slots names.old (S.lines sink.old))
+        range.now.most store.new.slots names.new (S.lines sink.new) }
 {
-    let mut table = PairTable::new(store, first, vars)?;
-    let mut last = vars;
+    let mut table = PairTable::new(store, first, range.after)?;
+    let mut last = range.after;
     for k in 0..table.len() {
-        if last >= most {
+        if last >= range.most {
             break;
         }
         if let Some(candidate) = table.candidate(k) {
             table.find(store, &candidate)?;
             if table.found().len() >= candidate.fewest() {
-                last = define_found(store, names, sink, last, &candidate, &mut table)?;
+                let pair = NextPair {
+                    vars: last,
+                    left: candidate.left,
+                    right: candidate.right,
+                };
+                last = define_found(store, names, sink, &pair, &mut table)?;
             }
         }
     }
@@ -128,21 +153,21 @@ fn define_found<S: Sink>(
     store: &mut Store,
     names: &mut Names,
     sink: &mut S,
-    vars: u32,
-    candidate: &PairCandidate,
+    pair: &NextPair,
     table: &mut PairTable,
 ) -> Result<u32, AllocError>
-    requires room { vars + 1 < VARIABLE_LIMIT }
+    requires room { pair.now.vars + 1 < VARIABLE_LIMIT }
     requires fit { FitNames names.old store.old.slots (S.lines sink.old) }
-    ensures often { IfOk result (λ v. vars < v
-        → StandOften store.old.slots candidate.now.left candidate.now.right) }
-    ensures passes { Passes result (stage_of vars store.old.slots names.old (S.lines sink.old))
-        (vars + 1) store.new.slots names.new (S.lines sink.new) }
+    ensures often { IfOk result (λ v. pair.now.vars < v
+        → StandOften store.old.slots pair.now.left pair.now.right) }
+    ensures passes { Passes result
+        (stage_of pair.now.vars store.old.slots names.old (S.lines sink.old))
+        (pair.now.vars + 1) store.new.slots names.new (S.lines sink.new) }
 {
-    if !stand_often(store, candidate, table.found()) {
-        return Ok(vars);
+    if !stand_often(store, pair, table.found()) {
+        return Ok(pair.vars);
     }
-    let definition = define(store, names, sink, vars, candidate.left, candidate.right)?;
+    let definition = define(store, names, sink, pair)?;
     for k in 0..table.found().len() {
         if let Some(reference) = table.found_at(k, store) {
             if has_pair(store.lits(reference), &definition) {
@@ -151,79 +176,7 @@ fn define_found<S: Sink>(
             }
         }
     }
-    Ok(vars + 1)
-}
-
-/// Whether the pair stands together in `FEWEST` clauses, by those that were found.
-fn stand_often(store: &Store, candidate: &PairCandidate, found: &[(u32, u32)]) -> bool
-    ensures { IsTrue result → StandOften store.now.slots candidate.now.left candidate.now.right }
-{
-    if candidate.left == candidate.right {
-        return false;
-    }
-    // Below `FEWEST`.
-    let mut count = 0usize;
-    // The clauses of lower places were looked at.
-    let mut from = 0usize;
-    for (place, _) in found {
-        let place = *place as usize;
-        if place >= from && stand_at(store, candidate, place) {
-            count += 1;
-            from = place + 1;
-            if count == FEWEST {
-                return true;
-            }
-        }
-    }
-    false
-}
-
-/// Whether a live clause with the pair and another literal stands at this place.
-fn stand_at(store: &Store, candidate: &PairCandidate, place: usize) -> bool
-    ensures { IsTrue result
-        → StandAt store.now.slots candidate.now.left candidate.now.right place }
-{
-    match store.live_at(place) {
-        Some(reference) => {
-            let lits = store.lits(reference);
-            has_both(lits, candidate.left, candidate.right)
-        }
-        None => false,
-    }
-}
-
-/// Whether a clause has both literals, and is long enough.
-fn has_both(lits: &[Lit], left: Lit, right: Lit) -> bool
-    ensures { result ≡ together left right lits.now }
-{
-    has(lits, left) && has(lits, right) && lits.len() >= SHORTEST
-}
-
-/// Whether the literal is one of these, in the words of the definitions.
-fn has(lits: &[Lit], lit: Lit) -> bool
-    ensures { result ≡ contains_literal lit lits.now }
-{
-    lits.contains(&lit)
-}
-
-/// Whether both literals are among these, and the variable is not.
-fn has_pair(lits: &[Lit], definition: &PairDefinition) -> bool
-    ensures { IsTrue result
-        → HasPairOf definition.now.variable definition.now.left definition.now.right lits.now }
-{
-    has(lits, definition.left) && has(lits, definition.right) && lacks(lits, definition.variable)
-}
-
-/// Whether none of the literals has the variable.
-fn lacks(lits: &[Lit], variable: u32) -> bool
-    ensures { IsTrue result → AllByRecursion (IsOnOther variable) lits.now }
-{
-    for lit in lits {
-        if lit.variable() == variable {
-            return false;
-        }
-    }
-    true
+    Ok(pair.vars + 1)
 }
 
 /// Adds the three clauses that define a fresh variable as 'left or right'.
@@ -231,34 +184,57 @@ fn define<S: Sink>(
     store: &mut Store,
     names: &mut Names,
     sink: &mut S,
-    vars: u32,
-    left: Lit,
-    right: Lit,
+    pair: &NextPair,
 ) -> Result<PairDefinition, AllocError>
-    requires room { vars + 1 < VARIABLE_LIMIT }
-    requires often { StandOften store.old.slots left right }
+    requires room { pair.now.vars + 1 < VARIABLE_LIMIT }
+    requires often { StandOften store.old.slots pair.now.left pair.now.right }
     requires fit { FitNames names.old store.old.slots (S.lines sink.old) }
-    ensures variable { IfOk result (λ d. d.variable ≡ vars + 1) }
+    ensures variable { IfOk result (λ d. d.variable ≡ pair.now.vars + 1) }
     ensures defined { IfOk result (λ d. IsDefined store.new.slots d) }
     ensures fit { OnOk result (FitNames names.new store.new.slots (S.lines sink.new)) }
-    ensures moves { Moves result (stage_of vars store.old.slots names.old (S.lines sink.old))
-        (stage_of (vars + 1) store.new.slots names.new (S.lines sink.new)) }
+    ensures moves { Moves result
+        (stage_of pair.now.vars store.old.slots names.old (S.lines sink.old))
+        (stage_of (pair.now.vars + 1) store.new.slots names.new (S.lines sink.new)) }
 {
     sink.is_short();
-    let variable = vars + 1;
-    let fresh = Lit::new(variable, false);
-    let lits = [fresh.negation(), left, right];
-    let whole = add(store, names, sink, Kind::Definition, &lits, &[])?;
-    let left_side = add_side(store, names, sink, variable, left, whole)?;
-    let right_side = add_side(store, names, sink, variable, right, whole)?;
+    let variable = pair.vars + 1;
+    let lits = whole_lits(variable, pair.left, pair.right);
+    let addition = Addition {
+        kind: Kind::Definition,
+        lits: &lits,
+        hints: &[],
+    };
+    let whole = add(store, names, sink, &addition)?;
+    let side = Side {
+        variable,
+        lit: pair.left,
+        whole,
+    };
+    let left_side = add_side(store, names, sink, &side)?;
+    let side = Side {
+        variable,
+        lit: pair.right,
+        whole,
+    };
+    let right_side = add_side(store, names, sink, &side)?;
     Ok(PairDefinition {
         variable,
-        left,
-        right,
+        left: pair.left,
+        right: pair.right,
         whole,
         left_side,
         right_side,
     })
+}
+
+/// The literals of 'not the variable, or left or right'.
+fn whole_lits(variable: u32, left: Lit, right: Lit) -> [Lit; 3]
+    requires from_one { 0 < variable }
+    requires small { variable < VARIABLE_LIMIT }
+    ensures clause { result ≡ whole_clause variable left right }
+    ensures named { All (λ k. IsId k.variable) result }
+{
+    [Lit::new(variable, false).negation(), left, right]
 }
 
 /// Adds the clause 'the variable, or not the literal', after the clause with the variable's
@@ -267,23 +243,26 @@ fn add_side<S: Sink>(
     store: &mut Store,
     names: &mut Names,
     sink: &mut S,
-    variable: u32,
-    lit: Lit,
-    whole: CRef,
+    side: &Side,
 ) -> Result<CRef, AllocError>
-    requires from_one { 0 < variable }
-    requires small { variable < VARIABLE_LIMIT }
-    requires named { whole < length names.old.names }
+    requires from_one { 0 < side.now.variable }
+    requires small { side.now.variable < VARIABLE_LIMIT }
+    requires named { side.now.whole < length names.old.names }
     requires counted { names.old.additions ≡ added_count (S.lines sink.old) }
-    ensures adds { IfOk result (λ r.
-        AddsLine (side_line variable lit (name_at names.old.names whole))
+    ensures adds { IfOk result (λ r. AddsLine
+        (side_line side.now.variable side.now.lit (name_at names.old.names side.now.whole))
         store.old.slots names.old (S.lines sink.old) r
         store.new.slots names.new (S.lines sink.new)) }
     ensures err { OnErr result (S.lines sink.new ≡ S.lines sink.old) }
 {
-    let lits = [Lit::new(variable, false), lit.negation()];
-    let hint = Hint::Group(names.get(whole));
-    add(store, names, sink, Kind::Definition, &lits, &[hint])
+    let lits = [Lit::new(side.variable, false), side.lit.negation()];
+    let hint = Hint::Group(names.get(side.whole));
+    let addition = Addition {
+        kind: Kind::Definition,
+        lits: &lits,
+        hints: &[hint],
+    };
+    add(store, names, sink, &addition)
 }
 
 /// Puts the variable of a definition into a clause in the place of its pair: a clause with the
@@ -313,8 +292,12 @@ fn replace<S: Sink>(
     let left_side = plain(names, definition.left_side);
     let right_side = plain(names, definition.right_side);
     let clause = plain(names, reference);
-    let hints = [left_side, right_side, clause];
-    let new = add(store, names, sink, Kind::Resolvent, &lits, &hints)?;
+    let addition = Addition {
+        kind: Kind::Resolvent,
+        lits: &lits,
+        hints: &[left_side, right_side, clause],
+    };
+    let new = add(store, names, sink, &addition)?;
     delete(store, names, sink, reference)?;
     Ok(new)
 }

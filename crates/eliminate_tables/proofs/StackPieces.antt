@@ -9,18 +9,19 @@ use Rattle.cnf.specs.Literal.{Literal}
 use Rattle.cnf.proofs.Laws.{range-append, range-appended}
 use Rattle.eliminate_tables.specs.declared.stack.Piece.{Piece}
 use Rattle.eliminate_tables.specs.declared.stack.Gone.{Gone}
-use Rattle.eliminate_tables.specs.Flat.{clause_in, clauses_at, one_removed, removed_in, IsWithin}
+use Rattle.eliminate_tables.specs.Flat.{clause_in, clauses_at, one_removed, removed_in}
+use Rattle.eliminate_tables.specs.Flat.{IsPieceWithin}
 use Rattle.eliminate_tables.specs.Flat.{IsGone, AreRemovals, AddsClauses}
 
 -- pieces of the first literals
-clauses_at-append : (ls more : List Literal) (ps : List Piece) → All (IsWithin (length ls)) ps
+clauses_at-append : (ls more : List Literal) (ps : List Piece) → All (IsPieceWithin (length ls)) ps
     → clauses_at (ls ++ more) ps ≡ clauses_at ls ps
 clauses_at-append ls more [] all = refl
 clauses_at-append ls more (p ∷ ps) all =
-    let h = All-head (IsWithin (length ls)) p ps all in
+    let h = All-head (IsPieceWithin (length ls)) p ps all in
     rw (
       range-append ls more p.start p.end h.0 h.1,
-      clauses_at-append ls more ps (All-tail (IsWithin (length ls)) p ps all),
+      clauses_at-append ls more ps (All-tail (IsPieceWithin (length ls)) p ps all),
     ) refl
 
 pub adds_none : (ps : List Piece) (ls : List Literal) → AddsClauses ps ps ls ls []
@@ -29,7 +30,7 @@ adds_none ps ls = record {
   more_literals = [];
   pieces_are = sym (append-nil ps);
   literals_are = sym (append-nil ls);
-  within = All-nil (IsWithin (length ls));
+  within = All-nil (IsPieceWithin (length ls));
   clauses_are = refl;
 }
 
@@ -39,7 +40,7 @@ adds_longer ps ls more = record {
   more_literals = more;
   pieces_are = sym (append-nil ps);
   literals_are = refl;
-  within = All-nil (IsWithin (length (ls ++ more)));
+  within = All-nil (IsPieceWithin (length (ls ++ more)));
   clauses_are = refl;
 }
 
@@ -53,8 +54,8 @@ adds_one ps ls c p from to =
       pieces_are = refl;
       literals_are = refl;
       within =
-          All-cons (IsWithin (length (ls ++ c))) p [] (omega arith, omega arith)
-          (All-nil (IsWithin (length (ls ++ c))));
+          All-cons (IsPieceWithin (length (ls ++ c))) p [] (omega arith, omega arith)
+          (All-nil (IsPieceWithin (length (ls ++ c))));
       clauses_are = ap (λ x. x ∷ []) (range-appended ls c p.start p.end from long);
     }
 
@@ -72,8 +73,8 @@ adds_join ps qs rs ls ms ns cs ds a b =
       literals_are = b.literals_are ∙ ap (λ xs. xs ++ b.more_literals) a.literals_are
           ∙ append_assoc ls a.more_literals b.more_literals;
       within =
-          All-append (IsWithin (length ns)) a.more b.more
-          (All-weaker (IsWithin (length ms)) (IsWithin (length ns))
+          All-append (IsPieceWithin (length ns)) a.more b.more
+          (All-weaker (IsPieceWithin (length ms)) (IsPieceWithin (length ns))
           (λ p h. (h.0, omega (arith, h.1))) a.more a.within) b.within;
       clauses_are = map-append (clause_in ns) a.more b.more
           ∙ ap (λ xs. xs ++ clauses_at ns b.more) (ap (λ xs. clauses_at xs a.more) b.literals_are
@@ -83,16 +84,16 @@ adds_join ps qs rs ls ms ns cs ds a b =
 
 -- what was removed before stays as it was
 removed_in-same : (gone : List Gone) (ps more : List Piece) (ls longer : List Literal)
-    → All (IsGone (length ps)) gone → All (IsWithin (length ls)) ps
+    → All (IsGone (length ps)) gone → All (IsPieceWithin (length ls)) ps
     → removed_in gone (ps ++ more) (ls ++ longer) ≡ removed_in gone ps ls
 removed_in-same [] ps more ls longer all within = refl
 removed_in-same (g ∷ gone) ps more ls longer all within =
     let h = All-head (IsGone (length ps)) g gone all in
     let part : slice_range (ps ++ more) g.start g.end ≡ slice_range ps g.start g.end =
     range-append ps more g.start g.end h.2 h.3 in
-    let pieces : All (IsWithin (length ls)) (slice_range ps g.start g.end) =
-    All-take (IsWithin (length ls)) (g.end - g.start) _
-    (All-drop (IsWithin (length ls)) g.start ps within) in
+    let pieces : All (IsPieceWithin (length ls)) (slice_range ps g.start g.end) =
+    All-take (IsPieceWithin (length ls)) (g.end - g.start) _
+    (All-drop (IsPieceWithin (length ls)) g.start ps within) in
     rw (
       part,
       clauses_at-append ls longer (slice_range ps g.start g.end) pieces,
@@ -114,9 +115,9 @@ module _ (gone : List Gone) (ps qs : List Piece) (ls ms : List Literal) (cs : Li
     each_gone =
         All-weaker (IsGone (length ps)) (IsGone (length qs))
         (λ g h. (h.0, h.1, h.2, omega (arith, h.3, pieces_long))) gone r.each_gone;
-    each_piece = subst (All (IsWithin (length ms))) (sym a.pieces_are)
-        (All-append (IsWithin (length ms)) ps a.more
-        (All-weaker (IsWithin (length ls)) (IsWithin (length ms))
+    each_piece = subst (All (IsPieceWithin (length ms))) (sym a.pieces_are)
+        (All-append (IsPieceWithin (length ms)) ps a.more
+        (All-weaker (IsPieceWithin (length ls)) (IsPieceWithin (length ms))
         (λ p h. (h.0, omega (arith, h.1, literals_long))) ps r.each_piece) a.within);
   }
 

@@ -21,8 +21,8 @@ one_removed pieces literals g = record {
 abbrev pub removed_in : List Gone → List Piece → List Literal → List Removed
 removed_in gone pieces literals = map (one_removed pieces literals) gone
 
-abbrev pub IsWithin : ℕ → Piece → Type 0
-IsWithin count p = (p.start ≤ p.end) × (p.end ≤ count)
+abbrev pub IsPieceWithin : ℕ → Piece → Type 0
+IsPieceWithin count p = (p.start ≤ p.end) × (p.end ≤ count)
 
 abbrev pub IsGone : ℕ → Gone → Type 0
 IsGone count g =
@@ -31,7 +31,7 @@ IsGone count g =
 pub record AreRemovals (gone : List Gone) (pieces : List Piece) (literals : List Literal) : Type 0
   where
     pub each_gone : All (IsGone (length pieces)) gone
-    pub each_piece : All (IsWithin (length literals)) pieces
+    pub each_piece : All (IsPieceWithin (length literals)) pieces
 
 -- these clauses come after those before, in pieces and literals of their own
 pub record AddsClauses (pieces after : List Piece) (literals longer : List Literal)
@@ -40,5 +40,5 @@ pub record AddsClauses (pieces after : List Piece) (literals longer : List Liter
   pub more_literals : List Literal
   pub pieces_are : after ≡ pieces ++ more
   pub literals_are : longer ≡ literals ++ more_literals
-  pub within : All (IsWithin (length longer)) more
+  pub within : All (IsPieceWithin (length longer)) more
   pub clauses_are : clauses_at longer more ≡ clauses

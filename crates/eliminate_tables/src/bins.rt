@@ -65,6 +65,16 @@ pub struct Bins {
     steps: usize,
 }
 
+/// A clause of the store that others are held against, with its literals marked.
+#[derive(Clone, Copy, Drop)]
+struct Marked<'m, 's> {
+    marks: &'m Marks,
+    store: &'s Store,
+    reference: CRef,
+    // The bits of its literals and of their negations.
+    signature: u64,
+}
+
 /// A clause that was found beside another one.
 #[derive(Clone, Copy, Drop)]
 pub struct ClauseBeside {
@@ -193,27 +203,55 @@ impl Bins {
         ensures same_view { self.new ≡ self.old }
         ensures found { IfSome result (IsOther marks.now store.now.slots current) }
     {
-        let signature = signature_both(lits);
+        let marked = Marked {
+            marks,
+            store,
+            reference: current,
+            signature: signature_both(lits),
+        };
         for lit in lits {
             for row in [lit.index(), lit.negation().index()] {
                 if self.steps == 0 {
                     return None;
                 }
                 if let Some(bin) = self.bins.get(row) {
-                    let found = find(
-                        bin,
-                        &self.references,
-                        &self.signatures,
-                        &mut self.fits,
-                        &mut self.steps,
-                        signature,
-                        marks,
-                        store,
-                        current,
-                    );
+                    let bin = *bin;
+                    let found = self.find_in(bin, &marked);
                     if found.is_some() {
                         return found;
                     }
+                }
+            }
+        }
+        None
+    }
+
+    /// Another clause of the bin that is within the marked one, or but for one literal.
+    fn find_in(&mut self, bin: Bin, marked: &Marked) -> Option<ClauseBeside>
+        requires { ArePlaced (length marked.now.marks.now) marked.now.store.now.slots }
+        ensures same_view { self.new ≡ self.old }
+        ensures found { IfSome result
+            (IsOther marked.now.marks.now marked.now.store.now.slots marked.now.reference) }
+    {
+        let start = bin.start as usize;
+        let count = bin.length as usize;
+        let end = start + count;
+        if count > self.fits.len() || end > self.references.len() || end > self.signatures.len() {
+            return None;
+        }
+        self.steps = self.steps.saturating_sub(1 + count / 8);
+        if bin.common & marked.signature != bin.common {
+            return None;
+        }
+        let fits = &mut self.fits[..count];
+        maybe_subsets(marked.signature, &self.signatures[start..end], fits);
+        for (by, fit) in self.references[start..end].iter().zip(fits.iter()) {
+            if *fit && *by != marked.reference && self.steps > 0 && marked.store.is_live(*by) {
+                let lits = marked.store.lits(*by);
+                self.steps = self.steps.saturating_sub(lits.len());
+                let against = hold_against(marked.marks, lits);
+                if against != Against::Apart {
+                    return Some(ClauseBeside { by: *by, against });
                 }
             }
         }
@@ -322,45 +360,6 @@ fn clean(bin: &mut Bin, references: &mut [CRef], signatures: &mut [u64], store: 
     }
     bin.length = kept;
     bin.common = common;
-}
-
-/// Another clause of the bin that is within the marked one, or but for one literal.
-fn find(
-    bin: &Bin,
-    references: &[CRef],
-    signatures: &[u64],
-    fits: &mut [bool],
-    steps: &mut usize,
-    signature: u64,
-    marks: &Marks,
-    store: &Store,
-    current: CRef,
-) -> Option<ClauseBeside>
-    requires { ArePlaced (length marks.now) store.now.slots }
-    ensures { IfSome result (IsOther marks.now store.now.slots current) }
-{
-    let start = bin.start as usize;
-    let count = bin.length as usize;
-    let end = start + count;
-    if count > fits.len() || end > references.len() || end > signatures.len() {
-        return None;
-    }
-    *steps = steps.saturating_sub(1 + count / 8);
-    if bin.common & signature != bin.common {
-        return None;
-    }
-    maybe_subsets(signature, &signatures[start..end], &mut fits[..count]);
-    for (by, fit) in references[start..end].iter().zip(fits.iter()) {
-        if *fit && *by != current && *steps > 0 && store.is_live(*by) {
-            let lits = store.lits(*by);
-            *steps = steps.saturating_sub(lits.len());
-            let against = hold_against(marks, lits);
-            if against != Against::Apart {
-                return Some(ClauseBeside { by: *by, against });
-            }
-        }
-    }
-    None
 }
 
 /// The bits of the literals and of their negations: a clause that strengthens has one literal

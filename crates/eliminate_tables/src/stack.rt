@@ -8,7 +8,7 @@ ghost use Rattle.cnf.specs.Bits.{assignment_of};
 ghost use Rattle.eliminate_tables.specs.Removals.{Removed, extended, is_needed};
 ghost use Rattle.eliminate_tables.specs.Removals.{becomes_true};
 ghost use Rattle.clauses.specs.Slots.{IsLive};
-ghost use Rattle.eliminate_tables.specs.Flat.{clauses_at, IsWithin, AddsClauses};
+ghost use Rattle.eliminate_tables.specs.Flat.{clauses_at, IsPieceWithin, AddsClauses};
 ghost use Rattle.eliminate_tables.specs.Rows.{clauses_under};
 
 use clauses::store::{CRef, Store};
@@ -165,7 +165,7 @@ fn copy_clause(
 /// Whether some clause needs the variable to be true.
 fn some_needed(pieces: &[Piece], literals: &[Lit], variable: u32, bits: &[bool]) -> bool
     requires variable { (0 < variable) × (variable < VARIABLE_LIMIT) }
-    requires within { All (IsWithin (length literals.now)) pieces.now }
+    requires within { All (IsPieceWithin (length literals.now)) pieces.now }
     ensures { result ≡ becomes_true (assignment_of bits.now) (record {
       variable = variable;
       clauses = clauses_at literals.now pieces.now;

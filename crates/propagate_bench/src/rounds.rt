@@ -63,27 +63,26 @@ pub(crate) fn play_rounds(
     let mut signs = Signs(1);
     for round in 0..rounds {
         let first = round.wrapping_mul(ROUND_STEP) % u64::from(vars);
-        play(engine, store, vars, first as u32, &mut signs, &mut counts)?;
+        play(engine, store, first as u32, &mut signs, &mut counts)?;
     }
     Ok(counts)
 }
 
-/// Plays one round, and undoes it.
+/// Plays one round, which begins with the variable at the place `first`, from 0, and undoes it.
 fn play(
     engine: &mut Engine,
     store: &Store,
-    vars: u32,
     first: u32,
     signs: &mut Signs,
     counts: &mut RoundCounts,
 ) -> Result<(), BenchFault>
     requires fits { Fits engine.old store.now.slots }
-    requires vars { engine.old.variables ≡ vars }
-    requires few { vars < VARIABLE_LIMIT }
-    requires first { first < vars }
+    requires few { engine.old.variables < VARIABLE_LIMIT }
+    requires first { first < engine.old.variables }
     ensures fits { OnOk result (Fits engine.new store.now.slots) }
-    ensures vars { OnOk result (engine.new.variables ≡ vars) }
+    ensures vars { OnOk result (engine.new.variables ≡ engine.old.variables) }
 {
+    let vars = engine.variables();
     let step = DECISION_STEP % vars;
     let before = engine.trail().len();
     let mut at = first;

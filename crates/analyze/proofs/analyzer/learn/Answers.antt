@@ -59,7 +59,7 @@ greatest-back_level-requires c =
     let e = c.args.engine.now in
     let M = c.minimise.new.marking.marks.items in
     let u = c.resolve-asserting.result in
-    let is : c.deref.result.now ≡ M = c.deref.ensures.value ∙ c.put_in_order.ensures.same in
+    let is : c.put_in_order.new.marking.marks.items ≡ M = c.put_in_order.ensures.same in
     let lits = rw is at c.in_ok-collect.ensures.lits in
     let tail = tail_is (negation u) (others_in M u (literals_of e.trail)) c.as_slice.result.now
     (c.as_slice.ensures ∙ lits) in
@@ -78,7 +78,7 @@ returns-clause-learns c =
     let u = c.resolve-asserting.result in
     let back = c.greatest-back_level.result in
     let reduces = c.minimise.ensures.reduces in
-    let is : c.deref.result.now ≡ M = c.deref.ensures.value ∙ c.put_in_order.ensures.same in
+    let is : c.put_in_order.new.marking.marks.items ≡ M = c.put_in_order.ensures.same in
     let lits = rw is at c.in_ok-collect.ensures.lits in
     let hints = rw is at c.in_ok-collect.ensures.hints in
     let tail =
@@ -126,8 +126,7 @@ put_in_order-requires-clause-small c = λ i d lt.
 
 pub collect-requires-clause-along : goal.collect-requires-clause-along
 collect-requires-clause-along c =
-    rw (c.deref.ensures.value, c.deref-2.ensures.value)
-    (c.put_in_order.ensures.along c.args.store.now.slots c.requires.can.fits)
+    c.put_in_order.ensures.along c.args.store.now.slots c.requires.can.fits
 
 pub returns-in_err-collect-clause-lists : goal.returns-in_err-collect-clause-lists
 returns-in_err-collect-clause-lists c =
@@ -140,4 +139,6 @@ returns-in_err-hints-clause-lists c =
 pub returns-clause-lists : goal.returns-clause-lists
 returns-clause-lists c =
     let l = lists (goal.at.returns-clause-lists c).After-clear in
-    record { listed = l.listed; long = l.long; spare = l.spare }
+    subst (ListsMarked c.args.engine.now.trail c.args.marking.now)
+    (sym c.meet_reasons.ensures.rest)
+    (record { listed = l.listed; long = l.long; spare = l.spare })

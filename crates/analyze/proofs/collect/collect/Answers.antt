@@ -7,7 +7,7 @@ use Rattle.propagate.specs.Trail.{Assigned, literals_of, reason_in}
 use Rattle.analyze.specs.Analyzer.{chosen_reasons}
 use Rattle.analyze.specs.declared.marks.Mark.TheVariants.{Kept, Resolved}
 use Rattle.analyze.specs.Marks.{mark_at, is_resolved, others_in, resolved_of}
-use Rattle.analyze.specs.Met.{nowhere, variable_at}
+use Rattle.analyze.specs.Met.{nowhere, variable_at, GoesAlong}
 use Rattle.analyze.proofs.Reasoning.{reason_at}
 use Rattle.analyze.proofs.Listing.{sweep_first, sweep_next}
 use Rattle.analyze.proofs.Walking.{literal_here}
@@ -23,35 +23,38 @@ use Rattle.analyze.proofs.collect.collect.Goals.{else-eq-2-via-then-eq-2+in-None
 
 pub loop-position-init : goal.loop-position-init
 loop-position-init c =
-    let M = c.args.marks.now in
-    let u = c.args.asserting in
+    let M = c.deref-marks.result.now in
+    let u = c.args.derivation.now.asserting in
     let e = c.args.engine.now in
     let T = e.trail in
-    let met = c.args.met.now in
+    let met = c.deref-met.result.now in
     let chosen : Literal → Bool = λ k. resolved_of M k.variable in
-    let first = sweep_first (others_in M u) (literals_of T) e M met c.requires.along
+    let along : GoesAlong e M met =
+    rw (c.deref-marks.ensures.value, c.deref-met.ensures.value) c.requires.along in
+    let first = sweep_first (others_in M u) (literals_of T) e M met along
     (others_pass T M u) in
     record {
       lits = c.in_ok-push.ensures.ok ∙ ap (λ x. x ++ c.negation.result ∷ []) c.requires.none
           ∙ ap (λ x. x ∷ []) c.negation.ensures ∙ ap (λ x. negation u ∷ x) (sym first);
       hints = c.requires.no_hints
-          ∙ sym (sweep_first (chosen_reasons chosen) T e M met c.requires.along (chosen_pass T M));
+          ∙ sym (sweep_first (chosen_reasons chosen) T e M met along (chosen_pass T M));
       few = (let none = ap length c.requires.no_hints in omega arith);
-      room = c.requires.room;
+      room = rw (c.deref-met.ensures.value) c.requires.room;
     }
 
 pub loop-position-preserved : goal.loop-position-preserved
 loop-position-preserved c =
-    let M = c.args.marks.now in
-    let u = c.args.asserting in
+    let M = c.deref-marks.result.now in
+    let u = c.args.derivation.now.asserting in
     let e = c.args.engine.now in
     let T = e.trail in
     let L = literals_of T in
-    let met = c.args.met.now in
+    let met = c.deref-met.result.now in
     let q = c.loop-position.position-index in
     let p = get_or met q 0 in
     let lt : q < length met = c.loop-position-test.true in
-    let along = c.requires.along in
+    let along : GoesAlong e M met =
+    rw (c.deref-marks.ensures.value, c.deref-met.ensures.value) c.requires.along in
     let i = c.loop-position.invariant in
     let within : p < length T = along.listed.within q 0 lt in
     let k = c.literal_at-lit.result in

@@ -1,4 +1,4 @@
-use Rattle.std.proofs.Common.{rules, arith, ◌≡◌, ◌∙◌}
+use Rattle.std.proofs.Common.{rules, arith, ◌≡◌}
 use Rattle.clauses.specs.Slots.{clause_at}
 use Rattle.analyze.specs.Met.{ListsMarked}
 use Rattle.analyze.proofs.Fitting.{reason_live, reason_named}
@@ -52,8 +52,7 @@ put_in_order-requires-clause-small c = λ i d lt.
 
 pub collect-requires-clause-along : goal.collect-requires-clause-along
 collect-requires-clause-along c =
-    rw (c.deref.ensures.value, c.deref-2.ensures.value)
-    (c.put_in_order.ensures.along c.args.store.now.slots c.requires.fits)
+    c.put_in_order.ensures.along c.args.store.now.slots c.requires.fits
 
 pub returns-in_err-collect-clause-lists : goal.returns-in_err-collect-clause-lists
 returns-in_err-collect-clause-lists c =
@@ -73,7 +72,7 @@ returns-clause-learns c =
     let at = clause_at slots in
     let wrong = c.lits.result.now in
     let M = c.resolve_before.new.marking.marks.items in
-    let is : c.deref.result.now ≡ M = c.deref.ensures.value ∙ c.put_in_order.ensures.same in
+    let is : c.put_in_order.new.marking.marks.items ≡ M = c.put_in_order.ensures.same in
     let lits = rw is at c.in_ok-collect.ensures.lits in
     let hints = rw is at c.in_ok-collect.ensures.hints in
     let reduces = c.resolve_before.ensures.reduces in

@@ -19,39 +19,39 @@ use Rattle.eliminate.proofs.resolving.add_resolvent.Goals as goal
 pub resolve-requires-clause-first : goal.resolve-requires-clause-first
 resolve-requires-clause-first g c =
     literals_placed c.args.simplifier.now c.args.store.now.slots (g.S.Sink.lines c.args.sink.now)
-    c.requires.is_open.simplified c.args.first c.lits.result.now c.lits.ensures
+    c.requires.is_open.simplified c.args.clash.now.first c.lits.result.now c.lits.ensures
 
 pub resolve-requires-clause-second : goal.resolve-requires-clause-second
 resolve-requires-clause-second g c =
     literals_placed c.args.simplifier.now c.args.store.now.slots (g.S.Sink.lines c.args.sink.now)
-    c.requires.is_open.simplified c.args.second c.lits-2.result.now c.lits-2.ensures
+    c.requires.is_open.simplified c.args.clash.now.second c.lits-2.result.now c.lits-2.ensures
 
 pub resolve-requires-clause-plain_first : goal.resolve-requires-clause-plain_first
 resolve-requires-clause-plain_first g c =
     literals_plain c.args.simplifier.now c.args.store.now.slots (g.S.Sink.lines c.args.sink.now)
-    c.requires.is_open.simplified c.args.first c.lits.result.now c.lits.ensures
+    c.requires.is_open.simplified c.args.clash.now.first c.lits.result.now c.lits.ensures
 
 pub resolve-requires-clause-plain_second : goal.resolve-requires-clause-plain_second
 resolve-requires-clause-plain_second g c =
     literals_plain c.args.simplifier.now c.args.store.now.slots (g.S.Sink.lines c.args.sink.now)
-    c.requires.is_open.simplified c.args.second c.lits-2.result.now c.lits-2.ensures
+    c.requires.is_open.simplified c.args.clash.now.second c.lits-2.result.now c.lits-2.ensures
 
 pub parents-hints-requires-clause-first : goal.parents-hints-requires-clause-first
 parents-hints-requires-clause-first g c =
     is_named c.args.simplifier.now c.args.store.now.slots (g.S.Sink.lines c.args.sink.now)
-    c.requires.is_open.simplified c.args.first c.lits.result.now c.lits.ensures
+    c.requires.is_open.simplified c.args.clash.now.first c.lits.result.now c.lits.ensures
 
 pub parents-hints-requires-clause-second : goal.parents-hints-requires-clause-second
 parents-hints-requires-clause-second g c =
     is_named c.args.simplifier.now c.args.store.now.slots (g.S.Sink.lines c.args.sink.now)
-    c.requires.is_open.simplified c.args.second c.lits-2.result.now c.lits-2.ensures
+    c.requires.is_open.simplified c.args.clash.now.second c.lits-2.result.now c.lits-2.ensures
 
 pub add-requires-clause-line : goal.add-requires-clause-line
 add-requires-clause-line g c start h =
     let s : Simplifier = c.args.simplifier.now in
     let t : Simplifier = record s { marks = c.resolve.new.marks; clause = c.resolve.new.out } in
     let slots : Slots = c.args.store.now.slots in
-    let p = c.args.pivot in
+    let p = c.args.clash.now.pivot in
     let d = c.lits.result.now in
     let e = c.lits-2.result.now in
     let plain = c.in_ok-is_plain.ensures.plain in
@@ -59,14 +59,16 @@ add-requires-clause-line g c start h =
     let kind = resolvent_kind c.deref.result.now c.kind_of-kind.result c.kind_of-kind.ensures in
     let has : contains_literal p d ≡ true =
     subst (λ (x : List Literal). contains_literal p x ≡ true)
-    (same_at slots c.args.first c.requires.first.0 d c.requires.first.1 c.lits.ensures)
+    (same_at slots c.args.clash.now.first c.requires.first.0 d c.requires.first.1 c.lits.ensures)
     c.requires.first.2 in
     let has_not : contains_literal (negation p) e ≡ true =
     subst (λ (x : List Literal). contains_literal (negation p) x ≡ true)
-    (same_at slots c.args.second c.requires.second.0 e c.requires.second.1 c.lits-2.ensures)
+    (same_at slots c.args.clash.now.second c.requires.second.0 e c.requires.second.1
+    c.lits-2.ensures)
     c.requires.second.2 in
-    resolvent_addable start t slots (g.S.Sink.lines c.args.sink.now) p d e c.args.first
-    c.args.second h c.lits.ensures c.lits-2.ensures c.kind_of-kind.result c.resolve.new.out.items
+    resolvent_addable start t slots (g.S.Sink.lines c.args.sink.now) p d e c.args.clash.now.first
+    c.args.clash.now.second h c.lits.ensures c.lits-2.ensures c.kind_of-kind.result
+    c.resolve.new.out.items
     c.parents-hints.result
     kind.0 kind.1 has has_not (not-true _ (sym plain ∙ is_plain))
     (c.in_ok-is_plain.ensures.built is_plain) c.parents-hints.ensures
@@ -83,20 +85,23 @@ returns-clause-grows g c =
     let s : Simplifier = c.args.simplifier.now in
     let slots : Slots = c.args.store.now.slots in
     let ls : List LogLine = g.S.Sink.lines c.args.sink.now in
-    let p = c.args.pivot in
+    let p = c.args.clash.now.pivot in
     let d = c.lits.result.now in
     let e = c.lits-2.result.now in
     let has : contains_literal p d ≡ true =
     subst (λ (x : List Literal). contains_literal p x ≡ true)
-    (same_at slots c.args.first c.requires.first.0 d c.requires.first.1 c.lits.ensures)
+    (same_at slots c.args.clash.now.first c.requires.first.0 d c.requires.first.1 c.lits.ensures)
     c.requires.first.2 in
     let has_not : contains_literal (negation p) e ≡ true =
     subst (λ (x : List Literal). contains_literal (negation p) x ≡ true)
-    (same_at slots c.args.second c.requires.second.0 e c.requires.second.1 c.lits-2.ensures)
+    (same_at slots c.args.clash.now.second c.requires.second.0 e c.requires.second.1
+    c.lits-2.ensures)
     c.requires.second.2 in
     let lacks =
-    resolvent-lacks p d e (literals_plain s slots ls c.requires.is_open.simplified c.args.first d
-    c.lits.ensures) (literals_plain s slots ls c.requires.is_open.simplified c.args.second e
+    resolvent-lacks p d e (literals_plain s slots ls c.requires.is_open.simplified
+    c.args.clash.now.first d
+    c.lits.ensures) (literals_plain s slots ls c.requires.is_open.simplified c.args.clash.now.second
+    e
     c.lits-2.ensures) has has_not in
     subst (GrowsWithout p slots)
     (sym (c.in_ok-reference.ensures.adds.slots
@@ -108,8 +113,9 @@ pub returns-clause-resolved : goal.returns-clause-resolved
 returns-clause-resolved g c x y ex ey =
     inr (
       length c.args.store.now.slots,
-      pair_added c.args.pivot c.args.store.now.slots c.add.new.store.slots c.args.first
-          c.args.second c.lits.result.now c.lits-2.result.now c.resolve.new.out.items
+      pair_added c.args.clash.now.pivot c.args.store.now.slots c.add.new.store.slots
+          c.args.clash.now.first
+          c.args.clash.now.second c.lits.result.now c.lits-2.result.now c.resolve.new.out.items
           c.in_ok-reference.ensures.adds.slots
           (c.in_ok-is_plain.ensures.built c.if-not-is_plain.false)
           c.lits.ensures c.lits-2.ensures x y ex ey,
@@ -120,8 +126,9 @@ returns-clause-added g c = (
   c.in_ok-reference.ensures.adds.reference,
   λ x y ex ey.
       ap (clause_at c.add.new.store.slots) c.in_ok-reference.ensures.adds.reference
-      ∙ pair_added c.args.pivot c.args.store.now.slots c.add.new.store.slots c.args.first
-      c.args.second c.lits.result.now c.lits-2.result.now c.resolve.new.out.items
+      ∙ pair_added c.args.clash.now.pivot c.args.store.now.slots c.add.new.store.slots
+      c.args.clash.now.first
+      c.args.clash.now.second c.lits.result.now c.lits-2.result.now c.resolve.new.out.items
       c.in_ok-reference.ensures.adds.slots (c.in_ok-is_plain.ensures.built c.if-not-is_plain.false)
       c.lits.ensures c.lits-2.ensures x y ex ey,
 )

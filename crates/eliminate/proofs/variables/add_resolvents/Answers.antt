@@ -1,5 +1,6 @@
 -- All pairs of one clause more are resolved.
-use Rattle.std.proofs.Common.{List, ℕ, sym, subst, arith}
+use Rattle.std.proofs.Common.{List, ℕ, ◌∙◌, sym, subst, arith}
+use Rattle.std.specs.Prelude.{All}
 use Rattle.std.proofs.lemmas.List.{take_all}
 use Rattle.std.proofs.lemmas.Result.{MatchResult-from_err}
 use Rattle.cnf.specs.Literal.{negation}
@@ -9,15 +10,20 @@ use Rattle.eliminate.proofs.variables.add_resolvents.Goals as goal
 
 pub add_resolvents_of-requires-clause-first : goal.add_resolvents_of-requires-clause-first
 add_resolvents_of-requires-clause-first g c =
-    with_later c.args.pivot c.args.store.now.slots c.loop-first.store.slots c.first-item.result
+    let firsts : All (IsWith c.args.parents.now.pivot c.args.store.now.slots)
+    c.deref-first-items.result.now =
+    rw c.deref-first-items.ensures.value c.requires.firsts in
+    with_later c.args.parents.now.pivot c.args.store.now.slots c.loop-first.store.slots
+    c.first-item.result
     c.loop-first.invariant.grows.kept
-    (subst (IsWith c.args.pivot c.args.store.now.slots) (sym c.first-item.is)
-    (c.requires.firsts c.loop-first.first-index c.first-item.result c.loop-first-test.true))
+    (subst (IsWith c.args.parents.now.pivot c.args.store.now.slots) (sym c.first-item.is)
+    (firsts c.loop-first.first-index c.first-item.result c.loop-first-test.true))
 
 pub add_resolvents_of-requires-clause-seconds : goal.add_resolvents_of-requires-clause-seconds
 add_resolvents_of-requires-clause-seconds g c =
-    all_with_later (negation c.args.pivot) c.args.store.now.slots c.loop-first.store.slots
-    c.args.seconds.now c.loop-first.invariant.grows.kept c.requires.seconds
+    all_with_later (negation c.args.parents.now.pivot) c.args.store.now.slots
+    c.loop-first.store.slots
+    c.args.parents.now.negative.items c.loop-first.invariant.grows.kept c.requires.seconds
 
 pub returns-in_err-add_resolvents_of-clause-passes
     : goal.returns-in_err-add_resolvents_of-clause-passes
@@ -28,7 +34,7 @@ returns-in_err-add_resolvents_of-clause-passes g c =
 
 pub returns-then-simplifier-clause-grows : goal.returns-then-simplifier-clause-grows
 returns-then-simplifier-clause-grows g c =
-    grows_join c.args.pivot c.args.store.now.slots c.loop-first.store.slots
+    grows_join c.args.parents.now.pivot c.args.store.now.slots c.loop-first.store.slots
     c.add_resolvents_of.new.store.slots c.loop-first.invariant.grows
     c.in_ok-add_resolvents_of.ensures.grows
 
@@ -39,12 +45,13 @@ loop-first-preserved g c = record {
       (c.loop-first.invariant.simplified start h);
   works = c.if-simplifier.false;
   grows =
-      grows_join c.args.pivot c.args.store.now.slots c.loop-first.store.slots
+      grows_join c.args.parents.now.pivot c.args.store.now.slots c.loop-first.store.slots
       c.add_resolvents_of.new.store.slots c.loop-first.invariant.grows
       c.in_ok-add_resolvents_of.ensures.grows;
   resolved =
-      next_pairs c.args.pivot c.args.store.now.slots c.loop-first.store.slots
-      c.add_resolvents_of.new.store.slots c.args.firsts.now c.args.seconds.now
+      next_pairs c.args.parents.now.pivot c.args.store.now.slots c.loop-first.store.slots
+      c.add_resolvents_of.new.store.slots c.deref-first-items.result.now
+      c.args.parents.now.negative.items
       c.loop-first.first-index c.first-item.result
       c.loop-first-test.true c.first-item.is c.loop-first.invariant.grows
       c.in_ok-add_resolvents_of.ensures.grows c.loop-first.invariant.resolved
@@ -53,7 +60,8 @@ loop-first-preserved g c = record {
 
 pub returns-clause-resolved : goal.returns-clause-resolved
 returns-clause-resolved g c works =
-    subst (λ (fs : List ℕ). ArePairsResolved c.args.pivot c.args.store.now.slots
-    c.loop-first.store.slots fs c.args.seconds.now)
-    (take_all c.loop-first.first-index c.args.firsts.now (let e = c.loop-first-test.false in
-    omega arith)) c.loop-first.invariant.resolved
+    subst (λ (fs : List ℕ). ArePairsResolved c.args.parents.now.pivot c.args.store.now.slots
+    c.loop-first.store.slots fs c.args.parents.now.negative.items)
+    (take_all c.loop-first.first-index c.deref-first-items.result.now
+    (let e = c.loop-first-test.false in omega arith) ∙ c.deref-first-items.ensures.value)
+    c.loop-first.invariant.resolved

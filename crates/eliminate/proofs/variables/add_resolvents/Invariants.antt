@@ -9,7 +9,7 @@ invariant-loop-first g l = record {
   simplified : StaysSimplified l.fn.simplifier l.fn.store.slots (g.S.Sink.lines l.fn.sink)
       l.simplifier l.store.slots (g.S.Sink.lines l.sink);
   works : l.simplifier.is_refuted ≡ false;
-  grows : GrowsWithout l.pivot l.fn.store.slots l.store.slots;
-  resolved : ArePairsResolved l.pivot l.fn.store.slots l.store.slots
-      (take l.first-index l.firsts) l.seconds;
+  grows : GrowsWithout l.parents.pivot l.fn.store.slots l.store.slots;
+  resolved : ArePairsResolved l.parents.pivot l.fn.store.slots l.store.slots
+      (take l.first-index l.first-items) l.parents.negative.items;
 }

@@ -1,5 +1,5 @@
 -- One pair more is resolved.
-use Rattle.std.proofs.Common.{sym, subst, arith}
+use Rattle.std.proofs.Common.{◌∙◌, sym, subst, arith}
 use Rattle.std.specs.Prelude.{All}
 use Rattle.std.proofs.lemmas.List.{take_all}
 use Rattle.std.proofs.lemmas.Result.{MatchResult-from_err}
@@ -10,10 +10,14 @@ use Rattle.eliminate.proofs.variables.add_resolvents_of.Goals as goal
 
 pub add_resolvent-requires-clause-second : goal.add_resolvent-requires-clause-second
 add_resolvent-requires-clause-second g c =
-    with_later (negation c.args.pivot) c.args.store.now.slots c.loop-second.store.slots
+    let seconds : All (IsWith (negation c.args.parents.now.pivot) c.args.store.now.slots)
+    c.deref-second-items.result.now =
+    rw c.deref-second-items.ensures.value c.requires.seconds in
+    with_later (negation c.args.parents.now.pivot) c.args.store.now.slots c.loop-second.store.slots
     c.second-item.result c.loop-second.invariant.grows.kept
-    (subst (IsWith (negation c.args.pivot) c.args.store.now.slots) (sym c.second-item.is)
-    (c.requires.seconds c.loop-second.second-index c.second-item.result
+    (subst (IsWith (negation c.args.parents.now.pivot) c.args.store.now.slots) (sym
+    c.second-item.is)
+    (seconds c.loop-second.second-index c.second-item.result
     c.loop-second-test.true))
 
 pub returns-in_err-add_resolvent-clause-passes : goal.returns-in_err-add_resolvent-clause-passes
@@ -24,7 +28,7 @@ returns-in_err-add_resolvent-clause-passes g c =
 
 pub returns-then-simplifier-clause-grows : goal.returns-then-simplifier-clause-grows
 returns-then-simplifier-clause-grows g c =
-    grows_join c.args.pivot c.args.store.now.slots c.loop-second.store.slots
+    grows_join c.args.parents.now.pivot c.args.store.now.slots c.loop-second.store.slots
     c.add_resolvent.new.store.slots c.loop-second.invariant.grows
     c.in_ok-add_resolvent.ensures.grows
 
@@ -35,12 +39,13 @@ loop-second-preserved g c = record {
       (c.loop-second.invariant.simplified start h);
   works = c.if-simplifier.false;
   grows =
-      grows_join c.args.pivot c.args.store.now.slots c.loop-second.store.slots
+      grows_join c.args.parents.now.pivot c.args.store.now.slots c.loop-second.store.slots
       c.add_resolvent.new.store.slots c.loop-second.invariant.grows
       c.in_ok-add_resolvent.ensures.grows;
   resolved =
-      next_pair c.args.pivot c.args.store.now.slots c.loop-second.store.slots
-      c.add_resolvent.new.store.slots c.args.first c.args.seconds.now c.loop-second.second-index
+      next_pair c.args.parents.now.pivot c.args.store.now.slots c.loop-second.store.slots
+      c.add_resolvent.new.store.slots c.args.first c.deref-second-items.result.now
+      c.loop-second.second-index
       c.second-item.result
       c.loop-second-test.true c.second-item.is c.loop-second.invariant.grows
       c.in_ok-add_resolvent.ensures.grows c.loop-second.invariant.resolved
@@ -49,6 +54,8 @@ loop-second-preserved g c = record {
 
 pub returns-clause-resolved : goal.returns-clause-resolved
 returns-clause-resolved g c works =
-    subst (All (IsPairResolved c.args.pivot c.args.store.now.slots c.loop-second.store.slots
-    c.args.first)) (take_all c.loop-second.second-index c.args.seconds.now
-    (let e = c.loop-second-test.false in omega arith)) c.loop-second.invariant.resolved
+    subst (All (IsPairResolved c.args.parents.now.pivot c.args.store.now.slots
+    c.loop-second.store.slots
+    c.args.first)) (take_all c.loop-second.second-index c.deref-second-items.result.now
+    (let e = c.loop-second-test.false in omega arith) ∙ c.deref-second-items.ensures.value)
+    c.loop-second.invariant.resolved

@@ -10,7 +10,7 @@ invariant-loop-second g l = record {
   simplified : StaysSimplified l.fn.simplifier l.fn.store.slots (g.S.Sink.lines l.fn.sink)
       l.simplifier l.store.slots (g.S.Sink.lines l.sink);
   works : l.simplifier.is_refuted ≡ false;
-  grows : GrowsWithout l.pivot l.fn.store.slots l.store.slots;
-  resolved : All (IsPairResolved l.pivot l.fn.store.slots l.store.slots l.first)
-      (take l.second-index l.seconds);
+  grows : GrowsWithout l.parents.pivot l.fn.store.slots l.store.slots;
+  resolved : All (IsPairResolved l.parents.pivot l.fn.store.slots l.store.slots l.first)
+      (take l.second-index l.second-items);
 }

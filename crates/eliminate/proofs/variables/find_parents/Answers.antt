@@ -9,7 +9,7 @@ pub is_worthwhile-is_worthwhile-requires-clause-live
     : goal.is_worthwhile-is_worthwhile-requires-clause-live
 is_worthwhile-is_worthwhile-requires-clause-live c =
     subst (λ (rs : List ℕ). All (IsLive c.args.store.now.slots) rs) (sym c.deref.ensures.value)
-    (those_live c.args.pivot c.args.store.now.slots c.gather.new.references.items
+    (those_live c.args.parents.now.pivot c.args.store.now.slots c.gather.new.references.items
     c.in_ok-gather.ensures.gathered)
 
 pub is_worthwhile-is_worthwhile-requires-clause-live_too

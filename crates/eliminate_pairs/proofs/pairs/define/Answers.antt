@@ -3,7 +3,7 @@ use Rattle.std.proofs.Common.{◌≡◌, ◌+◌, [], ◌∷◌, ◌++◌, lengt
 use Rattle.std.proofs.lemmas.Result.{MatchResult-from_err}
 use Rattle.cnf.specs.Literal.{negation}
 use Rattle.clauses.specs.Slots.{Slots}
-use Rattle.eliminate_pairs.specs.Pairs.{stage_of, whole_clause, Stage, FitNames}
+use Rattle.eliminate_pairs.specs.Pairs.{positive, stage_of, whole_clause, Stage, FitNames}
 use Rattle.eliminate_pairs.proofs.Defining.{whole_is, side_is, defined_is, kept_log}
 use Rattle.eliminate_pairs.proofs.Defining.{fit_added, few_additions}
 use Rattle.eliminate_pairs.proofs.Staging.{with_whole, with_side, whole_right, left_right}
@@ -25,17 +25,17 @@ whole_fits g c =
     c.in_ok-whole.ensures.slots c.in_ok-whole.ensures.names c.in_ok-whole.ensures.lines refl
 
 whole_stage : (g : Over) (c : In_ok-whole g)
-    → stage_of (c.args.vars + 1) c.add.new.store.slots c.add.new.names
+    → stage_of (c.args.pair.now.vars + 1) c.add.new.store.slots c.add.new.names
     (g.S.Sink.lines c.add.new.sink) ≡ with_whole
-    (stage_of c.args.vars c.args.store.now.slots c.args.names.now
-    (g.S.Sink.lines c.args.sink.now)) c.args.left c.args.right
+    (stage_of c.args.pair.now.vars c.args.store.now.slots c.args.names.now
+    (g.S.Sink.lines c.args.sink.now)) c.args.pair.now.left c.args.pair.now.right
 whole_stage g c =
-    whole_is c.args.vars c.args.store.now.slots c.add.new.store.slots c.args.names.now
+    whole_is c.args.pair.now.vars c.args.store.now.slots c.add.new.store.slots c.args.names.now
     c.add.new.names (g.S.Sink.lines c.args.sink.now) (g.S.Sink.lines c.add.new.sink)
-    (c.negation.result ∷ c.args.left ∷ c.args.right ∷ []) [] c.negation.result c.args.left
-    c.args.right c.requires.fit.counted
+    c.whole_lits-lits.result [] (negation (positive (c.args.pair.now.vars + 1)))
+    c.args.pair.now.left c.args.pair.now.right c.requires.fit.counted
     c.in_ok-whole.ensures.slots c.in_ok-whole.ensures.names c.in_ok-whole.ensures.lines
-    refl (c.negation.ensures ∙ ap negation c.new-fresh.ensures) refl
+    c.whole_lits-lits.ensures.clause refl refl
 
 -- and those of the side of the left literal
 left_fits : (g : Over) (c : In_ok-left_side g)
@@ -48,19 +48,21 @@ left_fits g c =
     c.in_ok-left_side.ensures.adds.names c.in_ok-left_side.ensures.adds.lines refl
 
 left_stage : (g : Over) (c : In_ok-left_side g)
-    → stage_of (c.args.vars + 1) c.add_side.new.store.slots c.add_side.new.names
+    → stage_of (c.args.pair.now.vars + 1) c.add_side.new.store.slots c.add_side.new.names
     (g.S.Sink.lines c.add_side.new.sink)
-    ≡ with_side (with_whole (stage_of c.args.vars c.args.store.now.slots c.args.names.now
-    (g.S.Sink.lines c.args.sink.now)) c.args.left c.args.right)
-    (length c.args.store.now.slots) c.args.left
+    ≡ with_side (with_whole (stage_of c.args.pair.now.vars c.args.store.now.slots c.args.names.now
+    (g.S.Sink.lines c.args.sink.now)) c.args.pair.now.left c.args.pair.now.right)
+    (length c.args.store.now.slots) c.args.pair.now.left
 left_stage g c =
     let w = (goal.at.In_ok-left_side g c).In_ok-whole in
     let s : Stage =
-    stage_of c.args.vars c.args.store.now.slots c.args.names.now
+    stage_of c.args.pair.now.vars c.args.store.now.slots c.args.names.now
     (g.S.Sink.lines c.args.sink.now) in
-    side_is (c.args.vars + 1) c.add.new.store.slots c.add_side.new.store.slots c.add.new.names
+    side_is (c.args.pair.now.vars + 1) c.add.new.store.slots c.add_side.new.store.slots
+    c.add.new.names
     c.add_side.new.names (g.S.Sink.lines c.add.new.sink) (g.S.Sink.lines c.add_side.new.sink)
-    (with_whole s c.args.left c.args.right) c.in_ok-whole.whole (length s.slots) c.args.left
+    (with_whole s c.args.pair.now.left c.args.pair.now.right) c.in_ok-whole.whole (length s.slots)
+    c.args.pair.now.left
     (whole_fits g w).counted c.in_ok-left_side.ensures.adds.slots
     c.in_ok-left_side.ensures.adds.names c.in_ok-left_side.ensures.adds.lines (whole_stage g w)
     c.in_ok-whole.ensures.reference
@@ -85,10 +87,10 @@ returns-clause-fit g c =
 pub returns-in_err-left_side-clause-moves : goal.returns-in_err-left_side-clause-moves
 returns-in_err-left_side-clause-moves g c =
     MatchResult-from_err _ _ _ c.from_residual-in_err-left_side.ensures.0 (λ _.
-    let a = c.args.left in
-    let b = c.args.right in
+    let a = c.args.pair.now.left in
+    let b = c.args.pair.now.right in
     let s : Stage =
-    stage_of c.args.vars c.args.store.now.slots c.args.names.now
+    stage_of c.args.pair.now.vars c.args.store.now.slots c.args.names.now
     (g.S.Sink.lines c.args.sink.now) in
     let one = whole_stage g (goal.at.returns-in_err-left_side-clause-moves g c).In_ok-whole in
     let is = c.in_err-left_side.ensures.err ∙ ap (λ (x : Stage). x.lines) one in
@@ -100,10 +102,10 @@ returns-in_err-left_side-clause-moves g c =
 pub returns-in_err-right_side-clause-moves : goal.returns-in_err-right_side-clause-moves
 returns-in_err-right_side-clause-moves g c =
     MatchResult-from_err _ _ _ c.from_residual-in_err-right_side.ensures.0 (λ _.
-    let a = c.args.left in
-    let b = c.args.right in
+    let a = c.args.pair.now.left in
+    let b = c.args.pair.now.right in
     let s : Stage =
-    stage_of c.args.vars c.args.store.now.slots c.args.names.now
+    stage_of c.args.pair.now.vars c.args.store.now.slots c.args.names.now
     (g.S.Sink.lines c.args.sink.now) in
     let two = left_stage g (goal.at.returns-in_err-right_side-clause-moves g c).In_ok-left_side in
     let is = c.in_err-right_side.ensures.err ∙ ap (λ (x : Stage). x.lines) two in
@@ -117,19 +119,19 @@ pub returns-in_err-whole-clause-moves : goal.returns-in_err-whole-clause-moves
 returns-in_err-whole-clause-moves g c =
     MatchResult-from_err _ _ _ c.from_residual.ensures.0 (λ _.
     let s : Stage =
-    stage_of c.args.vars c.args.store.now.slots c.args.names.now
+    stage_of c.args.pair.now.vars c.args.store.now.slots c.args.names.now
     (g.S.Sink.lines c.args.sink.now) in
     breaks_at s (g.S.Sink.lines c.add.new.sink) c.in_err-whole.ensures.err
     (kept_log s s (g.S.Sink.lines c.add.new.sink) c.in_err-whole.ensures.err (λ ground k. k)))
 
 pub returns-clause-defined : goal.returns-clause-defined
 returns-clause-defined g c =
-    let v = c.args.vars in
-    let a = c.args.left in
-    let b = c.args.right in
+    let v = c.args.pair.now.vars in
+    let a = c.args.pair.now.left in
+    let b = c.args.pair.now.right in
     let slots : Slots = c.args.store.now.slots in
-    let is : c.negation.result ∷ a ∷ b ∷ [] ≡ whole_clause (v + 1) a b =
-    ap (λ x. x ∷ a ∷ b ∷ []) (c.negation.ensures ∙ ap negation c.new-fresh.ensures) in
+    let is : c.whole_lits-lits.result ≡ whole_clause (v + 1) a b =
+    c.whole_lits-lits.ensures.clause in
     let d =
     defined_is slots c.add.new.store.slots c.add_side.new.store.slots c.add_side-2.new.store.slots
     (v + 1) a b c.in_ok-whole.whole c.in_ok-left_side.left_side c.in_ok-right_side.right_side
@@ -141,30 +143,33 @@ returns-clause-defined g c =
 
 -- the stage with all three
 right_stage : (g : Over) (c : In_ok-right_side g)
-    → stage_of (c.args.vars + 1) c.add_side-2.new.store.slots c.add_side-2.new.names
+    → stage_of (c.args.pair.now.vars + 1) c.add_side-2.new.store.slots c.add_side-2.new.names
     (g.S.Sink.lines c.add_side-2.new.sink)
-    ≡ with_side (with_side (with_whole (stage_of c.args.vars c.args.store.now.slots c.args.names.now
-    (g.S.Sink.lines c.args.sink.now)) c.args.left c.args.right)
-    (length c.args.store.now.slots) c.args.left) (length c.args.store.now.slots) c.args.right
+    ≡ with_side (with_side (with_whole (stage_of c.args.pair.now.vars c.args.store.now.slots
+    c.args.names.now
+    (g.S.Sink.lines c.args.sink.now)) c.args.pair.now.left c.args.pair.now.right)
+    (length c.args.store.now.slots) c.args.pair.now.left) (length c.args.store.now.slots)
+    c.args.pair.now.right
 right_stage g c =
     let s : Stage =
-    stage_of c.args.vars c.args.store.now.slots c.args.names.now
+    stage_of c.args.pair.now.vars c.args.store.now.slots c.args.names.now
     (g.S.Sink.lines c.args.sink.now) in
     let left = (goal.at.In_ok-right_side g c).In_ok-left_side in
-    side_is (c.args.vars + 1) c.add_side.new.store.slots c.add_side-2.new.store.slots
+    side_is (c.args.pair.now.vars + 1) c.add_side.new.store.slots c.add_side-2.new.store.slots
     c.add_side.new.names c.add_side-2.new.names (g.S.Sink.lines c.add_side.new.sink)
     (g.S.Sink.lines c.add_side-2.new.sink)
-    (with_side (with_whole s c.args.left c.args.right) (length s.slots) c.args.left)
-    c.in_ok-whole.whole (length s.slots) c.args.right (left_fits g left).counted
+    (with_side (with_whole s c.args.pair.now.left c.args.pair.now.right) (length s.slots)
+    c.args.pair.now.left)
+    c.in_ok-whole.whole (length s.slots) c.args.pair.now.right (left_fits g left).counted
     c.in_ok-right_side.ensures.adds.slots
     c.in_ok-right_side.ensures.adds.names c.in_ok-right_side.ensures.adds.lines (left_stage g left)
     c.in_ok-whole.ensures.reference
 
 pub returns-clause-moves : goal.returns-clause-moves
 returns-clause-moves g c =
-    let v = c.args.vars in
-    let a = c.args.left in
-    let b = c.args.right in
+    let v = c.args.pair.now.vars in
+    let a = c.args.pair.now.left in
+    let b = c.args.pair.now.right in
     let s : Stage =
     stage_of v c.args.store.now.slots c.args.names.now (g.S.Sink.lines c.args.sink.now) in
     move_as s (with_side (with_side (with_whole s a b) (length s.slots) a) (length s.slots) b)

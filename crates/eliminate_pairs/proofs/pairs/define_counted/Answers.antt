@@ -31,27 +31,27 @@ pub loop-k-preserved : goal.loop-k-preserved
 loop-k-preserved g c =
     let L = g.S.Sink.lines in
     let s : Stage =
-    stage_of c.args.vars c.args.store.now.slots c.args.names.now (L c.args.sink.now) in
+    stage_of c.args.range.now.after c.args.store.now.slots c.args.names.now (L c.args.sink.now) in
     let was = c.loop-k.invariant in
     elim c.match-candidate.branch [
       | in-Some+in_ok-find+then-found-fewest+in_ok-last w ↦
-          replaces_same s c.args.most w.in_ok-last.last w.define_found.new.store.slots
+          replaces_same s c.args.range.now.most w.in_ok-last.last w.define_found.new.store.slots
           w.define_found.new.names (L w.define_found.new.sink)
-          (replaces_on s c.args.most c.loop-k.last c.loop-k.store.slots c.loop-k.names
+          (replaces_on s c.args.range.now.most c.loop-k.last c.loop-k.store.slots c.loop-k.names
           (L c.loop-k.sink) was (c.loop-k.last + 1) w.in_ok-last.last
           w.define_found.new.store.slots w.define_found.new.names (L w.define_found.new.sink)
-          (omega (arith, c.if-last-most.false)) w.in_ok-last.ensures.passes)
+          (omega (arith, c.if-last-range.false)) w.in_ok-last.ensures.passes)
           c.match-candidate.last c.match-candidate.store.slots c.match-candidate.names
           (L c.match-candidate.sink)
           w.last-is (ap (λ (x : StoreState). x.slots) w.store-is) w.names-is (ap L w.sink-is)
       | in-Some+in_ok-find+else-found-fewest w ↦
-          replaces_same s c.args.most c.loop-k.last c.loop-k.store.slots c.loop-k.names
+          replaces_same s c.args.range.now.most c.loop-k.last c.loop-k.store.slots c.loop-k.names
           (L c.loop-k.sink) was
           c.match-candidate.last c.match-candidate.store.slots c.match-candidate.names
           (L c.match-candidate.sink)
           w.last-is (ap (λ (x : StoreState). x.slots) w.store-is) w.names-is (ap L w.sink-is)
       | in_default w ↦
-          replaces_same s c.args.most c.loop-k.last c.loop-k.store.slots c.loop-k.names
+          replaces_same s c.args.range.now.most c.loop-k.last c.loop-k.store.slots c.loop-k.names
           (L c.loop-k.sink) was
           c.match-candidate.last c.match-candidate.store.slots c.match-candidate.names
           (L c.match-candidate.sink)

@@ -14,7 +14,7 @@ pub loop-k-init : goal.loop-k-init
 loop-k-init g c =
     let L = g.S.Sink.lines in
     let s : Stage =
-    stage_of c.args.vars c.args.store.now.slots c.args.names.now (L c.args.sink.now) in
+    stage_of c.args.pair.now.vars c.args.store.now.slots c.args.names.now (L c.args.sink.now) in
     record {
       variable = c.in_ok-definition.ensures.variable;
       defined = c.in_ok-definition.ensures.defined;
@@ -26,13 +26,14 @@ loop-k-init g c =
       moves =
           subst (λ (v : ℕ). LeadsTo s (stage_of v c.define.new.store.slots c.define.new.names
           (L c.define.new.sink))) (sym c.in_ok-definition.ensures.variable)
-          (leads_by s (stage_of (c.args.vars + 1) c.define.new.store.slots c.define.new.names
+          (leads_by s (stage_of (c.args.pair.now.vars + 1) c.define.new.store.slots
+          c.define.new.names
           (L c.define.new.sink)) c.in_ok-definition.ensures.moves);
     }
 
 pub returns-then-not-stand_often-clause-passes : goal.returns-then-not-stand_often-clause-passes
 returns-then-not-stand_often-clause-passes g c =
-    replaces_none c.args.vars (c.args.vars + 1) _ _ _ (omega arith) c.requires.fit
+    replaces_none c.args.pair.now.vars (c.args.pair.now.vars + 1) _ _ _ (omega arith) c.requires.fit
 
 pub returns-in_err-definition-clause-passes : goal.returns-in_err-definition-clause-passes
 returns-in_err-definition-clause-passes g c =
@@ -40,7 +41,7 @@ returns-in_err-definition-clause-passes g c =
       log = c.in_err-definition.ensures.moves.log;
       moves =
           let s : Stage =
-          stage_of c.args.vars c.args.store.now.slots c.args.names.now
+          stage_of c.args.pair.now.vars c.args.store.now.slots c.args.names.now
           (g.S.Sink.lines c.args.sink.now) in
           (s, leads_here s, c.in_err-definition.ensures.moves);
       rests = λ rare. absurd (rare _ _ (c.stand_often.ensures c.if-not-stand_often.false));
@@ -63,12 +64,13 @@ pub loop-k-preserved : goal.loop-k-preserved
 loop-k-preserved g c =
     let L = g.S.Sink.lines in
     let s : Stage =
-    stage_of c.args.vars c.args.store.now.slots c.args.names.now (L c.args.sink.now) in
+    stage_of c.args.pair.now.vars c.args.store.now.slots c.args.names.now (L c.args.sink.now) in
     let d : PairDefinition = c.in_ok-definition.definition in
     let was = c.loop-k.invariant in
     elim c.match-found_at.branch [
       | in-Some+then-has_pair+in_ok-new w ↦
-          defines_same s c.args.vars d w.replace.new.store.slots c.match-found_at.store.slots
+          defines_same s c.args.pair.now.vars d w.replace.new.store.slots
+          c.match-found_at.store.slots
           w.replace.new.names c.match-found_at.names (L w.replace.new.sink)
           (L c.match-found_at.sink)
           (ap (λ (x : StoreState). x.slots) w.store-is) w.names-is (ap L w.sink-is)
@@ -88,11 +90,11 @@ loop-k-preserved g c =
                 (L w.replace.new.sink)) w.in_ok-new.ensures.moves);
           })
       | in-Some+else-has_pair w ↦
-          defines_same s c.args.vars d c.loop-k.store.slots c.match-found_at.store.slots
+          defines_same s c.args.pair.now.vars d c.loop-k.store.slots c.match-found_at.store.slots
           c.loop-k.names c.match-found_at.names (L c.loop-k.sink) (L c.match-found_at.sink)
           (ap (λ (x : StoreState). x.slots) w.store-is) w.names-is (ap L w.sink-is) was
       | in_default w ↦
-          defines_same s c.args.vars d c.loop-k.store.slots c.match-found_at.store.slots
+          defines_same s c.args.pair.now.vars d c.loop-k.store.slots c.match-found_at.store.slots
           c.loop-k.names c.match-found_at.names (L c.loop-k.sink) (L c.match-found_at.sink)
           (ap (λ (x : StoreState). x.slots) w.store-is) w.names-is (ap L w.sink-is) was
     ]
@@ -106,7 +108,7 @@ returns-clause-passes g c = record {
       (stage_of v c.loop-k.store.slots c.loop-k.names (g.S.Sink.lines c.loop-k.sink)))
       c.loop-k.invariant.variable (c.loop-k.invariant.keeps ground k);
   moves = subst (λ (v : ℕ). LeadsTo
-      (stage_of c.args.vars c.args.store.now.slots c.args.names.now
+      (stage_of c.args.pair.now.vars c.args.store.now.slots c.args.names.now
       (g.S.Sink.lines c.args.sink.now))
       (stage_of v c.loop-k.store.slots c.loop-k.names (g.S.Sink.lines c.loop-k.sink)))
       c.loop-k.invariant.variable c.loop-k.invariant.moves;

@@ -17,15 +17,15 @@ use Rattle.eliminate.proofs.units.Units.unit_clause.Goals as goal
 use Rattle.eliminate.proofs.units.Units.unit_clause.Goals.{In_ok-push}
 
 -- the clause in hand has the literal alone
-alone : (g : Over) (c : In_ok-push g) → c.push.new.self.items ≡ c.args.lit ∷ []
+alone : (g : Over) (c : In_ok-push g) → c.push.new.self.items ≡ c.args.implied.now.lit ∷ []
 alone g c = c.in_ok-push.ensures.items
-    ∙ ap (λ (xs : List Literal). xs ++ c.args.lit ∷ []) c.clear.ensures.items
+    ∙ ap (λ (xs : List Literal). xs ++ c.args.implied.now.lit ∷ []) c.clear.ensures.items
 
 pub returns-then-lits-eq1-clause-alone : goal.returns-then-lits-eq1-clause-alone
 returns-then-lits-eq1-clause-alone g c =
     let d : List Literal = c.lits.result.now in
     let unit = c.requires.unit d c.lits.ensures in
-    c.lits.ensures ∙ ap Some (single d c.args.lit c.if-lits-eq1.true unit.member)
+    c.lits.ensures ∙ ap Some (single d c.args.implied.now.lit c.if-lits-eq1.true unit.member)
 
 pub hints-requires-clause-clauses : goal.hints-requires-clause-clauses
 hints-requires-clause-clauses g c =
@@ -38,11 +38,12 @@ add-requires-clause-line g c start h =
     let ls : List LogLine = g.S.Sink.lines c.args.sink.now in
     let d = c.requires.live.0 in
     let at = c.requires.live.1 in
-    addable_at start s ls Unit c.push.new.self.items (c.args.lit ∷ []) c.deref.result.now _
+    addable_at start s ls Unit c.push.new.self.items (c.args.implied.now.lit ∷ [])
+    c.deref.result.now _
     (alone g (goal.at.add-requires-clause-line g c).In_ok-push)
     (c.deref.ensures.value ∙ c.in_ok-hints.ensures d at)
     (unit_addable start s c.args.store.now.slots ls c.args.self.now h c.requires.propagating.units d
-    c.args.reference at c.args.lit (c.requires.unit d at))
+    c.args.implied.now.by at c.args.implied.now.lit (c.requires.unit d at))
 
 pub returns-in_err-unit-clause-passes : goal.returns-in_err-unit-clause-passes
 returns-in_err-unit-clause-passes g c =

@@ -3,7 +3,7 @@ use Rattle.std.proofs.Common.{subst}
 use Rattle.std.specs.List.{AllByRecursion}
 use Rattle.std.proofs.lemmas.List.{take_all}
 use Rattle.eliminate_pairs.specs.Pairs.{IsOnOther}
-use Rattle.eliminate_pairs.proofs.pairs.lacks.Goals as goal
+use Rattle.eliminate_pairs.proofs.standing.lacks.Goals as goal
 
 pub returns : goal.returns
 returns c _ =

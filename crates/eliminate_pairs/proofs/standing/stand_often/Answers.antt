@@ -1,16 +1,16 @@
 -- Each clause that is found is one more.
 use Rattle.std.proofs.Common.{◌+◌, rules, slice_index_or, arith}
 use Rattle.eliminate_pairs.proofs.Meetings.{one_more, some_of}
-use Rattle.eliminate_pairs.proofs.pairs.stand_often.Goals as goal
-use Rattle.eliminate_pairs.proofs.pairs.stand_often.Goals.{
+use Rattle.eliminate_pairs.proofs.standing.stand_often.Goals as goal
+use Rattle.eliminate_pairs.proofs.standing.stand_often.Goals.{
   then-place-from+then-stand_at+else-count-eq-FEWEST,
 }
-use Rattle.eliminate_pairs.proofs.pairs.stand_often.Goals.{else-place-from}
+use Rattle.eliminate_pairs.proofs.standing.stand_often.Goals.{else-place-from}
 
 pub returns-then-count-eq-FEWEST : goal.returns-then-count-eq-FEWEST
 returns-then-count-eq-FEWEST c _ =
-    let a = c.args.candidate.now.left in
-    let b = c.args.candidate.now.right in
+    let a = c.args.pair.now.left in
+    let b = c.args.pair.now.right in
     let slots = c.args.store.now.slots in
     let place = (slice_index_or c.args.found.now c.loop-place.place-index (0, 0)).0 in
     record {
@@ -26,8 +26,8 @@ returns-then-count-eq-FEWEST c _ =
 
 pub loop-place-preserved : goal.loop-place-preserved
 loop-place-preserved c =
-    let a = c.args.candidate.now.left in
-    let b = c.args.candidate.now.right in
+    let a = c.args.pair.now.left in
+    let b = c.args.pair.now.right in
     let slots = c.args.store.now.slots in
     let place = (slice_index_or c.args.found.now c.loop-place.place-index (0, 0)).0 in
     elim c.if-place-from.branch [
