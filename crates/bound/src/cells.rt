@@ -1,6 +1,7 @@
 // The clauses of a cell, which say that its carry and its sum count the true ones of its inputs.
 ghost use Rattle.std.specs.Prelude.{◌<◌, All, OnOk};
 ghost use Rattle.std.specs.List.{flat_map};
+ghost use Rattle.cnf.specs.Literal.{positive};
 ghost use Rattle.bound.specs.Bound.{cell_clauses, full_clauses, half_clauses};
 ghost use Rattle.bound.specs.Adding.{Adds, HasVariables};
 
@@ -26,26 +27,22 @@ pub(crate) fn keep_cell(clauses: &mut ClauseList, cell: Cell) -> Result<(), Allo
     requires { HasVariables cell }
     ensures { OnOk result (Adds clauses.old clauses.new (cell_clauses cell)) }
 {
-    let sum = Lit::new(cell.sum, false);
-    let carry = Lit::new(cell.carry, false);
     match cell.third {
-        None => keep_half(clauses, cell.a, cell.b, sum, carry),
-        Some(third) => keep_full(clauses, cell.a, cell.b, third, sum, carry),
+        None => keep_half(clauses, cell),
+        Some(third) => keep_full(clauses, cell, third),
     }
 }
 
-/// A full adder of `a`, `b` and `d`: for each choice of the inputs the sum `s`, and for each two of
-/// them the carry `c`.
-fn keep_full(
-    clauses: &mut ClauseList,
-    a: Lit,
-    b: Lit,
-    d: Lit,
-    s: Lit,
-    c: Lit,
-) -> Result<(), AllocError>
-    ensures { OnOk result (Adds clauses.old clauses.new (full_clauses a b d s c)) }
+/// The cell as a full adder, with this third input `d`: for each choice of the inputs the sum `s`,
+/// and for each two of them the carry `c`.
+fn keep_full(clauses: &mut ClauseList, cell: Cell, d: Lit) -> Result<(), AllocError>
+    requires { HasVariables cell }
+    ensures { OnOk result (Adds clauses.old clauses.new
+        (full_clauses cell.a cell.b d (positive cell.sum) (positive cell.carry))) }
 {
+    let Cell { a, b, .. } = cell;
+    let s = Lit::new(cell.sum, false);
+    let c = Lit::new(cell.carry, false);
     let na = a.negation();
     let nb = b.negation();
     let nd = d.negation();
@@ -77,10 +74,15 @@ fn keep_full(
     )
 }
 
-/// A half adder of `a` and `b`.
-fn keep_half(clauses: &mut ClauseList, a: Lit, b: Lit, s: Lit, c: Lit) -> Result<(), AllocError>
-    ensures { OnOk result (Adds clauses.old clauses.new (half_clauses a b s c)) }
+/// The cell as a half adder.
+fn keep_half(clauses: &mut ClauseList, cell: Cell) -> Result<(), AllocError>
+    requires { HasVariables cell }
+    ensures { OnOk result (Adds clauses.old clauses.new
+        (half_clauses cell.a cell.b (positive cell.sum) (positive cell.carry))) }
 {
+    let Cell { a, b, .. } = cell;
+    let s = Lit::new(cell.sum, false);
+    let c = Lit::new(cell.carry, false);
     let na = a.negation();
     let nb = b.negation();
     let ns = s.negation();

@@ -315,7 +315,7 @@ fn put_line<W: Write>(
         put_deletion(block, writer, base, last, &line.hints)?;
         Ok(last)
     } else {
-        put_addition(block, writer, base, last + 1, line.lits, &line.hints)?;
+        put_addition(block, writer, base, last + 1, line)?;
         Ok(last + 1)
     }
 }

@@ -9,6 +9,7 @@ ghost use Rattle.lrat_log.specs.Texts.{number_text, literals_text, hint_text, hi
 ghost use Rattle.lrat_log.specs.Texts.{line_text};
 
 use crate::hints::HintSlice;
+use crate::log::LineSlice;
 use crate::packed::PackedHint;
 use cnf::types::Lit;
 use itoa::write_digits;
@@ -18,27 +19,26 @@ use text::output::{Block, WriteFault};
 /// Room for a dash, the 20 digits of the largest number, and a space.
 const NUMBER_ROOM: usize = 22;
 
-/// Puts the line that adds a clause under this id, by these hints.
-pub fn put_addition<W: Write>(
+/// Puts the line that adds a clause, under this id.
+pub(crate) fn put_addition<W: Write>(
     block: &mut Block,
     writer: &mut W,
     base: u64,
     id: u64,
-    lits: &[Lit],
-    hints: &HintSlice<'_>,
+    line: &LineSlice<'_>,
 ) -> Result<(), WriteFault>
-    requires { All (λ h. id_of base (name_of h) < NUMBER_LIMIT) hints.now }
+    requires { All (λ h. id_of base (name_of h) < NUMBER_LIMIT) line.now.hints }
     ensures { Puts result (W.contents writer.old) block.old
-        (line_text (Addition id lits.now (leading_ids base hints.now)
-        (group_ids base hints.now))) (W.contents writer.new) block.new }
+        (line_text (Addition id line.now.clause (leading_ids base line.now.hints)
+        (group_ids base line.now.hints))) (W.contents writer.new) block.new }
 {
     put_number(block, writer, false, id)?;
-    put_literals(block, writer, lits)?;
-    put_end(block, writer, b"0 ", base, hints)
+    put_literals(block, writer, line.lits)?;
+    put_end(block, writer, b"0 ", base, &line.hints)
 }
 
 /// Puts the line that deletes the clauses that these hints name.
-pub fn put_deletion<W: Write>(
+pub(crate) fn put_deletion<W: Write>(
     block: &mut Block,
     writer: &mut W,
     base: u64,

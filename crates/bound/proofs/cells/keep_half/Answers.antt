@@ -5,10 +5,10 @@ use Rattle.bound.proofs.cells.keep_half.Goals as goal
 
 pub returns : goal.returns
 returns c =
-    on_ok_weaker c.keep_rows-3.result
+    rw (c.new-s.ensures, c.new-c.ensures) at (on_ok_weaker c.keep_rows-3.result
     (adds_half c.args.clauses.now c.keep_rows.new.clauses c.keep_rows-2.new.clauses
-    c.keep_rows-3.new.clauses c.args.a c.negation-na.result c.args.b c.negation-nb.result
-    c.args.s c.negation-ns.result c.args.c c.negation-nc.result c.negation-na.ensures
+    c.keep_rows-3.new.clauses c.args.cell.a c.negation-na.result c.args.cell.b c.negation-nb.result
+    c.new-s.result c.negation-ns.result c.new-c.result c.negation-nc.result c.negation-na.ensures
     c.negation-nb.ensures c.negation-ns.ensures c.negation-nc.ensures c.in_ok-keep_rows.ensures
     c.in_ok-keep_rows-2.ensures)
-    c.keep_rows-3.ensures
+    c.keep_rows-3.ensures)

@@ -1,5 +1,5 @@
 -- The line is put as what its kind says.
-use Rattle.std.proofs.Common.{◌≡◌, ◌∙◌, ap, sym, true, false}
+use Rattle.std.proofs.Common.{◌≡◌, ◌∙◌, ap, refl, sym, true, false}
 use Rattle.std.proofs.lemmas.Result.{err_from_is_err_and}
 use Rattle.lrat_log.specs.Log.{LogLine, is_delete}
 use Rattle.lrat_log.proofs.LineTexts.{line_deletes, line_adds, passes_as, part_as}
@@ -38,9 +38,8 @@ returns-in_err-put_addition-clause-puts g c =
     ap (λ (l : LogLine). is_delete l.kind) (sym c.line.view_is) ∙ sym c.is_delete.ensures
     ∙ c.if-is_delete.false in
     let text =
-    line_adds c.args.base c.args.last c.args.line.now c.line.inside.lits.now
-    c.line.inside.hints adds (ap (λ (l : LogLine). l.clause) c.line.view_is)
-    (ap (λ (l : LogLine). l.hints) c.line.view_is) in
+    line_adds c.args.base c.args.last c.args.line.now c.args.line.now.clause
+    c.args.line.now.hints adds refl refl in
     let q =
     part_as (g.W.Write.contents c.args.writer.now) (g.W.Write.contents c.put_addition.new.writer)
     c.args.block.now _ _ text c.in_err-put_addition.ensures in
@@ -52,7 +51,6 @@ returns-in_ok-put_addition-clause-puts g c =
     ap (λ (l : LogLine). is_delete l.kind) (sym c.line.view_is) ∙ sym c.is_delete.ensures
     ∙ c.if-is_delete.false in
     let text =
-    line_adds c.args.base c.args.last c.args.line.now c.line.inside.lits.now
-    c.line.inside.hints adds (ap (λ (l : LogLine). l.clause) c.line.view_is)
-    (ap (λ (l : LogLine). l.hints) c.line.view_is) in
+    line_adds c.args.base c.args.last c.args.line.now c.args.line.now.clause
+    c.args.line.now.hints adds refl refl in
     passes_as _ _ _ _ _ _ text c.in_ok-put_addition.ensures
