@@ -1,7 +1,7 @@
 -- Turns of a search, and what they write.
 use Rattle.std.proofs.Common.{◌≡◌, ℕ, ◌+◌, ◌≤◌, Bool, true, false, cond, List, [], ◌∷◌, ◌++◌}
-use Rattle.std.proofs.Common.{Option, Some, None, length, inl, inr, refl, sym, ◌∙◌, ap, subst, arith}
-use Rattle.std.proofs.Common.{append_assoc}
+use Rattle.std.proofs.Common.{Option, Some, None, length, inl, inr, refl, sym, ◌∙◌, ap, subst}
+use Rattle.std.proofs.Common.{append_assoc, arith}
 use Rattle.std.specs.Prelude.{Result, Ok, IsErr, IfSome, IfNone, All}
 use Rattle.std.proofs.lemmas.Bool.{false≢true, true≢false}
 use Rattle.std.proofs.lemmas.List.Elements.{All-nil, All-cons, All-append, All-weaker}
@@ -24,8 +24,8 @@ use Rattle.cdcl_search.proofs.Laws.{learns_join, writes_none}
 use Rattle.cdcl.specs.declared.guided.GuidedEnd.{GuidedEnd}
 use Rattle.cdcl.specs.Turns.{GoesOn}
 use Rattle.cdcl.specs.Guiding.{axiom_count, IsGuidedLine, WritesOpen, PaysOpen, IsGuidedEnd}
-use Rattle.cdcl.specs.declared.guided.Taking.{Taking}
-use Rattle.cdcl.specs.declared.guided.Taking.TheVariants.{Refused}
+use Rattle.cdcl.specs.declared.guided.cutting.Taking.{Taking}
+use Rattle.cdcl.specs.declared.guided.cutting.Taking.TheVariants.{Refused}
 use Rattle.cdcl.specs.Guiding.{GuidedEnds, GuidedTurns, IsTaking, TakesCut, FindsCore}
 use Rattle.cdcl.proofs.Rounds.{fewer_before}
 
@@ -207,6 +207,14 @@ guided_breaks result old new p before after had left fails log pays = record {
   pays = pays;
   err = when_err result log;
 }
+
+-- under another name for what was given
+pub turns_of : {E : Type 0} (result : Result (Option GuidedEnd) E) (old new : Search) (p q : Input)
+    (before after : List LogLine) (had left : BudgetState) → p ≡ q
+    → GuidedTurns result old new p before after had left
+    → GuidedTurns result old new q before after had left
+turns_of result old new p q before after had left same =
+    subst (λ x. GuidedTurns result old new x before after had left) same
 
 goes_after : (old mid new : Search) (p : Input) (after : List LogLine) (had left : BudgetState)
     → (mid.engine).variables ≡ (old.engine).variables → mid.policy ≡ old.policy

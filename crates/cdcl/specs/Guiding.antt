@@ -19,8 +19,8 @@ use Rattle.cdcl_search.specs.Running.{Runs, StaysOpen, IsEnded}
 use Rattle.cdcl_search.specs.Cores.{IsShown}
 use Rattle.cdcl.specs.declared.guided.GuidedEnd.{GuidedEnd}
 use Rattle.cdcl.specs.declared.guided.GuidedEnd.TheVariants.{Satisfied, Refuted, Stopped, Spent}
-use Rattle.cdcl.specs.declared.guided.Taking.{Taking}
-use Rattle.cdcl.specs.declared.guided.Taking.TheVariants.{Refused, Taken, Ended}
+use Rattle.cdcl.specs.declared.guided.cutting.Taking.{Taking}
+use Rattle.cdcl.specs.declared.guided.cutting.Taking.TheVariants.{Refused, Taken, Ended}
 use Rattle.cdcl.specs.Solving.{IsLiveRefuted}
 use Rattle.cdcl.specs.Turns.{IsSatisfied, GoesOn}
 

@@ -2,4 +2,5 @@ pub mod Solving
 pub mod Turns
 pub mod Outcomes
 pub mod Guiding
+pub mod Courses
 mod Vectors

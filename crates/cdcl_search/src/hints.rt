@@ -34,44 +34,53 @@ impl Search {
         ensures past { All (λ n. n ≤ self.old.additions + 1) self.new.stamps.items }
         ensures ready { IsReady self.new }
     {
-        gather(
-            &self.store,
-            &self.engine,
-            &self.names,
-            &self.units,
-            &mut self.stamps,
-            self.additions + 1,
-            references,
-        )
+        let sources = Sources {
+            store: &self.store,
+            engine: &self.engine,
+            names: &self.names,
+            units: &self.units,
+        };
+        gather(&sources, &mut self.stamps, self.additions + 1, references)
     }
+}
+
+/// Where the hints of a line are found.
+#[derive(Drop)]
+struct Sources<'a> {
+    /// The live clauses.
+    store: &'a Store,
+    /// The trail.
+    engine: &'a Engine,
+    /// The name of the clause in each place of the store.
+    names: &'a [PackedName],
+    /// By variable, that of 1 first: the reference of its clause of one literal, or none.
+    units: &'a [MaybeCRef],
 }
 
 /// The hints of a line that needs these clauses. A stamp by variable says which were met.
 fn gather(
-    store: &Store,
-    engine: &Engine,
-    names: &[PackedName],
-    units: &[MaybeCRef],
+    sources: &Sources<'_>,
     stamps: &mut [u64],
     stamp: u64,
     references: &[CRef],
 ) -> Result<Vec<Hint>, AllocError>
-    requires tables { AreTables engine.now store.now.slots names.now units.now stamps.old }
+    requires tables { AreTables sources.now.engine.now sources.now.store.now.slots
+        sources.now.names.now sources.now.units.now stamps.old }
     requires past { All (λ n. n < stamp) stamps.old }
-    requires attached { All (λ r. is_attached engine.now r ≡ true) references.now }
-    requires noted { AreNoted store.now.slots units.now engine.now.trail references.now }
+    requires attached { All (λ r. is_attached sources.now.engine.now r ≡ true) references.now }
+    requires noted { AreNoted sources.now.store.now.slots sources.now.units.now
+        sources.now.engine.now.trail references.now }
     ensures hints { IfOk result (λ hints.
-        AreHintsOf store.now.slots names.now engine.now.trail references.now hints.items) }
+        AreHintsOf sources.now.store.now.slots sources.now.names.now
+        sources.now.engine.now.trail references.now hints.items) }
     ensures past { All (λ n. n ≤ stamp) stamps.new }
     ensures long { length stamps.new ≡ length stamps.old }
 {
-    let mut hints = Vec::new(store.allocator());
+    let mut hints = Vec::new(sources.store.allocator());
     for reference in references {
-        add_units(
-            &mut hints, store, engine, names, units, stamps, stamp, *reference,
-        )?;
+        add_units(&mut hints, sources, stamps, stamp, *reference)?;
     }
-    add_named(&mut hints, names, references)?;
+    add_named(&mut hints, sources.names, references)?;
     Ok(hints)
 }
 
@@ -79,27 +88,30 @@ fn gather(
 /// they were not met before.
 fn add_units(
     hints: &mut Vec<Hint>,
-    store: &Store,
-    engine: &Engine,
-    names: &[PackedName],
-    units: &[MaybeCRef],
+    sources: &Sources<'_>,
     stamps: &mut [u64],
     stamp: u64,
     reference: CRef,
 ) -> Result<(), AllocError>
-    requires tables { AreTables engine.now store.now.slots names.now units.now stamps.old }
+    requires tables { AreTables sources.now.engine.now sources.now.store.now.slots
+        sources.now.names.now sources.now.units.now stamps.old }
     requires past { All (λ n. n ≤ stamp) stamps.old }
-    requires attached { is_attached engine.now reference ≡ true }
-    requires noted { IfSome (clause_at store.now.slots reference)
-        (IsNotedIn store.now.slots units.now engine.now.trail) }
+    requires attached { is_attached sources.now.engine.now reference ≡ true }
+    requires noted { IfSome (clause_at sources.now.store.now.slots reference)
+        (IsNotedIn sources.now.store.now.slots sources.now.units.now
+        sources.now.engine.now.trail) }
     ensures gathers { OnOk result ((all done : List ℕ) → Contains all reference
-        → Gathers store.now.slots names.now units.now engine.now.trail stamp all
-        done [] stamps.old hints.old.items
-        → Gathers store.now.slots names.now units.now engine.now.trail stamp all
+        → Gathers sources.now.store.now.slots sources.now.names.now sources.now.units.now
+        sources.now.engine.now.trail stamp all done [] stamps.old hints.old.items
+        → Gathers sources.now.store.now.slots sources.now.names.now sources.now.units.now
+        sources.now.engine.now.trail stamp all
         (done ++ reference ∷ []) [] stamps.new hints.new.items) }
     ensures past { All (λ n. n ≤ stamp) stamps.new }
 {
-    for lit in store.lits(reference) {
+    let engine = sources.engine;
+    let names = sources.names;
+    let units = sources.units;
+    for lit in sources.store.lits(reference) {
         let variable = lit.variable();
         let place = variable as usize - 1;
         if engine.level(variable) == Some(0)

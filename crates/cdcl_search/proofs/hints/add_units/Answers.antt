@@ -28,9 +28,10 @@ use Rattle.cnf.specs.Literal.{negation}
 use Rattle.cnf.specs.Clause.{contains_literal}
 
 -- the literal has a variable of the engine
-inside : (c : After-variable-variable) → IsVariable c.args.engine.now.variables c.lit-item.result
+inside : (c : After-variable-variable)
+    → IsVariable c.args.sources.now.engine.now.variables c.lit-item.result
 inside c =
-    literal_within c.args.engine.now c.args.store.now.slots c.args.reference
+    literal_within c.args.sources.now.engine.now c.args.sources.now.store.now.slots c.args.reference
     c.lits-lit-items.result.now c.loop-lit.lit-index c.lit-item.result c.requires.tables.fits
     c.requires.attached
     c.lits-lit-items.ensures c.loop-lit-test.true c.lit-item.is
@@ -78,10 +79,11 @@ bounds-units-place c = omega (
 
 pub bounds-names-index : goal.bounds-names-index
 bounds-names-index c =
+    let f = c.args.sources.now in
     let zero : c.level.result ≡ Some 0 = search rules in
     let value : c.value.result ≡ Some false = search rules in
     let has =
-    found_unit c.args.engine.now c.args.store.now.slots c.args.units.now c.args.reference
+    found_unit f.engine.now f.store.now.slots f.units.now c.args.reference
     c.lits-lit-items.result.now c.loop-lit.lit-index c.lit-item.result c.requires.tables.fits
     c.requires.noted c.lits-lit-items.ensures c.loop-lit-test.true c.lit-item.is
     c.variable-variable.result c.index-units-place.result c.variable-variable.ensures.variable
@@ -89,15 +91,16 @@ bounds-names-index c =
     let same : c.in-Some.unit ≡ has.0 =
     same_Some c.in-Some.unit has.0 (sym c.in-Some.is ∙ c.get.ensures ∙ has.1) in
     let inside_store =
-    live_within c.args.store.now.slots has.0 (negation c.lit-item.result ∷ []) has.3 in
+    live_within f.store.now.slots has.0 (negation c.lit-item.result ∷ []) has.3 in
     omega (arith, c.requires.tables.named)
 
 pub unreachable-requires : goal.unreachable-requires
 unreachable-requires c =
+    let f = c.args.sources.now in
     let zero : c.level.result ≡ Some 0 = search rules in
     let value : c.value.result ≡ Some false = search rules in
     let has =
-    found_unit c.args.engine.now c.args.store.now.slots c.args.units.now c.args.reference
+    found_unit f.engine.now f.store.now.slots f.units.now c.args.reference
     c.lits-lit-items.result.now c.loop-lit.lit-index c.lit-item.result c.requires.tables.fits
     c.requires.noted c.lits-lit-items.ensures c.loop-lit-test.true c.lit-item.is
     c.variable-variable.result c.index-units-place.result c.variable-variable.ensures.variable
@@ -106,11 +109,11 @@ unreachable-requires c =
 
 pub loop-lit-preserved : goal.loop-lit-preserved
 loop-lit-preserved c =
-    let e = c.args.engine.now in
+    let e = c.args.sources.now.engine.now in
     let T = e.trail in
-    let S = c.args.store.now.slots in
-    let N = c.args.names.now in
-    let U = c.args.units.now in
+    let S = c.args.sources.now.store.now.slots in
+    let N = c.args.sources.now.names.now in
+    let U = c.args.sources.now.units.now in
     let lits = c.lits-lit-items.result.now in
     let i = c.loop-lit.lit-index in
     let l = c.lit-item.result in
@@ -188,13 +191,14 @@ loop-lit-preserved c =
 
 pub returns-clause-gathers : goal.returns-clause-gathers
 returns-clause-gathers c all done listed g =
-    let e = c.args.engine.now in
-    let S = c.args.store.now.slots in
+    let f = c.args.sources.now in
+    let e = f.engine.now in
+    let S = f.store.now.slots in
     let lits = c.lits-lit-items.result.now in
-    gathers_clause S c.args.names.now c.args.units.now e.trail c.args.stamp all done
+    gathers_clause S f.names.now f.units.now e.trail c.args.stamp all done
     c.args.reference lits listed c.requires.tables.fits.reasons c.lits-lit-items.ensures
     c.loop-lit.stamps c.loop-lit.hints.items
-    (subst (λ x. Gathers S c.args.names.now c.args.units.now e.trail c.args.stamp all done x
+    (subst (λ x. Gathers S f.names.now f.units.now e.trail c.args.stamp all done x
     c.loop-lit.stamps c.loop-lit.hints.items)
     (take_all c.loop-lit.lit-index lits c.loop-lit-test.false)
     (c.loop-lit.invariant.gathers all done listed g))

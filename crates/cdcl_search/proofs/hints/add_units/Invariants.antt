@@ -7,8 +7,10 @@ abbrev pub invariant-loop-lit : goal.invariant-loop-lit
 invariant-loop-lit l = record {
   past : All (λ n. n ≤ l.stamp) l.stamps;
   gathers : (all done : List ℕ) → Contains all l.fn.reference
-      → Gathers l.store.slots l.names l.units l.engine.trail l.stamp all done [] l.initial.stamps
+      → Gathers (l.sources).store.now.slots (l.sources).names.now (l.sources).units.now
+      (l.sources).engine.now.trail l.stamp all done [] l.initial.stamps
       l.initial.hints.items
-      → Gathers l.store.slots l.names l.units l.engine.trail l.stamp all done
+      → Gathers (l.sources).store.now.slots (l.sources).names.now (l.sources).units.now
+      (l.sources).engine.now.trail l.stamp all done
       (take l.lit-index l.lit-items) l.stamps l.hints.items;
 }

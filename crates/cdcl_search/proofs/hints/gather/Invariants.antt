@@ -6,6 +6,7 @@ use Rattle.cdcl_search.proofs.hints.gather.Given as goal
 abbrev pub invariant-loop-reference : goal.invariant-loop-reference
 invariant-loop-reference l = record {
   past : All (λ n. n ≤ l.stamp) l.stamps;
-  gathers : Gathers l.store.slots l.names l.units l.engine.trail l.stamp l.references
+  gathers : Gathers (l.sources).store.now.slots (l.sources).names.now (l.sources).units.now
+      (l.sources).engine.now.trail l.stamp l.references
       (take l.reference-index l.references) [] l.stamps l.hints.items;
 }

@@ -5,7 +5,7 @@ use Rattle.std.specs.Prelude.{All}
 use Rattle.cnf.specs.Literal.{Literal}
 use Rattle.cnf.specs.Clause.{greatest_variable, has_repeat, is_tautology}
 use Rattle.cnf.specs.Marks.{IsMarked}
-use Rattle.cdcl.proofs.guided.are_apart.Given as goal
+use Rattle.cdcl.proofs.guided.apart.are_apart.Given as goal
 
 abbrev pub invariant-loop-lit : goal.invariant-loop-lit
 invariant-loop-lit l = record {

@@ -9,16 +9,17 @@ use Rattle.cdcl_search.specs.declared.search.Search.{Search}
 use Rattle.cdcl.specs.declared.guided.GuidedEnd.TheVariants.{Satisfied}
 use Rattle.cdcl.proofs.Rounds.{goes_decided}
 use Rattle.cdcl.proofs.Guiding.{guided_breaks, guided_ends, guided_goes, paid_none, paid_nothing}
-use Rattle.cdcl.proofs.guided.branch.Goals as goal
+use Rattle.cdcl.proofs.guided.turns.Course.branch.Goals as goal
 
 pub returns-then-not-branch-clause-turns : goal.returns-then-not-branch-clause-turns
 returns-then-not-branch-clause-turns g c =
-    let p = c.args.input.now in
-    let s = c.args.search.now in
-    let b = c.args.budget.now in
-    let ls = g.S.Sink.lines c.args.sink.now in
-    let e = c.branch-search.ensures in
-    let f = c.branch-search.new.self in
+    let o = c.args.self.now in
+    let p = o.input.now in
+    let s = o.search.now in
+    let b = o.budget.now in
+    let ls = g.S.Sink.lines o.sink.now in
+    let e = c.branch-self.ensures in
+    let f = c.branch-self.new.self in
     let stays = e.stays c.if-not-branch.true in
     guided_ends s f p ls ls b b Satisfied
     (record {
@@ -34,29 +35,33 @@ returns-then-not-branch-clause-turns g c =
     (paid_nothing p.given ls b)
 
 pub thin_out-requires : goal.thin_out-requires
-thin_out-requires g c = record {
-  runs = c.branch-search.ensures.runs c.args.input.now (g.S.Sink.lines c.args.sink.now)
-      c.requires.runs;
-}
+thin_out-requires g c =
+    let o = c.args.self.now in
+    record {
+      runs = c.branch-self.ensures.runs o.input.now (g.S.Sink.lines o.sink.now)
+          c.requires.runs;
+    }
 
 pub returns-in_err-thin_out-clause-turns : goal.returns-in_err-thin_out-clause-turns
 returns-in_err-thin_out-clause-turns g c =
-    let p = c.args.input.now in
-    let b = c.args.budget.now in
-    let ls = g.S.Sink.lines c.args.sink.now in
+    let o = c.args.self.now in
+    let p = o.input.now in
+    let b = o.budget.now in
+    let ls = g.S.Sink.lines o.sink.now in
     let more = g.S.Sink.lines c.thin_out.new.sink in
-    guided_breaks c.from_residual.result c.args.search.now c.thin_out.new.search p ls more b b
+    guided_breaks c.from_residual.result o.search.now c.thin_out.new.search p ls more b b
     c.from_residual.ensures.0 c.in_err-thin_out.ensures.reduces.err
     (paid_none p.given ls more b c.thin_out.ensures.reduces.writes)
 
 pub returns-clause-turns : goal.returns-clause-turns
 returns-clause-turns g c =
-    let s = c.args.search.now in
-    let p = c.args.input.now in
-    let b = c.args.budget.now in
-    let ls = g.S.Sink.lines c.args.sink.now in
+    let o = c.args.self.now in
+    let s = o.search.now in
+    let p = o.input.now in
+    let b = o.budget.now in
+    let ls = g.S.Sink.lines o.sink.now in
     let more = g.S.Sink.lines c.thin_out.new.sink in
-    let e = c.branch-search.ensures in
+    let e = c.branch-self.ensures in
     let r = c.in_ok-thin_out.ensures.reduces.leaves in
     let longer = e.longer c.if-not-branch.false in
     let policy = ap (λ (x : Search). x.policy) e.engine.rest in

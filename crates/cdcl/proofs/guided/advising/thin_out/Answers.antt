@@ -1,6 +1,6 @@
 use Rattle.std.proofs.Common.{refl}
 use Rattle.cdcl_search.proofs.Laws.{writes_none}
-use Rattle.cdcl.proofs.guided.thin_out.Goals as goal
+use Rattle.cdcl.proofs.guided.advising.thin_out.Goals as goal
 
 pub returns-then-not-may_delete-clause-reduces : goal.returns-then-not-may_delete-clause-reduces
 returns-then-not-may_delete-clause-reduces g c = record {

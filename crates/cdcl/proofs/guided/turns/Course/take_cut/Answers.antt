@@ -11,28 +11,31 @@ use Rattle.cdcl.specs.Guiding.{PaysOpen}
 use Rattle.cdcl.proofs.Rounds.{goes_paid, open_log}
 use Rattle.cdcl.proofs.Guiding.{cut_refused, cut_fails, paid_axiom, paid_nothing}
 use Rattle.cdcl.proofs.Guiding.{waived_of}
-use Rattle.cdcl.proofs.guided.take_cut.Goals as goal
+use Rattle.cdcl.proofs.guided.turns.Course.take_cut.Goals as goal
 
 pub returns-in_err-make_room-clause-taking : goal.returns-in_err-make_room-clause-taking
 returns-in_err-make_room-clause-taking g c =
-    let s = c.args.search.now in
-    let p = c.args.input.now in
-    let b = c.args.budget.now in
-    let ls = g.S.Sink.lines c.args.sink.now in
+    let o = c.args.self.now in
+    let s = o.search.now in
+    let p = o.input.now in
+    let b = o.budget.now in
+    let ls = g.S.Sink.lines o.sink.now in
     cut_fails c.from_residual.result s s p ls ls b b c.from_residual.ensures.0
     (open_log s p ls c.requires.runs) (paid_nothing p.given ls b) refl
 
 pub returns-then-not-are_apart-clause-taking : goal.returns-then-not-are_apart-clause-taking
 returns-then-not-are_apart-clause-taking g c =
-    let ls = g.S.Sink.lines c.args.sink.now in
-    cut_refused c.args.search.now c.args.input.now ls ls c.args.budget.now refl
+    let o = c.args.self.now in
+    let ls = g.S.Sink.lines o.sink.now in
+    cut_refused o.search.now o.input.now ls ls o.budget.now refl
 
 pub returns-in_err-taken-clause-taking : goal.returns-in_err-taken-clause-taking
 returns-in_err-taken-clause-taking g c =
-    let s = c.args.search.now in
-    let p = c.args.input.now in
-    let b = c.args.budget.now in
-    let ls = g.S.Sink.lines c.args.sink.now in
+    let o = c.args.self.now in
+    let s = o.search.now in
+    let p = o.input.now in
+    let b = o.budget.now in
+    let ls = g.S.Sink.lines o.sink.now in
     let more = g.S.Sink.lines c.cut.new.self in
     let same = c.in_err-taken.ensures.err in
     cut_fails c.from_residual-in_err-taken.result s s p ls more b b
@@ -42,18 +45,20 @@ returns-in_err-taken-clause-taking g c =
 
 pub returns-then-not-taken-clause-taking : goal.returns-then-not-taken-clause-taking
 returns-then-not-taken-clause-taking g c =
-    cut_refused c.args.search.now c.args.input.now (g.S.Sink.lines c.args.sink.now)
-    (g.S.Sink.lines c.cut.new.self) c.args.budget.now
+    let o = c.args.self.now in
+    cut_refused o.search.now o.input.now (g.S.Sink.lines o.sink.now)
+    (g.S.Sink.lines c.cut.new.self) o.budget.now
     (c.in_ok-taken.ensures.refused c.if-not-taken.true)
 
 pub returns-then-is_empty-clause-taking : goal.returns-then-is_empty-clause-taking
 returns-then-is_empty-clause-taking g c =
-    let s = c.args.search.now in
-    let p = c.args.input.now in
-    let ls = g.S.Sink.lines c.args.sink.now in
+    let o = c.args.self.now in
+    let s = o.search.now in
+    let p = o.input.now in
+    let ls = g.S.Sink.lines o.sink.now in
     let lits = c.args.lits.now in
     let lines = c.in_ok-taken.ensures.taken c.if-not-taken.false in
-    let b = c.args.budget.now in
+    let b = o.budget.now in
     let none : lits ≡ [] =
     nil_from_length lits
     (eqb-true (length lits) 0 (sym c.is_empty.ensures ∙ c.if-is_empty.true)) in
@@ -72,29 +77,31 @@ returns-then-is_empty-clause-taking g c =
 
 pub returns-in_err-take_axiom-clause-taking : goal.returns-in_err-take_axiom-clause-taking
 returns-in_err-take_axiom-clause-taking g c =
-    let s = c.args.search.now in
-    let p = c.args.input.now in
-    let ls = g.S.Sink.lines c.args.sink.now in
+    let o = c.args.self.now in
+    let s = o.search.now in
+    let p = o.input.now in
+    let ls = g.S.Sink.lines o.sink.now in
     let more = g.S.Sink.lines c.cut.new.self in
     let lits = c.args.lits.now in
     let lines = c.in_ok-taken.ensures.taken c.if-not-taken.false in
     let long = eqb-false (length lits) 0 (sym c.is_empty.ensures ∙ c.if-is_empty.false) in
     let some : 0 < length lits = omega (arith, long) in
     cut_fails c.from_residual-in_err-take_axiom.result s c.take_axiom.new.search p ls more
-    c.args.budget.now c.count_learned.new.self c.from_residual-in_err-take_axiom.ensures.0
+    o.budget.now c.count_learned.new.self c.from_residual-in_err-take_axiom.ensures.0
     (subst (StaysOpen p) (sym lines) (axiom_stays s p ls lits c.requires.runs some
     (c.are_apart.ensures.new c.if-not-are_apart.false)))
-    (paid_axiom p.given ls more lits c.args.budget.now c.count_learned.new.self lines
+    (paid_axiom p.given ls more lits o.budget.now c.count_learned.new.self lines
     c.count_learned.ensures)
-    (waived_of c.args.budget.now c.count_learned.new.self (c.args.budget.now.learned + 1)
+    (waived_of o.budget.now c.count_learned.new.self (o.budget.now.learned + 1)
     c.count_learned.ensures)
 
 pub returns-clause-taking : goal.returns-clause-taking
 returns-clause-taking g c =
-    let s = c.args.search.now in
-    let p = c.args.input.now in
-    let b = c.args.budget.now in
-    let ls = g.S.Sink.lines c.args.sink.now in
+    let o = c.args.self.now in
+    let s = o.search.now in
+    let p = o.input.now in
+    let b = o.budget.now in
+    let ls = g.S.Sink.lines o.sink.now in
     let more = g.S.Sink.lines c.cut.new.self in
     let lines = c.in_ok-taken.ensures.taken c.if-not-taken.false in
     let e = c.in_ok-take_axiom.ensures in

@@ -1,5 +1,5 @@
 use Rattle.std.proofs.Common.{◌≡◌}
-use Rattle.cdcl.proofs.guided.ask.Given as goal
+use Rattle.cdcl.proofs.guided.advising.ask.Given as goal
 
 abbrev pub invariant-loop : goal.invariant-loop
 invariant-loop g l = record {

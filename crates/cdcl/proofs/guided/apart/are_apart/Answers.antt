@@ -7,7 +7,7 @@ use Rattle.cnf.specs.Literal.{Literal, index_of}
 use Rattle.cnf.specs.Clause.{greatest_variable, has_repeat, is_tautology}
 use Rattle.cnf.specs.Marks.{IsMarked, HasPlace}
 use Rattle.cdcl.proofs.Apart.{step}
-use Rattle.cdcl.proofs.guided.are_apart.Goals as goal
+use Rattle.cdcl.proofs.guided.apart.are_apart.Goals as goal
 
 pub loop-lit-preserved : goal.loop-lit-preserved
 loop-lit-preserved c =

@@ -5,35 +5,39 @@ use Rattle.cdcl_order.specs.Policies.{PolicyState}
 use Rattle.cdcl_search.specs.declared.search.Search.{Search}
 use Rattle.cdcl.proofs.Rounds.{goes_decided}
 use Rattle.cdcl.proofs.Guiding.{guided_breaks, guided_goes, paid_none}
-use Rattle.cdcl.proofs.guided.decide.Goals as goal
+use Rattle.cdcl.proofs.guided.turns.Course.decide.Goals as goal
 
-pub branch-search-requires-clause-fixpoint : goal.branch-search-requires-clause-fixpoint
-branch-search-requires-clause-fixpoint g c =
+pub branch-self-requires-clause-fixpoint : goal.branch-self-requires-clause-fixpoint
+branch-self-requires-clause-fixpoint g c =
     subst (λ (s : Search). IsFixpoint s.store.slots (literals_of s.engine.trail))
     (sym (c.decide_open.ensures.stays c.if-not-decide_open.true)) c.requires.fixpoint
 
 pub thin_out-requires : goal.thin_out-requires
-thin_out-requires g c = record {
-  runs = c.decide_open.ensures.runs c.args.input.now (g.S.Sink.lines c.args.sink.now)
-      c.requires.runs;
-}
+thin_out-requires g c =
+    let o = c.args.self.now in
+    record {
+      runs = c.decide_open.ensures.runs o.input.now (g.S.Sink.lines o.sink.now)
+          c.requires.runs;
+    }
 
 pub returns-in_err-thin_out-clause-turns : goal.returns-in_err-thin_out-clause-turns
 returns-in_err-thin_out-clause-turns g c =
-    let p = c.args.input.now in
-    let b = c.args.budget.now in
-    let ls = g.S.Sink.lines c.args.sink.now in
+    let o = c.args.self.now in
+    let p = o.input.now in
+    let b = o.budget.now in
+    let ls = g.S.Sink.lines o.sink.now in
     let more = g.S.Sink.lines c.thin_out.new.sink in
-    guided_breaks c.from_residual.result c.args.search.now c.thin_out.new.search p ls more b b
+    guided_breaks c.from_residual.result o.search.now c.thin_out.new.search p ls more b b
     c.from_residual.ensures.0 c.in_err-thin_out.ensures.reduces.err
     (paid_none p.given ls more b c.thin_out.ensures.reduces.writes)
 
 pub returns-clause-turns : goal.returns-clause-turns
 returns-clause-turns g c =
-    let s = c.args.search.now in
-    let p = c.args.input.now in
-    let b = c.args.budget.now in
-    let ls = g.S.Sink.lines c.args.sink.now in
+    let o = c.args.self.now in
+    let s = o.search.now in
+    let p = o.input.now in
+    let b = o.budget.now in
+    let ls = g.S.Sink.lines o.sink.now in
     let more = g.S.Sink.lines c.thin_out.new.sink in
     let e = c.decide_open.ensures in
     let r = c.in_ok-thin_out.ensures.reduces.leaves in
