@@ -1,27 +1,26 @@
 //! The improving search: each solution bounds the cost of the next (Handbook of Satisfiability,
 //! chapter MaxSAT, linear search from satisfiable to unsatisfiable).
-ghost use Rattle.std.specs.Prelude.{◌≡◌, ◌+◌, ◌<◌, [], ◌∷◌};
-ghost use Rattle.std.specs.Prelude.{Ok, IfOk, IfErr, OnOk, OnErr};
-ghost use Rattle.cnf.specs.Refute.{IsRefutedByHints};
-ghost use Rattle.lrat_log.specs.Steps.{IsAcceptedLog, AddsNoEmptyClause, learned_count};
-ghost use Rattle.bound.specs.Bound.{hard_cnf};
+ghost use Rattle.std.specs.Prelude.{◌≡◌, [], ◌∷◌, IfOk, OnOk, OnErr};
+ghost use Rattle.lrat_log.specs.Steps.{learned_count};
 ghost use Rattle.cdcl_order.specs.Budgets.{BudgetState, WaivesAs};
 ghost use Rattle.cdcl_order.specs.Watch.{Better, with_seen};
-ghost use Rattle.cdcl.specs.Solving.{given_to};
-ghost use Rattle.improve.specs.Improving.{Improves, IsHardLog, IsRightFound, IsSolution, OnWork};
-ghost use Rattle.improve.specs.Improving.{PaysForHard, EndsWith, AreFalling, work_count};
+ghost use Rattle.improve.specs.Improving.{Improves, IsHardLog, IsSolution, PaysForHard};
 ghost use Rattle.improve.specs.Progress.{CanFail, with_told, with_failed};
-ghost use Rattle.improve.specs.Bounds.{IsOver, IsOverHard, HasNoBound, IsBoundsEnd};
-ghost use Rattle.improve.specs.Standing.{AreFeasible, Descends, Ends, Fails, starting_with};
+ghost use Rattle.improve.specs.Bounds.{IsOverHard};
+ghost use Rattle.improve.specs.Standing.{AreFeasible, Ends, starting_with};
 ghost use Rattle.improve.specs.Watch.{AreShown};
 
-use crate::bounds::{Bounds, BoundsEnd, Next};
-use crate::found::{Found, ImproveFault, Work};
+mod concluding;
+mod descending;
+
+use crate::bounds::Bounds;
+use crate::found::{Found, ImproveFault};
 use crate::frozen::freeze_none;
 use crate::progress::{Progress, ProgressFault};
+use crate::search::concluding::{conclude_nothing, conclude_zero};
+use crate::search::descending::{Descent, tighten};
 use crate::solutions::{Solution, price_polished};
 use crate::watch::Watch;
-use crate::zero::refute_zero;
 use adder::profiles::Profile;
 use bound::formulas::hard_formula;
 use cdcl::budget::Budget;
@@ -104,9 +103,13 @@ pub fn improve_watched<T: Progress, W: Watch>(
         Ok(Outcome::Sat(bits)) => {
             let first = price_polished(instance, bits);
             let hard = solver.into_sink();
-            lower(
-                instance, budget, progress, profile, watch, hard, first, false,
-            )
+            let start = Start {
+                profile,
+                hard,
+                first,
+                is_given: false,
+            };
+            lower(instance, budget, progress, watch, start)
         }
         Ok(Outcome::Unsat) => {
             let clauses = solver.given().len() as u64;
@@ -155,9 +158,13 @@ pub fn improve_from<T: Progress, W: Watch>(
     }
     let first = price_polished(instance, bits);
     budget.count_answer();
-    lower(
-        instance, budget, progress, profile, watch, hard, first, true,
-    )
+    let start = Start {
+        profile,
+        hard,
+        first,
+        is_given: true,
+    };
+    lower(instance, budget, progress, watch, start)
 }
 
 /// A solver of the hard clauses alone.
@@ -173,81 +180,99 @@ fn make_hard_solver(instance: &Instance) -> Result<Solver<Log>, AllocError>
     Ok(solver)
 }
 
+/// A solution from which the search goes on, and what it has so far.
+#[derive(Drop)]
+struct Start {
+    /// How soft clauses are relaxed.
+    profile: Profile,
+    /// The log of the hard clauses.
+    hard: Log,
+    /// The solution.
+    first: Solution,
+    /// Whether it was given, and not searched for.
+    is_given: bool,
+}
+
 /// Goes on from a solution that was not told yet. It is told before anything of a bound is built:
-/// that takes time and memory, and may fail. The log is that of the hard clauses. `is_given` says
-/// whether the solution was given and not searched for.
+/// that takes time and memory, and may fail.
 fn lower<T: Progress, W: Watch>(
     instance: &Instance,
     budget: &mut Budget,
     progress: &mut T,
-    profile: Profile,
     watch: &mut W,
-    hard: Log,
-    first: Solution,
-    is_given: bool,
+    start: Start,
 ) -> Result<Found, ImproveFault>
     requires failures { CanFail (T.state progress.old) }
-    requires solution { IsSolution instance.now first.bits.items first.cost }
-    requires hard { IsHardLog instance.now hard }
+    requires solution { IsSolution instance.now start.first.bits.items start.first.cost }
+    requires hard { IsHardLog instance.now start.hard }
     ensures follows { (first : T) → T.follows first progress.old → T.follows first progress.new }
     ensures shown { AreShown instance.now (T.state progress.old) (T.state progress.new)
         (W.seen watch.old) (W.seen watch.new) }
     ensures waives { WaivesAs budget.old budget.new (W.waived watch.old) (W.waived watch.new) }
 
     // From before the search over the hard clauses.
-    ensures improves { (before : BudgetState) → PaysForHard before budget.old hard
-        → Improves profile instance.now result
+    ensures improves { (before : BudgetState) → PaysForHard before budget.old start.hard
+        → Improves start.profile instance.now result
         (T.state progress.old) (T.state progress.new)
         before budget.new }
 {
-    if tell(instance, progress, watch, &first).is_err() {
+    if tell(instance, progress, watch, &start.first).is_err() {
         // Here and below: a call of `drop` is proved once for each type, and the end of a scope
         // field by field.
-        drop(hard);
-        drop(first);
+        drop(start);
         return Err(ImproveFault::Progress);
     }
-    if first.cost == 0 {
+    if start.first.cost == 0 {
+        let Start {
+            profile,
+            hard,
+            first,
+            ..
+        } = start;
         drop(hard);
         return conclude_zero(instance, profile, first.bits);
     }
-    lower_by_bounds(
-        instance, budget, progress, profile, watch, hard, first, is_given,
-    )
+    lower_by_bounds(instance, budget, progress, watch, start)
 }
 
 /// Goes on by bounds from a solution that was told. Where the search was given a solution, the
-/// values of this one are tried first. The log is that of the hard clauses.
+/// values of this one are tried first.
 fn lower_by_bounds<T: Progress, W: Watch>(
     instance: &Instance,
     budget: &mut Budget,
     progress: &mut T,
-    profile: Profile,
     watch: &mut W,
-    hard: Log,
-    first: Solution,
-    is_given: bool,
+    start: Start,
 ) -> Result<Found, ImproveFault>
     requires failures { CanFail (T.state progress.old) }
-    requires solution { IsSolution instance.now first.bits.items first.cost }
-    requires hard { IsHardLog instance.now hard }
+    requires solution { IsSolution instance.now start.first.bits.items start.first.cost }
+    requires hard { IsHardLog instance.now start.hard }
     ensures follows { (first : T) → T.follows first progress.old → T.follows first progress.new }
     ensures shown { AreShown instance.now (T.state progress.old) (T.state progress.new)
         (W.seen watch.old) (W.seen watch.new) }
     ensures waives { WaivesAs budget.old budget.new (W.waived watch.old) (W.waived watch.new) }
-    ensures ends { Ends profile instance.now result
+    ensures ends { Ends start.profile instance.now result
         (T.state progress.old) (T.state progress.new)
-        budget.old budget.new (starting_with first) (learned_count hard) }
+        budget.old budget.new (starting_with start.first) (learned_count start.hard) }
 {
+    let Start {
+        profile,
+        hard,
+        first,
+        is_given,
+    } = start;
     let Ok(mut bounds) = Bounds::new(instance, profile) else {
         drop(hard);
         drop(first);
         return Err(ImproveFault::Memory);
     };
     suggest_given(&mut bounds, &first, is_given);
-    let found = tighten(instance, budget, progress, watch, &mut bounds, hard, first);
-    drop(bounds);
-    found
+    let descent = Descent {
+        bounds,
+        hard,
+        best: first,
+    };
+    tighten(instance, budget, progress, watch, descent)
 }
 
 /// The values of a solution are tried first, where the search was given one.
@@ -256,93 +281,6 @@ fn suggest_given(bounds: &mut Bounds, first: &Solution, is_given: bool)
 {
     if is_given {
         bounds.suggest(&first.bits);
-    }
-}
-
-/// Goes from a solution that was told to the end of the bounds below it. The log is that of the
-/// hard clauses. The solver of the bounds is its caller's, so that no exit here has to give it
-/// back.
-fn tighten<T: Progress, W: Watch>(
-    instance: &Instance,
-    budget: &mut Budget,
-    progress: &mut T,
-    watch: &mut W,
-    bounds: &mut Bounds,
-    hard: Log,
-    first: Solution,
-) -> Result<Found, ImproveFault>
-    requires failures { CanFail (T.state progress.old) }
-    requires solution { IsSolution instance.now first.bits.items first.cost }
-    requires hard { IsHardLog instance.now hard }
-    requires over { IsOver instance.now bounds.old }
-    requires none { HasNoBound bounds.old }
-    ensures follows { (first : T) → T.follows first progress.old → T.follows first progress.new }
-    ensures shown { AreShown instance.now (T.state progress.old) (T.state progress.new)
-        (W.seen watch.old) (W.seen watch.new) }
-    ensures waives { WaivesAs budget.old budget.new (W.waived watch.old) (W.waived watch.new) }
-    ensures ends { Ends bounds.old.profile instance.now result
-        (T.state progress.old) (T.state progress.new)
-        budget.old budget.new (starting_with first) (learned_count hard) }
-{
-    let mut best = first;
-    match descend(instance, budget, progress, watch, bounds, &mut best) {
-        Ok(BoundsEnd::Refuted) => {
-            drop(hard);
-            conclude_optimum(instance, bounds, best)
-        }
-        Ok(BoundsEnd::Spent) => conclude_spent(instance, bounds, hard, best),
-        Err(fault) => {
-            drop(hard);
-            drop(best);
-            Err(fault)
-        }
-    }
-}
-
-/// Goes from the best solution, which was told, to cheaper ones: the cost of each is the next
-/// bound, and what is found below it is told and is the best one from then on. All that the search
-/// owns is its caller's, so that its many exits drop nothing.
-fn descend<T: Progress, W: Watch>(
-    instance: &Instance,
-    budget: &mut Budget,
-    progress: &mut T,
-    watch: &mut W,
-    bounds: &mut Bounds,
-    best: &mut Solution,
-) -> Result<BoundsEnd, ImproveFault>
-    requires failures { CanFail (T.state progress.old) }
-    requires solution { IsSolution instance.now best.old.bits.items best.old.cost }
-    requires over { IsOver instance.now bounds.old }
-    requires none { HasNoBound bounds.old }
-    ensures follows { (first : T) → T.follows first progress.old → T.follows first progress.new }
-    ensures shown { AreShown instance.now (T.state progress.old) (T.state progress.new)
-        (W.seen watch.old) (W.seen watch.new) }
-    ensures waives { WaivesAs budget.old budget.new (W.waived watch.old) (W.waived watch.new) }
-    ensures over { OnOk result (IsOver instance.now bounds.new) }
-    ensures profile { OnOk result (bounds.new.profile ≡ bounds.old.profile) }
-    ensures descends { OnOk result (Descends instance.now
-        (T.state progress.old) (T.state progress.new)
-        budget.old budget.new (starting_with best.old) best.new bounds.new) }
-    ensures end { IfOk result (IsBoundsEnd bounds.new budget.new best.new.cost) }
-    ensures fails { IfErr result (λ fault. Fails instance.now fault
-        (T.state progress.old) (T.state progress.new)
-        budget.old budget.new (starting_with best.old)) }
-{
-    loop {
-        if bounds.add(instance, best.cost).is_err() {
-            return Err(ImproveFault::Memory);
-        }
-        match bounds.solve(instance, budget, watch) {
-            Ok(Next::Cheaper(solution)) => {
-                if tell(instance, progress, watch, &solution).is_err() {
-                    return Err(ImproveFault::Progress);
-                }
-                *best = solution;
-            }
-            Ok(Next::Refuted) => return Ok(BoundsEnd::Refuted),
-            Ok(Next::Spent) => return Ok(BoundsEnd::Spent),
-            Err(AllocError) => return Err(ImproveFault::Memory),
-        }
     }
 }
 
@@ -368,103 +306,4 @@ pub fn tell<T: Progress, W: Watch>(
 {
     watch.better(instance, solution.cost, &solution.bits);
     progress.improved(solution.cost)
-}
-
-/// The optimum that costs nothing.
-fn conclude_zero(
-    instance: &Instance,
-    profile: Profile,
-    bits: Vec<bool>,
-) -> Result<Found, ImproveFault>
-    requires solution { IsSolution instance.now bits.items 0 }
-    ensures found { IfOk result (IsRightFound profile instance.now (0 ∷ [])) }
-    ensures work { OnWork result (λ _. ⊥) }
-    ensures fault { IfErr result (λ e. e ≡ ImproveFault.Memory) }
-{
-    match refute_zero(instance, profile) {
-        Ok(refutation) => Ok(Found::Optimum {
-            cost: 0,
-            bits,
-            log: refutation.log,
-            clauses: refutation.clauses,
-        }),
-        Err(AllocError) => Err(ImproveFault::Memory),
-    }
-}
-
-/// The end where no solution is cheaper.
-fn conclude_optimum(
-    instance: &Instance,
-    bounds: &mut Bounds,
-    best: Solution,
-) -> Result<Found, ImproveFault>
-    requires over { IsOver instance.now bounds.old }
-    requires refuted { IsAcceptedLog (given_to bounds.old.solver) bounds.old.solver.sink }
-    requires solution { IsSolution instance.now best.bits.items best.cost }
-    requires last { EndsWith bounds.old.costs.items best.cost }
-    requires falling { AreFalling bounds.old.costs.items }
-    ensures found { IfOk result
-        (IsRightFound bounds.old.profile instance.now bounds.old.costs.items) }
-    ensures work { OnWork result (λ _. ⊥) }
-    ensures fault { IfErr result (λ e. e ≡ ImproveFault.Memory) }
-{
-    let clauses = bounds.count_clauses(instance);
-    match bounds.rebase_log(instance) {
-        Ok(log) => Ok(Found::Optimum {
-            cost: best.cost,
-            bits: best.bits,
-            log,
-            clauses,
-        }),
-        Err(AllocError) => Err(ImproveFault::Memory),
-    }
-}
-
-/// The end where the budget is spent and no solution was told. The log is that of the hard clauses.
-fn conclude_nothing(instance: &Instance, hard: Log) -> Found
-    requires hard { IsHardLog instance.now hard }
-    requires open { IsRefutedByHints (hard_cnf instance.now).clauses → ⊥ }
-    ensures found { (profile : Profile) → IsRightFound profile instance.now [] result }
-    ensures work { OnWork (Ok result) (λ w. work_count w ≡ learned_count hard) }
-{
-    Found::Nothing {
-        work: Work {
-            hard,
-            bound: Log::new(instance.allocator()),
-        },
-    }
-}
-
-/// The end where the budget is spent. The log is that of the hard clauses.
-fn conclude_spent(
-    instance: &Instance,
-    bounds: &mut Bounds,
-    hard: Log,
-    best: Solution,
-) -> Result<Found, ImproveFault>
-    requires over { IsOver instance.now bounds.old }
-    requires open { AddsNoEmptyClause bounds.old.solver.sink }
-    requires solution { IsSolution instance.now best.bits.items best.cost }
-    requires above { 0 < best.cost }
-    requires last { EndsWith bounds.old.costs.items best.cost }
-    requires falling { AreFalling bounds.old.costs.items }
-    requires hard { IsHardLog instance.now hard }
-    ensures found { IfOk result
-        (IsRightFound bounds.old.profile instance.now bounds.old.costs.items) }
-    ensures work { OnWork result (λ w. work_count w
-        ≡ learned_count hard + learned_count bounds.old.solver.sink) }
-    ensures fault { IfErr result (λ e. e ≡ ImproveFault.Memory) }
-{
-    match bounds.rebase_log(instance) {
-        Ok(bound) => Ok(Found::Best {
-            cost: best.cost,
-            bits: best.bits,
-            work: Work { hard, bound },
-        }),
-        Err(AllocError) => {
-            drop(hard);
-            drop(best);
-            Err(ImproveFault::Memory)
-        }
-    }
 }

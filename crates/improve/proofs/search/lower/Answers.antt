@@ -14,9 +14,9 @@ use Rattle.improve.proofs.search.lower.Goals as goal
 pub returns-then-is_err-clause-improves : goal.returns-then-is_err-clause-improves
 returns-then-is_err-clause-improves g c = λ before paid.
     let p = c.args.instance.now in
-    let first = c.args.first in
+    let first = c.args.start.first in
     let err = on_err_at c.tell.result c.if-is_err.ensures.value c.tell.ensures.err in
-    progress_end c.args.profile p _ _ before c.args.budget.now (sym paid.limit) []
+    progress_end c.args.start.profile p _ _ before c.args.budget.now (sym paid.limit) []
     (ap (λ t. t.told) err ∙ sym (append-nil _)) first.cost tt
     (All-push (IsCostOfSome p) [] first.cost (All-nil (IsCostOfSome p))
     (cost_of_solution p first.bits.items first.cost c.requires.solution))
@@ -24,26 +24,27 @@ returns-then-is_err-clause-improves g c = λ before paid.
 
 pub conclude_zero-requires : goal.conclude_zero-requires
 conclude_zero-requires g c =
-    let zero : c.args.first.cost ≡ 0 = omega arith in
+    let zero : c.args.start.first.cost ≡ 0 = omega arith in
     record {
       solution =
-          subst (IsSolution c.args.instance.now c.args.first.bits.items) zero c.requires.solution;
+          subst (IsSolution c.args.instance.now c.args.start.first.bits.items) zero
+          c.requires.solution;
     }
 
-pub returns-then-first-eq0-clause-improves : goal.returns-then-first-eq0-clause-improves
-returns-then-first-eq0-clause-improves g c = λ before paid.
+pub returns-then-start-eq0-clause-improves : goal.returns-then-start-eq0-clause-improves
+returns-then-start-eq0-clause-improves g c = λ before paid.
     let p = c.args.instance.now in
-    let first = c.args.first in
+    let first = c.args.start.first in
     let left = c.args.budget.now in
     let zero : first.cost ≡ 0 = omega arith in
     let ok = on_ok_at c.tell.result c.if-is_err.ensures.value c.tell.ensures.ok in
     let r = c.conclude_zero in
-    found_end c.args.profile p _ _ before left (sym paid.limit) (first.cost ∷ [])
+    found_end c.args.start.profile p _ _ before left (sym paid.limit) (first.cost ∷ [])
     (ap (λ t. t.told) ok) r.result tt
     (All-push (IsCostOfSome p) [] first.cost (All-nil (IsCostOfSome p))
     (cost_of_solution p first.bits.items first.cost c.requires.solution))
     (ap (λ t. t.failures) ok) r.ensures.fault
-    (subst (λ x. IfOk r.result (IsRightFound c.args.profile p (x ∷ []))) (sym zero)
+    (subst (λ x. IfOk r.result (IsRightFound c.args.start.profile p (x ∷ []))) (sym zero)
     r.ensures.found) (omega (arith, paid.answers))
     (on_work_weaker r.result (λ w. ⊥) (λ w. left.learned ≡ before.learned + work_count w)
     (λ w x. absurd x) r.ensures.work)
@@ -73,14 +74,14 @@ pub returns-then-is_err-clause-shown : goal.returns-then-is_err-clause-shown
 returns-then-is_err-clause-shown g c =
     let err = on_err_at c.tell.result c.if-is_err.ensures.value c.tell.ensures.err in
     shown_failed c.args.instance.now (g.T.Progress.state c.args.progress.now) _
-    (g.W.SearchWatch.seen c.args.watch.now) _ c.args.first.cost c.args.first.bits.items
+    (g.W.SearchWatch.seen c.args.watch.now) _ c.args.start.first.cost c.args.start.first.bits.items
     c.requires.solution c.tell.ensures.shown err
 
-pub returns-then-first-eq0-clause-shown : goal.returns-then-first-eq0-clause-shown
-returns-then-first-eq0-clause-shown g c =
+pub returns-then-start-eq0-clause-shown : goal.returns-then-start-eq0-clause-shown
+returns-then-start-eq0-clause-shown g c =
     let ok = on_ok_at c.tell.result c.if-is_err.ensures.value c.tell.ensures.ok in
     shown_told c.args.instance.now (g.T.Progress.state c.args.progress.now) _
-    (g.W.SearchWatch.seen c.args.watch.now) _ c.args.first.cost c.args.first.bits.items
+    (g.W.SearchWatch.seen c.args.watch.now) _ c.args.start.first.cost c.args.start.first.bits.items
     c.requires.solution c.tell.ensures.shown ok
 
 pub returns-clause-shown : goal.returns-clause-shown
@@ -88,6 +89,6 @@ returns-clause-shown g c =
     let ok = on_ok_at c.tell.result c.if-is_err.ensures.value c.tell.ensures.ok in
     shown_more c.args.instance.now _ _ _ _ _ _
     (shown_told c.args.instance.now (g.T.Progress.state c.args.progress.now) _
-    (g.W.SearchWatch.seen c.args.watch.now) _ c.args.first.cost c.args.first.bits.items
+    (g.W.SearchWatch.seen c.args.watch.now) _ c.args.start.first.cost c.args.start.first.bits.items
     c.requires.solution c.tell.ensures.shown ok) (ap (λ t. t.failures) ok)
     c.lower_by_bounds.ensures.shown

@@ -12,24 +12,25 @@ returns-in_default-clause-ends g c =
     let p = c.args.instance.now in
     let told = g.T.Progress.state c.args.progress.now in
     let left = c.args.budget.now in
-    ends_failing c.args.profile p Memory told told left left (starting_with c.args.first)
-    (learned_count c.args.hard)
-    (fails_memory p told told left left (starting_with c.args.first)
-    (first_standing p c.args.first c.requires.solution) refl refl)
+    let first = c.args.start.first in
+    ends_failing c.args.start.profile p Memory told told left left (starting_with first)
+    (learned_count c.args.start.hard)
+    (fails_memory p told told left left (starting_with first)
+    (first_standing p first c.requires.solution) refl refl)
 
-pub tighten-found-requires-clause-over : goal.tighten-found-requires-clause-over
-tighten-found-requires-clause-over g c = rw c.suggest_given.ensures c.in-Ok.ensures.over
+pub tighten-requires-clause-over : goal.tighten-requires-clause-over
+tighten-requires-clause-over g c = rw c.suggest_given.ensures c.in-Ok.ensures.over
 
-pub tighten-found-requires-clause-none : goal.tighten-found-requires-clause-none
-tighten-found-requires-clause-none g c = rw c.suggest_given.ensures c.in-Ok.ensures.none
+pub tighten-requires-clause-none : goal.tighten-requires-clause-none
+tighten-requires-clause-none g c = rw c.suggest_given.ensures c.in-Ok.ensures.none
 
 pub returns-clause-ends : goal.returns-clause-ends
 returns-clause-ends g c =
-    subst (λ q. Ends q c.args.instance.now c.tighten-found.result
-    (g.T.Progress.state c.args.progress.now) (g.T.Progress.state c.tighten-found.new.progress)
-    c.args.budget.now c.tighten-found.new.budget (starting_with c.args.first)
-    (learned_count c.args.hard)) c.in-Ok.ensures.profile
-    (rw c.suggest_given.ensures at c.tighten-found.ensures.ends)
+    subst (λ q. Ends q c.args.instance.now c.tighten.result
+    (g.T.Progress.state c.args.progress.now) (g.T.Progress.state c.tighten.new.progress)
+    c.args.budget.now c.tighten.new.budget (starting_with c.args.start.first)
+    (learned_count c.args.start.hard)) c.in-Ok.ensures.profile
+    (rw c.suggest_given.ensures at c.tighten.ensures.ends)
 
 pub returns-in_default-clause-shown : goal.returns-in_default-clause-shown
 returns-in_default-clause-shown g c =

@@ -1,6 +1,6 @@
 -- Nothing is cheaper than what costs nothing.
 use Rattle.improve.proofs.AtZero.{right_zero}
-use Rattle.improve.proofs.search.conclude_zero.Goals as goal
+use Rattle.improve.proofs.search.concluding.conclude_zero.Goals as goal
 
 pub returns-in-Ok-clause-found : goal.returns-in-Ok-clause-found
 returns-in-Ok-clause-found c =

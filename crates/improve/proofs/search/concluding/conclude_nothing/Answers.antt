@@ -2,7 +2,7 @@
 use Rattle.std.proofs.Common.{ap, arith}
 use Rattle.lrat_log.specs.Steps.{learned_count}
 use Rattle.improve.proofs.HardEnds.{right_nothing}
-use Rattle.improve.proofs.search.conclude_nothing.Goals as goal
+use Rattle.improve.proofs.search.concluding.conclude_nothing.Goals as goal
 
 pub returns-clause-found : goal.returns-clause-found
 returns-clause-found c =

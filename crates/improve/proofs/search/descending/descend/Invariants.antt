@@ -5,16 +5,17 @@ use Rattle.cdcl_order.specs.Budgets.{WaivesAs}
 use Rattle.improve.specs.Bounds.{IsOver}
 use Rattle.improve.specs.Standing.{starting_with, GoesOn}
 use Rattle.improve.specs.Watch.{AreShown}
-use Rattle.improve.proofs.search.descend.Given as goal
+use Rattle.improve.proofs.search.descending.descend.Given as goal
 
-abbrev pub invariant-loop-bounds : goal.invariant-loop-bounds
-invariant-loop-bounds g l = record {
-  over : IsOver l.instance l.bounds;
-  profile : (l.bounds).profile ≡ (l.fn.bounds).profile;
+abbrev pub invariant-bounds : goal.invariant-bounds
+invariant-bounds g l = record {
+  over : IsOver l.instance (l.descent).bounds;
+  profile : ((l.descent).bounds).profile ≡ ((l.fn.descent).bounds).profile;
+  hard : (l.descent).hard ≡ (l.fn.descent).hard;
   goes_on : GoesOn l.instance (g.T.Progress.state l.fn.progress) (g.T.Progress.state l.progress)
-      l.fn.budget l.budget (starting_with l.fn.best)
-      (record { best = l.best; earlier = (l.bounds).costs.items })
-      0 (learned_count ((l.bounds).solver).sink);
+      l.fn.budget l.budget (starting_with (l.fn.descent).best)
+      (record { best = (l.descent).best; earlier = ((l.descent).bounds).costs.items })
+      0 (learned_count (((l.descent).bounds).solver).sink);
   follows : (first : g.row.T.Denot) → g.T.Progress.follows first l.fn.progress
       → g.T.Progress.follows first l.progress;
   shown : AreShown l.instance (g.T.Progress.state l.fn.progress) (g.T.Progress.state l.progress)
@@ -23,5 +24,5 @@ invariant-loop-bounds g l = record {
       (g.W.SearchWatch.waived l.watch);
 }
 
-abbrev pub decreases-loop-bounds : goal.decreases-loop-bounds
-decreases-loop-bounds g l = (l.best).cost
+abbrev pub decreases-bounds : goal.decreases-bounds
+decreases-bounds g l = ((l.descent).best).cost
