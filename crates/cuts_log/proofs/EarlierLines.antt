@@ -6,15 +6,15 @@ use Rattle.std.specs.Prelude.{nat_eq, ◌==◌}
 use Rattle.std.proofs.lemmas.Bool.{cases_eq, cond-false, cond-true, eq-eqb, false≢true, ne_eqb}
 use Rattle.cnf.specs.Clause.{has_repeat}
 use Rattle.cnf.specs.Literal.{Literal}
-use Rattle.cnf.specs.Lrat.{Addition, Deletion, Live, ProofLine, with_clause, without_ids}
+use Rattle.cnf.specs.Lrat.{Live, with_clause, without_ids}
 use Rattle.cnf.specs.Refute.{Clauses}
 use Rattle.lrat_log.specs.Axioms.{FollowByRup, IsOpenStep, OpenChain}
 use Rattle.lrat_log.specs.Log.{Given, LogLine, axiom_line, given_at, start_over}
-use Rattle.lrat_log.specs.Steps.{IsBaseOf, StopsAtEmptyClause, added_count, live_after}
-use Rattle.lrat_log.proofs.Laws.{given_below, live_end, none_of, open_split}
+use Rattle.lrat_log.specs.Steps.{IsBaseOf, StopsAtEmptyClause, added_count}
+use Rattle.lrat_log.proofs.Laws.{given_below, none_of, open_split}
 use Rattle.cuts_log.specs.Starts.{deletion_line, lines_before, lines_for, stand_in}
 use Rattle.cuts_log.proofs.EventLines.{added-append}
-use Rattle.cuts_log.proofs.JudgedSteps.{axiom_is, count_one, stops_on}
+use Rattle.cuts_log.proofs.JudgedSteps.{axiom_is, stops_on}
 
 -- how many add a clause
 lines_for-added : (o : Option (List Literal)) (j : ℕ) → added_count (lines_for o j) ≡ 1

@@ -1,14 +1,13 @@
 -- What is known where a log starts.
-use Rattle.std.proofs.Common.{◌≡◌, ℕ, ◌+◌, ◌-◌, ◌<◌, false, List, [], ◌∷◌}
+use Rattle.std.proofs.Common.{◌≡◌, ℕ, ◌-◌, ◌<◌, false, []}
 use Rattle.std.proofs.Common.{length, refl, sym, ◌∙◌, ap, subst, arith}
-use Rattle.cnf.specs.Literal.{Literal}
 use Rattle.cnf.specs.Problem.{Problem}
 use Rattle.cnf.specs.declared.limits.TheConstants.{NUMBER_LIMIT}
 use Rattle.bound.specs.Weighted.{weighted_cnf, weights_of}
 use Rattle.forms.specs.Forms.{forms_of}
 use Rattle.lrat_live.specs.Listed.{listed_from}
 use Rattle.lrat_log.specs.Steps.{AddsNoEmptyClause}
-use Rattle.lrat_cuts.specs.Cuts.{CutsState, cuts_start, put, put_all}
+use Rattle.lrat_cuts.specs.Cuts.{CutsState, cuts_start}
 use Rattle.lrat_cuts.proofs.Laws.{put_all-last, put_all-live, put_all-worth}
 use Rattle.cuts_log.specs.declared.standing.Standing.{Standing}
 use Rattle.cuts_log.specs.Given.{AreLive, all_live}

@@ -8,7 +8,9 @@ ghost use Rattle.lrat_cuts.specs.Cuts.{cuts_start};
 ghost use Rattle.cuts_log.specs.Events.{Event, TraceState, lines_in, tokens_at};
 
 use crate::out::Out;
-use crate::spelling::{put_bound, put_count, put_cut, put_form, put_group, put_more, put_plain};
+use crate::spelling::{
+    put_addition, put_bound, put_count, put_cut, put_deletion, put_form, put_group, put_more,
+};
 use crate::trace::{Shows, Trace};
 use cnf::clause_list::ClauseList;
 use cnf::types::{Instance, Lit};
@@ -111,7 +113,12 @@ impl<'a> Happens for PlainLine<'a> {
     }) };
 
     fn put<W: Write>(&self, out: &mut Out<W>, base: u64, before: u64) {
-        put_plain(out, base, before, self.kind, self.lits, self.hints);
+        let last = base + before;
+        if self.kind.is_delete() {
+            put_deletion(out, base, last, self.hints);
+        } else {
+            put_addition(out, base, last + 1, self.lits, self.hints);
+        }
     }
 
     fn lines(&self) -> usize {

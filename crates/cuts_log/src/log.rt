@@ -8,6 +8,8 @@ ghost use Rattle.std.specs.Prelude.{None, OnErr, Some};
 ghost use Rattle.lrat_log.specs.Log.{IsLine, axiom_line, is_axiom};
 ghost use Rattle.lrat_log.specs.Axioms.{IsNewClause};
 ghost use Rattle.std.specs.Prelude.{IfSome};
+ghost use Rattle.adder.specs.Parts.{weight_in};
+ghost use Rattle.bound.specs.Weighted.{weighted_cnf, weights_of};
 ghost use Rattle.cuts_log.specs.Logs.{GoesOn};
 ghost use Rattle.cuts_log.specs.Starts.{IsReached, IsResumable};
 
@@ -16,10 +18,11 @@ use crate::earlier::{are_live, count_lines};
 use crate::events::{BoundLine, CountLine, CutLine, FormLine, GroupLine, MoreLine, PlainLine};
 use crate::given::FormulaClauses;
 use crate::standing::Standing;
+use adder::relaxations::Relaxation;
 use bound::weighted::{weighted_formula, weights};
 use cnf::clause_list::ClauseList;
 use cnf::limits::NUMBER_LIMIT;
-use cnf::types::{Instance, Lit};
+use cnf::types::{Formula, Instance, Lit};
 use forms::state::Forms;
 use forms::types::NamedFact;
 use lrat_cuts::machine::CutsMachine;
@@ -44,6 +47,17 @@ pub struct CutsLog<W: Write> {
     standing: Standing,
     // Each cut holds in all solutions that cost less: at most 2^62.
     cost: u64,
+}
+
+/// A log before its first line, and what it was made of.
+#[derive(Drop)]
+pub struct Begun<W: Write> {
+    /// The log.
+    pub log: CutsLog<W>,
+    /// The clauses of the instance and of its relaxation.
+    pub formula: Formula,
+    /// What each soft clause costs.
+    pub weights: Vec<Relaxation>,
 }
 
 impl<W: Write> Model for CutsLog<W> {
@@ -71,8 +85,11 @@ impl<W: Write + Drop> CutsLog<W> {
     /// # Errors
     ///
     /// `AllocError` where memory was refused.
-    pub fn new(instance: &Instance, writer: W) -> Result<Self, AllocError>
-        ensures { IfOk result (λ l. HasBegun instance.now (W.contents writer) l) }
+    pub fn begin(instance: &Instance, writer: W) -> Result<Begun<W>, AllocError>
+        ensures log { IfOk result (λ b. HasBegun instance.now (W.contents writer) b.log) }
+        ensures formula { IfOk result (λ b. b.formula ≡ weighted_cnf instance.now) }
+        ensures weights { IfOk result
+            (λ b. map weight_in b.weights.items ≡ weights_of instance.now) }
     {
         instance.limits();
         let alloc = instance.allocator();
@@ -88,10 +105,15 @@ impl<W: Write + Drop> CutsLog<W> {
         standing.take_all(formula.clauses())?;
         standing.ended = false;
         let book = Book::new(instance, formula.clauses().len(), writer)?;
-        Ok(CutsLog {
+        let log = CutsLog {
             book,
             standing,
             cost: NUMBER_LIMIT,
+        };
+        Ok(Begun {
+            log,
+            formula,
+            weights,
         })
     }
 
@@ -191,6 +213,12 @@ impl<W: Write + Drop> CutsLog<W> {
         ensures lines { lines_seen self.new ≡ lines_seen self.old }
         ensures empty { OnOk result (self.new.book.out.held ≡ []) }
         ensures works { OnOk result (self.new.book.failed ≡ false) }
+        ensures rest { self.new ≡ record self.old {
+          book = record self.old.book {
+            out = self.new.book.out;
+            failed = self.new.book.failed;
+          };
+        } }
         ensures same { SameLog self.old self.new }
     {
         if self.book.has_failed() {

@@ -14,42 +14,17 @@ ghost use Rattle.lrat_read.specs.Words.{CountLine as SpelledCount, MoreLine as S
 ghost use Rattle.lrat_read.specs.Words.{FormLine as SpelledForm, CutLine as SpelledCut};
 ghost use Rattle.lrat_read.specs.Words.{BoundLine as SpelledBound, GroupLine as SpelledGroup};
 ghost use Rattle.cuts_log.specs.Outs.{Says};
-ghost use Rattle.cuts_log.specs.Events.{Plain, tokens_at};
 ghost use Rattle.cuts_log.specs.Facts.{fact_text, ids_text, numbers_text, scale_text};
 ghost use Rattle.cuts_log.specs.Facts.{spelled};
 
 use crate::out::Out;
 use cnf::types::Lit;
 use forms::types::NamedFact;
-use lrat_log::lines::{Hint, Kind, Name};
+use lrat_log::lines::{Hint, Name};
 use std::io::Write;
 
-/// Puts an addition or a deletion, where `before` clauses were added before it.
-pub(crate) fn put_plain<W: Write>(
-    out: &mut Out<W>,
-    base: u64,
-    before: u64,
-    kind: Kind,
-    lits: &[Lit],
-    hints: &[Hint],
-)
-    requires base { base < LINE_LIMIT }
-    requires before { before < LINE_LIMIT }
-    ensures { Says out.old (spaced (tokens_at base before (Plain (record {
-      kind = kind;
-      clause = lits.now;
-      hints = hints.now;
-    })))) out.new }
-{
-    if kind.is_delete() {
-        put_deletion(out, base, base + before, hints);
-    } else {
-        put_addition(out, base, base + before + 1, lits, hints);
-    }
-}
-
 /// Puts the deletion of the clauses that these hints name, after the last id.
-fn put_deletion<W: Write>(out: &mut Out<W>, base: u64, last: u64, hints: &[Hint])
+pub(crate) fn put_deletion<W: Write>(out: &mut Out<W>, base: u64, last: u64, hints: &[Hint])
     requires { base < LINE_LIMIT }
     ensures { Says out.old
         (spaced (line_tokens (Deletion last (map (λ h. id_of base (name_of h)) hints.now))))
@@ -62,7 +37,13 @@ fn put_deletion<W: Write>(out: &mut Out<W>, base: u64, last: u64, hints: &[Hint]
 }
 
 /// Puts the addition of a clause under this id, by these hints.
-fn put_addition<W: Write>(out: &mut Out<W>, base: u64, id: u64, lits: &[Lit], hints: &[Hint])
+pub(crate) fn put_addition<W: Write>(
+    out: &mut Out<W>,
+    base: u64,
+    id: u64,
+    lits: &[Lit],
+    hints: &[Hint],
+)
     requires { base < LINE_LIMIT }
     ensures { Says out.old (spaced (line_tokens
         (Addition id lits.now (leading_ids base hints.now) (group_ids base hints.now)))) out.new }

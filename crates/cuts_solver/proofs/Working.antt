@@ -1,19 +1,19 @@
 -- A solver and its log go on together.
-use Rattle.std.proofs.Common.{◌≡◌, ℕ, ◌-◌, ◌≤◌, true, false, List, [], ◌∷◌, ◌++◌}
+use Rattle.std.proofs.Common.{◌≡◌, ℕ, ◌-◌, ◌≤◌, Bool, true, false, List, [], ◌∷◌, ◌++◌, not}
 use Rattle.std.proofs.Common.{Option, length, map, take, refl, sym, ◌∙◌, ap, subst, append-nil, arith}
 use Rattle.std.proofs.lemmas.List.{take_all}
-use Rattle.std.proofs.lemmas.Bool.{false≢true, true≢false}
+use Rattle.std.proofs.lemmas.Bool.{false≢true, not_from_false, true_from_ne_false, true≢false}
 use Rattle.cnf.specs.Literal.{Assignment, Literal}
 use Rattle.cnf.specs.Problem.{IsFeasible, Problem, cost_under}
 use Rattle.cnf.specs.Instance.{IsInstance}
 use Rattle.bound.specs.Weighted.{weighted_cnf}
 use Rattle.lrat_log.specs.Log.{LogLine, Given, axiom_line}
 use Rattle.lrat_log.specs.Steps.{given_of}
-use Rattle.lrat_log.specs.Axioms.{FollowByRup}
+use Rattle.lrat_log.specs.Axioms.{FollowByRup, StaysOpenLogOver}
 use Rattle.lrat_log.proofs.Laws.{follow_append}
 use Rattle.cdcl.proofs.Laws.{not_refuted}
 use Rattle.cdcl_search.specs.declared.search.Search.{Search}
-use Rattle.cdcl_search.specs.Running.{IsInput, KeepsRunning, Runs}
+use Rattle.cdcl_search.specs.Running.{IsInput, KeepsRunning, Runs, is_refuted}
 use Rattle.lrat_cuts.specs.Cuts.{CutsState}
 use Rattle.cuts_log.specs.Books.{BookState, log_lines}
 use Rattle.cuts_log.specs.Logs.{Brings, HasBegun, HasResumed, LogState, SameLog, lines_seen}
@@ -159,3 +159,26 @@ moves_solver old n h works going keeps =
     (record { problem = refl; start = refl; origin = refl; cost = refl }) refl refl
     (λ _. goes_on (record old { search = n }) w.works going
     (keeps old.input (lines_seen old.log) (w.runs going)) w.follows)
+
+-- all lines were written, or not, and nothing else has changed
+pub flushed_solver : (old : SolverState) (l : LogState) (whole : Bool) → IsSolver old
+    → SameLog old.log l → lines_seen l ≡ lines_seen old.log
+    → (whole ≡ true → (old.failed ≡ false) × ((l.book).failed ≡ false))
+    → IsSolver (record old { log = l; failed = not whole })
+flushed_solver old l whole h same lines works =
+    let given = (old.input).given in
+    stays_solver old (record old { log = l; failed = not whole }) h same refl refl
+    (λ e.
+    let on = works (true_from_ne_false whole
+    (λ none. true≢false (sym (not_from_false whole none) ∙ e))) in
+    let w = h.working on.0 in
+    record {
+      works = on.1;
+      lines =
+          subst (StaysOpenLogOver (length ((old.input).frozen).items) given) (sym lines) w.lines;
+      follows =
+          subst (λ q. FollowByRup given (length (weighted_cnf q).clauses) [] (lines_seen l))
+          (sym same.problem) (subst (FollowByRup given (base_of old) []) (sym lines) w.follows);
+      refuted_is = ap is_refuted lines ∙ w.refuted_is;
+      runs = λ going. subst (Runs old.search old.input) (sym lines) (w.runs going);
+    })

@@ -20,12 +20,13 @@ use Rattle.cuts_log.specs.Judging.{IsBefore, LogsEnd, NothingIsCheaper, TextsAre
 use Rattle.cuts_log.specs.Logs.{IsKept, LogState, SameLog, all_lines, lines_seen, problem_of}
 use Rattle.cuts_log.specs.Logs.{start_of}
 use Rattle.cuts_log.specs.Outs.{OutState, Says, fresh}
-use Rattle.cuts_solver.specs.Solving.{IsLeast, IsRightText, IsSolver, SolverState}
+use Rattle.cuts_solver.specs.Solving.{HasBegunToWrite, HasWritten, IsLeast, IsRightText}
+use Rattle.cuts_solver.specs.Solving.{IsSolver, SolverState}
 use Rattle.cuts_solver.specs.Solving.{instance_of}
 use Rattle.cuts_solver.proofs.Ended.{still_open}
 
 -- a writer has a beginning of what was put out
-pub begun_part : (origin : Option (List ℕ)) (out : OutState) (text : List ℕ)
+begun_part : (origin : Option (List ℕ)) (out : OutState) (text : List ℕ)
     → Says (fresh origin) text out → AppendsPart origin out.had text
 begun_part origin out text said = by out.failed refl
   where
@@ -34,7 +35,7 @@ begun_part origin out text said = by out.failed refl
     by false e = let p = (said.whole e).1 in (p.written, (out.held, p.split), p.appended)
 
 -- and all of it, where nothing is held
-pub begun_whole : (origin : Option (List ℕ)) (out : OutState) (text : List ℕ)
+begun_whole : (origin : Option (List ℕ)) (out : OutState) (text : List ℕ)
     → Says (fresh origin) text out → out.failed ≡ false → out.held ≡ []
     → Appends origin out.had text
 begun_whole origin out text said works none =
@@ -97,7 +98,7 @@ before_same old new text same b = record {
 }
 
 -- the text of such a log is right
-pub right_text : (s : SolverState) (l : LogState) → IsSolver s → s.failed ≡ false → IsKept l
+right_text : (s : SolverState) (l : LogState) → IsSolver s → s.failed ≡ false → IsKept l
     → IsBook l.book → (l.book).failed ≡ false → SameLog s.log l
     → lines_seen l ≡ lines_seen s.log → LogsEnd → TextsAreRight
     → (before : List ℕ) → IsBefore s.log before
@@ -122,6 +123,31 @@ right_text s l h on kept book works same lines ends texts before first =
     subst (λ q. IsRightText q (s.log).cost s.refuted text) same.problem
     (subst (λ k. IsRightText (problem_of l) k s.refuted text) same.cost
     (t.0, t.1, t.2 ∙ ended))
+
+-- the writer has all lines of a solver, where nothing of them is held
+pub has_written : (s : SolverState) (l : LogState) → IsSolver s → s.failed ≡ false → IsKept l
+    → IsBook l.book → (l.book).failed ≡ false → ((l.book).out).held ≡ [] → SameLog s.log l
+    → lines_seen l ≡ lines_seen s.log → LogsEnd → TextsAreRight
+    → HasWritten s ((l.book).out).had
+has_written s l h on kept book works none same lines ends texts =
+    let b = l.book in
+    let text = book_text b in (
+      text,
+      subst (λ o. Appends o (b.out).had text) same.origin
+          (begun_whole (b.seen).origin b.out text book.said (book.works works) none),
+      right_text s l h on kept book works same lines ends texts,
+    )
+
+-- or a beginning of them
+pub has_begun_to_write : (s : SolverState) (l : LogState) → IsBook l.book → SameLog s.log l
+    → HasBegunToWrite s ((l.book).out).had
+has_begun_to_write s l book same =
+    let b = l.book in
+    let text = book_text b in (
+      text,
+      subst (λ o. AppendsPart o (b.out).had text) same.origin
+          (begun_part (b.seen).origin b.out text book.said),
+    )
 
 -- where the log has ended, nothing costs less
 pub nothing_less : (n : ℕ) (given : Given) (l : LogState) → IsKept l → IsBook l.book

@@ -18,7 +18,7 @@ ghost use Rattle.cuts_log.specs.Logs.{IsKept, SameLog, lines_seen};
 ghost use Rattle.cuts_log.specs.Made.{IsMadeClause};
 ghost use Rattle.cdcl_order.specs.Budgets.{BudgetState, WaivesAs};
 ghost use Rattle.cdcl_search.specs.Cores.{IsShown};
-ghost use Rattle.cdcl.specs.Guiding.{IsGuidedEnd, IsStopped, PaysOpen};
+ghost use Rattle.cdcl.specs.Guiding.{IsStopped};
 ghost use Rattle.cdcl.specs.Turns.{IsSatisfied};
 ghost use Rattle.cdcl.specs.declared.guided.GuidedEnd.TheVariants.{Refuted};
 ghost use Rattle.lrat_cuts.specs.Cuts.{cuts_start};
@@ -27,6 +27,7 @@ ghost use Rattle.lrat_log.specs.declared.log.TheConstants.{LINE_LIMIT};
 ghost use Rattle.cuts_log.specs.Starts.{IsReached, earlier_lines, lines_for};
 ghost use Rattle.cuts_solver.specs.Solving.{StartsBehind};
 
+use adder::relaxations::Relaxation;
 use bound::weighted::weighted_formula;
 use cdcl::answers::bits;
 use cdcl::assumptions::Assumptions;
@@ -44,7 +45,7 @@ use cnf::clause_list::ClauseList;
 use cnf::marks::Marks;
 use cnf::types::{Instance, Lit};
 use cuts_log::law::texts_are_right;
-use cuts_log::log::CutsLog;
+use cuts_log::log::{Begun, CutsLog};
 use forms::state::Forms;
 use forms::types::NamedFact;
 use lrat_cuts::machine::CutsMachine;
@@ -124,6 +125,8 @@ pub struct CutsSolver<W: Write> {
     input: Input,
     // What it has written.
     log: CutsLog<W>,
+    // What each soft clause costs, where that was made for the log and not taken yet.
+    weights: Option<Vec<Relaxation>>,
     // The clauses of the last count, on their way to the engine.
     made: ClauseList,
     // For the literals of a cut.
@@ -179,13 +182,17 @@ impl<W: Write + Drop> CutsSolver<W> {
         ensures works { IfOk result (λ s. (s.refuted ≡ false) × (s.failed ≡ false)) }
     {
         instance.limits();
-        let log = CutsLog::new(instance, writer)?;
-        let formula = weighted_formula(instance)?;
+        let Begun {
+            log,
+            formula,
+            weights,
+        } = CutsLog::begin(instance, writer)?;
         let (search, input) = start_whole(formula, room.min(MOST_ROOM))?;
         Ok(CutsSolver {
             search,
             input,
             log,
+            weights: Some(weights),
             made: ClauseList::new(instance.allocator()),
             marks: Marks::empty(instance.allocator()),
             refuted: false,
@@ -255,6 +262,7 @@ impl<W: Write + Drop> CutsSolver<W> {
             search,
             input,
             log,
+            weights: None,
             made: ClauseList::new(alloc),
             marks: Marks::empty(alloc),
             refuted: false,
@@ -286,6 +294,14 @@ impl<W: Write + Drop> CutsSolver<W> {
     /// What its memory comes from.
     pub fn allocator(&self) -> Global {
         self.search.store.allocator()
+    }
+
+    /// What each soft clause costs, as `bound::weighted::weights` has it. None where the solver
+    /// goes on with what a checker has judged, and once this was taken.
+    pub fn take_weights(&mut self) -> Option<Vec<Relaxation>>
+        ensures { self.new ≡ self.old }
+    {
+        self.weights.take()
     }
 
     /// Whether the empty clause was added: nothing costs less than the cost that cuts have to hold
@@ -353,6 +369,35 @@ impl<W: Write + Drop> CutsSolver<W> {
         if !self.failed && !self.refuted {
             self.search.suggest(values);
         }
+    }
+
+    /// Writes what was put out and not written: the writer has all lines so far then. It is not
+    /// flushed.
+    ///
+    /// # Errors
+    ///
+    /// `AllocError` where the solver has failed, or where the writer fails.
+    pub fn flush(&mut self) -> Result<(), AllocError>
+        ensures whole { OnOk result (HasWritten self.old self.new.log.book.out.had) }
+        ensures part { HasBegunToWrite self.old self.new.log.book.out.had }
+        ensures works { OnOk result (self.new.failed ≡ false) }
+        ensures log { self.new.log ≡ record self.old.log {
+          book = record self.old.log.book {
+            out = self.new.log.book.out;
+            failed = self.new.log.book.failed;
+          };
+        } }
+        ensures rest { self.new
+            ≡ record self.old { log = self.new.log; failed = self.new.failed } }
+        ensures same { SameSolver self.old self.new }
+    {
+        texts_are_right();
+        let is_whole = flush_all(&mut self.log, self.failed);
+        self.failed = !is_whole;
+        if !is_whole {
+            return Err(AllocError);
+        }
+        Ok(())
     }
 
     /// The writer, with all that was put out. Where that could not be written, or memory was
@@ -539,6 +584,9 @@ fn flush_all<W: Write + Drop>(log: &mut CutsLog<W>, has_failed: bool) -> bool
     ensures kept { IsKept log.new }
     ensures book { IsBook log.new.book }
     ensures lines { lines_seen log.new ≡ lines_seen log.old }
+    ensures rest { log.new ≡ record log.old {
+      book = record log.old.book { out = log.new.book.out; failed = log.new.book.failed };
+    } }
     ensures same { SameLog log.old log.new }
     ensures works { result ≡ true → (has_failed ≡ false) × (log.new.book.failed ≡ false) }
     ensures empty { result ≡ true → log.new.book.out.held ≡ [] }
@@ -589,59 +637,6 @@ fn give_cut<W: Write + Drop>(
     take_axiom(search, lits, Some(lits.len().min(u32::MAX as usize) as u32))
 }
 
-/// Searches over the log. Where that fails, so does this.
-fn search_log<W: Write + Drop, G: Guide, V: SearchWatch>(
-    search: &mut Search,
-    input: &Input,
-    log: &mut CutsLog<W>,
-    guide: &mut G,
-    budget: &mut Budget,
-    watch: &mut V,
-) -> Result<GuidedEnd, AllocError>
-    requires runs { Runs search.old input.now (lines_seen log.old) }
-    ensures ends { IfOk result
-        (IsGuidedEnd search.new input.now (lines_seen log.new) budget.new) }
-    ensures works { OnOk result (log.new.book.failed ≡ false) }
-    ensures pays { PaysOpen input.now.given (lines_seen log.old) (lines_seen log.new) budget.old
-        budget.new }
-    ensures same { SameLog log.old log.new }
-    ensures waives { WaivesAs budget.old budget.new (V.waived watch.old) (V.waived watch.new) }
-    ensures same_seen { V.seen watch.new ≡ V.seen watch.old }
-    ensures follows { (first : G) → G.follows first guide.old → G.follows first guide.new }
-{
-    let end = search_guided(search, input, log, guide, budget, watch)?;
-    if log.has_failed() {
-        return Err(AllocError);
-    }
-    Ok(end)
-}
-
-/// The core at an assumption that is false, over the log. Where that fails, so does this.
-fn find_core_in<W: Write + Drop>(
-    search: &mut Search,
-    input: &Input,
-    log: &mut CutsLog<W>,
-    budget: &mut Budget,
-    assumptions: &[Lit],
-    falsified: Lit,
-) -> Result<Option<Vec<Lit>>, AllocError>
-    requires stopped { IsStopped search.old input.now (lines_seen log.old) budget.old }
-    ensures runs { OnOk result (Runs search.new input.now (lines_seen log.new)) }
-    ensures shown { IfOk result (λ found. IfSome found
-        (λ core. IsShown (search.new.store).slots assumptions.now core.items)) }
-    ensures works { OnOk result (log.new.book.failed ≡ false) }
-    ensures pays { PaysOpen input.now.given (lines_seen log.old) (lines_seen log.new) budget.old
-        budget.new }
-    ensures kept { budget.new.waived ≡ budget.old.waived }
-    ensures same { SameLog log.old log.new }
-{
-    let found = find_core(search, input, log, budget, assumptions, falsified)?;
-    if log.has_failed() {
-        return Err(AllocError);
-    }
-    Ok(found)
-}
-
 /// Whether the empty clause was added.
 fn is_refutation(end: GuidedEnd) -> bool
     ensures yes { result ≡ true → end ≡ Refuted }
@@ -678,7 +673,7 @@ impl<W: Write + Drop> CutsSolver<W> {
         ensures follows { (first : G) → G.follows first guide.old → G.follows first guide.new }
     {
         self.failed = true;
-        let end = search_log(
+        let end = search_guided(
             &mut self.search,
             &self.input,
             &mut self.log,
@@ -686,6 +681,9 @@ impl<W: Write + Drop> CutsSolver<W> {
             budget,
             watch,
         )?;
+        if self.log.has_failed() {
+            return Err(AllocError);
+        }
         if is_refutation(end) {
             texts_are_right();
             self.log.limits();
@@ -735,7 +733,7 @@ impl<W: Write + Drop> CutsSolver<W> {
             return Ok(None);
         };
         self.failed = true;
-        let found = find_core_in(
+        let found = find_core(
             &mut self.search,
             &self.input,
             &mut self.log,
@@ -743,6 +741,9 @@ impl<W: Write + Drop> CutsSolver<W> {
             guide.lits(),
             falsified,
         )?;
+        if self.log.has_failed() {
+            return Err(AllocError);
+        }
         self.failed = false;
         Ok(found)
     }

@@ -8,7 +8,6 @@ use Rattle.std.proofs.lemmas.List.Elements.{All-nil, All-push, All-pop, All-map,
 use Rattle.cnf.specs.Problem.{Problem}
 use Rattle.cnf.specs.declared.limits.TheConstants.{NUMBER_LIMIT}
 use Rattle.cdcl_order.specs.Budgets.{BudgetState, left_of}
-use Rattle.cdcl_order.specs.Watch.{Sight}
 use Rattle.cdcl_order.proofs.Laws.{with_seen_none}
 use Rattle.cuts_cores.specs.declared.desk.DeskFault.{DeskFault}
 use Rattle.cuts_cores.specs.declared.desk.DeskFault.TheVariants.{Memory, Progress}

@@ -13,7 +13,6 @@ use improve::found::ImproveFault;
 use improve::progress::Progress;
 use improve::solutions::Solution;
 use improve::watch::Watch;
-use std::alloc::AllocError;
 use std::io::Write;
 
 impl<'i, 's, 'b, 'p, 'k, 'm, 'w, W: Write + Drop, T: Progress, K: Watch> Session<
@@ -98,7 +97,7 @@ impl<'i, 's, 'b, 'p, 'k, 'm, 'w, W: Write + Drop, T: Progress, K: Watch> Session
         }
     }
 
-    /// Searches until nothing is cheaper, or the budget is spent.
+    /// Searches until nothing is cheaper, or the budget is spent. All lines are written then.
     fn search_rounds(&mut self) -> Result<(), DeskFault>
         ensures ended { OnOk result ((self.new.solver.now.refuted ≡ true)
             ⊎ (left_of self.new.budget.now ≡ 0)) }
@@ -106,10 +105,12 @@ impl<'i, 's, 'b, 'p, 'k, 'm, 'w, W: Write + Drop, T: Progress, K: Watch> Session
             → ⟦<Session<'i, 's, 'b, 'p, 'k, 'm, 'w, W, T, K> as Desk>⟧.follows first self.old
             → ⟦<Session<'i, 's, 'b, 'p, 'k, 'm, 'w, W, T, K> as Desk>⟧.follows first self.new }
     {
-        match weights(self.instance) {
-            Ok(weights) => search(self, &weights),
-            Err(AllocError) => Err(DeskFault::Memory),
-        }
+        let weights = match self.solver.take_weights() {
+            Some(weights) => weights,
+            None => weights(self.instance)?,
+        };
+        search(self, &weights)?;
+        self.flush()
     }
 
     /// How the search ends, by what its rounds have answered.

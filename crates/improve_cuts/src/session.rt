@@ -80,6 +80,25 @@ impl<'i, 's, 'b, 'p, 'k, 'm, 'w, W: Write + Drop, T: Progress, K: Watch> Session
         DeskFault::Memory
     }
 
+    /// Writes all lines so far, so that nothing is told that the certificate does not prove yet.
+    pub fn flush(&mut self) -> Result<(), DeskFault>
+        ensures refuted { OnOk result
+            (self.new.solver.now.refuted ≡ self.old.solver.now.refuted) }
+        ensures left { OnOk result (self.new.budget.now ≡ self.old.budget.now) }
+        ensures works { OnOk result (self.new.fault ≡ None) }
+        ensures follows { (first : _)
+            → ⟦<Session<'i, 's, 'b, 'p, 'k, 'm, 'w, W, T, K> as Desk>⟧.follows first self.old
+            → ⟦<Session<'i, 's, 'b, 'p, 'k, 'm, 'w, W, T, K> as Desk>⟧.follows first self.new }
+    {
+        if let Some(fault) = self.fault {
+            return Err(fault);
+        }
+        match self.solver.flush() {
+            Ok(()) => Ok(()),
+            Err(AllocError) => Err(self.fail()),
+        }
+    }
+
     /// Takes the solution that these bits begin with, and keeps it if it is cheaper than the best
     /// one; whether it is.
     pub fn meet(&mut self, bits: Vec<bool>) -> Result<bool, DeskFault>
@@ -374,6 +393,7 @@ impl<'i, 's, 'b, 'p, 'k, 'm, 'w, W: Write + Drop, T: Progress, K: Watch> Desk
         }
         match self.solver.bound(lower) {
             Ok(true) => {
+                self.flush()?;
                 let bound = raised_by(self.solver.forms(), lower, way);
                 self.watch.raised(bound);
                 Ok(true)

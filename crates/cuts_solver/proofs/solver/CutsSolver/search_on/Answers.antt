@@ -1,9 +1,58 @@
-use Rattle.std.proofs.Common.{◌≡◌, true, false, refl, ◌∙◌, ap, subst}
-use Rattle.cuts_log.specs.Logs.{lines_seen}
+use Rattle.std.proofs.Common.{◌≡◌, true, false, refl, sym, ◌∙◌, ap, subst}
+use Rattle.cuts_log.specs.Logs.{SameLog, lines_seen}
 use Rattle.cdcl.specs.Guiding.{IsGuidedEnd}
 use Rattle.cuts_solver.specs.Solving.{SolverState}
 use Rattle.cuts_solver.proofs.Searching.{ends_solver, runs_on, searched_on}
+use Rattle.cuts_solver.proofs.Working.{fails_solver, same_log}
 use Rattle.cuts_solver.proofs.solver.CutsSolver.search_on.Goals as goal
+
+pub invariant_of-self : goal.invariant_of-self
+invariant_of-self g c =
+    let old : SolverState = record {
+      search = c.self.inside.search;
+      input = c.self.inside.input;
+      log = c.self.inside.log;
+      refuted = c.self.inside.refuted;
+      failed = c.self.inside.failed;
+    } in
+    let new : SolverState = record {
+      search = c.search_guided.new.search;
+      input = c.self.inside.input;
+      log = c.search_guided.new.sink;
+      refuted = c.self.inside.refuted;
+      failed = true;
+    } in
+    let same = c.search_guided.ensures.sink_follows old.log (same_log old.log) in
+    fails_solver old new c.self.invariant same refl refl refl
+
+pub returns-in_err-end-clause-same : goal.returns-in_err-end-clause-same
+returns-in_err-end-clause-same g c =
+    subst (λ (s : SolverState). SameLog s.log c.search_guided.new.sink) c.self.view_is
+    (c.search_guided.ensures.sink_follows c.self.inside.log (same_log c.self.inside.log))
+
+pub invariant_of-self-then-has_failed : goal.invariant_of-self-then-has_failed
+invariant_of-self-then-has_failed g c =
+    let old : SolverState = record {
+      search = c.self.inside.search;
+      input = c.self.inside.input;
+      log = c.self.inside.log;
+      refuted = c.self.inside.refuted;
+      failed = c.self.inside.failed;
+    } in
+    let new : SolverState = record {
+      search = c.search_guided.new.search;
+      input = c.self.inside.input;
+      log = c.search_guided.new.sink;
+      refuted = c.self.inside.refuted;
+      failed = true;
+    } in
+    let same = c.search_guided.ensures.sink_follows old.log (same_log old.log) in
+    fails_solver old new c.self.invariant same refl refl refl
+
+pub returns-then-has_failed-clause-same : goal.returns-then-has_failed-clause-same
+returns-then-has_failed-clause-same g c =
+    subst (λ (s : SolverState). SameLog s.log c.search_guided.new.sink) c.self.view_is
+    (c.search_guided.ensures.sink_follows c.self.inside.log (same_log c.self.inside.log))
 
 pub invariant_of-self-then-is_refutation : goal.invariant_of-self-then-is_refutation
 invariant_of-self-then-is_refutation g c =
@@ -15,23 +64,30 @@ invariant_of-self-then-is_refutation g c =
       failed = c.self.inside.failed;
     } in
     let new : SolverState = record {
-      search = c.search_log.new.search;
+      search = c.search_guided.new.search;
       input = c.self.inside.input;
-      log = c.search_log.new.log;
+      log = c.search_guided.new.sink;
       refuted = true;
       failed = false;
     } in
+    let same = c.search_guided.ensures.sink_follows old.log (same_log old.log) in
     let works : old.failed ≡ false =
     ap (λ (s : SolverState). s.failed) c.self.view_is ∙ c.requires.works in
-    let e = c.in_ok-end.ensures in
-    let left = c.search_log.new.budget in
+    let e = c.in_ok-end.ensures.search in
+    let left = c.search_guided.new.budget in
     let is = c.is_refutation.ensures.yes c.if-is_refutation.true in
     let ended =
     subst (IsGuidedEnd new.search new.input (lines_seen new.log) left) is e.ends in
+    let whole = c.has_failed.ensures in
     let l = c.limits.ensures in
     let law = c.texts_are_right.ensures in
-    ends_solver old new c.args.budget.now left c.self.invariant works e.same refl e.pays e.works
-    refl ended l.kept l.book law.end law.cost
+    ends_solver old new c.args.budget.now left c.self.invariant works same refl e.pays
+    (sym whole ∙ c.if-has_failed.false) refl ended l.kept l.book law.end law.cost
+
+pub returns-then-is_refutation-clause-same : goal.returns-then-is_refutation-clause-same
+returns-then-is_refutation-clause-same g c =
+    subst (λ (s : SolverState). SameLog s.log c.search_guided.new.sink) c.self.view_is
+    (c.search_guided.ensures.sink_follows c.self.inside.log (same_log c.self.inside.log))
 
 pub invariant_of-self-2 : goal.invariant_of-self-2
 invariant_of-self-2 g c =
@@ -43,18 +99,25 @@ invariant_of-self-2 g c =
       failed = c.self.inside.failed;
     } in
     let new : SolverState = record {
-      search = c.search_log.new.search;
+      search = c.search_guided.new.search;
       input = c.self.inside.input;
-      log = c.search_log.new.log;
+      log = c.search_guided.new.sink;
       refuted = c.self.inside.refuted;
       failed = false;
     } in
+    let same = c.search_guided.ensures.sink_follows old.log (same_log old.log) in
     let works : old.failed ≡ false =
     ap (λ (s : SolverState). s.failed) c.self.view_is ∙ c.requires.works in
     let going : old.refuted ≡ false =
     ap (λ (s : SolverState). s.refuted) c.self.view_is ∙ c.requires.going in
-    let e = c.in_ok-end.ensures in
-    let left = c.search_log.new.budget in
+    let e = c.in_ok-end.ensures.search in
+    let left = c.search_guided.new.budget in
     let no = c.is_refutation.ensures.no c.if-is_refutation.false in
-    searched_on old new c.args.budget.now left c.self.invariant works e.same refl e.pays e.works
-    refl going (runs_on new left c.in_ok-end.end e.ends no)
+    searched_on old new c.args.budget.now left c.self.invariant works same refl e.pays
+    (sym c.has_failed.ensures ∙ c.if-has_failed.false) refl going
+    (runs_on new left c.in_ok-end.end e.ends no)
+
+pub returns-clause-same : goal.returns-clause-same
+returns-clause-same g c =
+    subst (λ (s : SolverState). SameLog s.log c.search_guided.new.sink) c.self.view_is
+    (c.search_guided.ensures.sink_follows c.self.inside.log (same_log c.self.inside.log))

@@ -7,7 +7,7 @@ use Rattle.adder.specs.Parts.{weight_in}
 use Rattle.adder.proofs.Laws.{fresh_few}
 use Rattle.cuts_log.specs.Given.{all_live}
 use Rattle.cuts_log.proofs.Beginning.{begins_kept, starts}
-use Rattle.cuts_log.proofs.log.CutsLog.new.Goals as goal
+use Rattle.cuts_log.proofs.log.CutsLog.begin.Goals as goal
 
 pub new-requires-clause-few : goal.new-requires-clause-few
 new-requires-clause-few g c =
@@ -20,8 +20,8 @@ new-requires-clause-few g c =
       c.limits.ensures.soft_count,
     )
 
-pub invariant_of-result : goal.invariant_of-result
-invariant_of-result g c =
+pub invariant_of-log : goal.invariant_of-log
+invariant_of-log g c =
     let p = c.args.instance.now in
     let size : c.len.result ≡ length (weighted_cnf p).clauses = c.len.ensures
     ∙ ap length (c.clauses-3.ensures ∙ ap (λ (f : Cnf). f.clauses) c.in_ok-formula.ensures) in
