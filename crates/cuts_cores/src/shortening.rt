@@ -27,7 +27,7 @@ const WITHOUT_ONE: u64 = 50;
 const WITHOUT_EACH: u64 = 10 * WITHOUT_ONE;
 
 /// The decisions, in addition to the assumptions, after which a search that shortens ends.
-const DECISIONS: u64 = 100;
+const DECISIONS: u64 = 20;
 
 /// What is left of a core.
 #[derive(Drop)]

@@ -63,6 +63,9 @@ pub struct BranchGuide<'n> {
     done: usize,
     // How many coefficients may still be visited.
     left: u64,
+    // Whether nothing is open at the present node, so that whatever else is decided, its relaxation
+    // says no more.
+    is_whole: bool,
 }
 
 impl<'n> BranchGuide<'n> {
@@ -80,6 +83,7 @@ impl<'n> BranchGuide<'n> {
             again: Vec::new(alloc),
             done: 0,
             left: share,
+            is_whole: false,
         }
     }
 
@@ -218,13 +222,19 @@ impl<'n> Guide for BranchGuide<'n> {
         if self.left == 0 {
             return Ok(Advice::Stop);
         }
+        if self.is_whole {
+            return Ok(Advice::Free);
+        }
         if self.bound(search)? {
             self.has_line = true;
             return Ok(Advice::Stop);
         }
         match self.choose(search) {
             Some(lit) => self.decide(search, lit),
-            None => Ok(Advice::Free),
+            None => {
+                self.is_whole = true;
+                Ok(Advice::Free)
+            }
         }
     }
 
@@ -237,6 +247,7 @@ impl<'n> Guide for BranchGuide<'n> {
     }
 
     fn went_back(&mut self, assigned: usize) {
+        self.is_whole = false;
         for _ in 0..self.places.len() {
             match self.places.last() {
                 Some(place) if *place >= assigned => {}

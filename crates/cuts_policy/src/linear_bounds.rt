@@ -5,7 +5,8 @@
 //
 // Some instances are closed by relaxations alone, and on others they are in the way. The conflicts
 // of a turn tell which: where most of them are the relaxation's own, it gets more of the next
-// round, and where few are, less.
+// round, and where few are, less. The first turn comes before any cores, and asks that halfway
+// through branch and bound: where relaxations are of no use, it ends there.
 
 use crate::root::{Fixed, Root};
 use adder::relaxations::Relaxation;
@@ -46,6 +47,9 @@ const LEAST: u64 = 250;
 /// The most thousandths of a share that a later turn has.
 const MOST: u64 = 2000;
 
+/// The thousandths of the work of branch and bound after which the first turn may end.
+const TRIAL: u64 = 500;
+
 /// The fewest conflicts that say whether relaxations are of use here.
 const FEW: u64 = 6;
 
@@ -81,6 +85,8 @@ pub(crate) struct LinearBounds {
     own: u64,
     // How many there were in all, in the same measure.
     all: u64,
+    // Whether there was a turn with branch and bound.
+    has_begun: bool,
 }
 
 impl LinearBounds {
@@ -94,6 +100,7 @@ impl LinearBounds {
             others: PARTS,
             own: 0,
             all: 0,
+            has_begun: false,
         }
     }
 
@@ -174,8 +181,16 @@ impl LinearBounds {
             return Ok(());
         }
         dive(desk, node, effort.visits / 3)?;
-        node.point.go_to(&self.root.point)?;
-        self.branch(desk, node, cores, effort.visits)
+        if self.has_begun {
+            return self.branch(desk, node, cores, effort.visits);
+        }
+        self.has_begun = true;
+        let trial = (effort.visits / PARTS).saturating_mul(TRIAL);
+        self.branch(desk, node, cores, trial)?;
+        if self.part < PARTS || desk.is_refuted() || desk.left() == 0 {
+            return Ok(());
+        }
+        self.branch(desk, node, cores, effort.visits.saturating_sub(trial))
     }
 
     /// The groups that were found get their lines, and level 0 is solved with them, with at most
@@ -199,7 +214,7 @@ impl LinearBounds {
         Ok(())
     }
 
-    /// Branch and bound, where something can be cheaper.
+    /// Branch and bound from the point of level 0, where something can be cheaper.
     fn branch<D: Desk>(
         &mut self,
         desk: &mut D,
@@ -212,6 +227,7 @@ impl LinearBounds {
         if desk.cost() == 0 {
             return Ok(());
         }
+        node.point.go_to(&self.root.point)?;
         let before = desk.learned();
         let mut guide = BranchGuide::new(desk.allocator(), node, desk.cost(), visits);
         let own = branch_and_bound(desk, &mut guide, cores)?;

@@ -4,6 +4,9 @@
 // two). A part that closed a tenth of the gap between cost and bound gets up to twice its share in
 // the next round.
 //
+// A turn of the relaxation comes before the first cores: where its bound is tight, as on schedules,
+// timetables and packages, the search ends there, in a fraction of what cores would take.
+//
 // Work is counted in propagations: where one conflict takes thousands of them, turns by conflicts
 // were a second long, and walks came too late (a roster of 60 nurses: 801 after 3 s).
 //
@@ -107,8 +110,8 @@ impl<'w> Rounds<'w> {
         })
     }
 
-    /// A first solution, and then rounds, until nothing is cheaper than the best solution, or the
-    /// budget is spent.
+    /// A first solution, a turn of the relaxation, and then rounds, until nothing is cheaper than
+    /// the best solution, or the budget is spent.
     fn run<D: Desk>(&mut self, desk: &mut D) -> Result<(), DeskFault>
         ensures ended { OnOk result (D.refuted desk.new ⊎ (D.left desk.new ≡ 0)) }
         ensures follows { (first : D) → D.follows first desk.old → D.follows first desk.new }
@@ -116,6 +119,8 @@ impl<'w> Rounds<'w> {
         self.begin(desk)?;
         self.walks.begin(desk)?;
         let mut share = FIRST.max(desk.learned().saturating_mul(EACH_LEARNED));
+        self.linear
+            .turn(desk, self.weights, &mut self.cores, share)?;
         let mut left = desk.left();
         while left > 0 {
             if desk.is_refuted() {
