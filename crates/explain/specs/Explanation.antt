@@ -5,7 +5,7 @@ use Rattle.std.specs.Fmt.{decimal}
 use lib.Chars.{codes}
 use Rattle.explain.specs.declared.falsified.GivenUp.{GivenUp}
 use Rattle.explain.specs.ClauseLines.{SourceLine}
-use Rattle.explain.specs.Showing.{shown_text}
+use Rattle.explain_text.specs.Showing.{shown_text}
 
 abbrev pub comment_text : List ℕ → List ℕ
 comment_text [] = []

@@ -3,12 +3,7 @@ pub mod Contradicting
 pub mod Explained
 pub mod Explanation
 pub mod Falsified
-pub mod Holdings
 pub mod Judging
-pub mod Mending
 pub mod Names
-pub mod Reasons
-pub mod Sheets
-pub mod Showing
 pub mod Summary
 pub mod Vectors

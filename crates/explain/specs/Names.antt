@@ -10,7 +10,7 @@ use Rattle.text.specs.Words.{word_of}
 use Rattle.text.specs.Seen.{seen}
 use Rattle.text.specs.declared.words.Word.{Word}
 use Rattle.text.specs.declared.words.Word.TheVariants.{End, Literal, Above, Other}
-use Rattle.explain.specs.Showing.{shown_text}
+use Rattle.explain_text.specs.Showing.{shown_text}
 
 -- the token is a variable that the bits make true
 abbrev pub is_true_variable : List Bool → List ℕ → Bool

@@ -9,7 +9,7 @@ use text::cutting::{lines, tokens};
 
 /// A clause as the text has it.
 #[derive(Drop)]
-pub(crate) struct ClauseLine<'a> {
+pub struct ClauseLine<'a> {
     // The number of its line, from 1.
     line: u64,
     // The line.
@@ -29,14 +29,14 @@ impl<'a> Model for ClauseLine<'a> {
 
 impl<'a> ClauseLine<'a> {
     /// The number of its line, from 1.
-    pub(crate) fn line(&self) -> u64
+    pub fn line(&self) -> u64
         ensures { result ≡ self.now.number }
     {
         self.line
     }
 
     /// The line.
-    pub(crate) fn text(&self) -> &[u8]
+    pub fn text(&self) -> &[u8]
         ensures { result.now ≡ self.now.text }
     {
         self.text
@@ -44,7 +44,7 @@ impl<'a> ClauseLine<'a> {
 
     /// The last comment between the clause before it and this one that names no variable, unless a
     /// blank line or an empty comment follows it; else empty.
-    pub(crate) fn comment(&self) -> &[u8]
+    pub fn comment(&self) -> &[u8]
         ensures { result.now ≡ self.now.comment }
     {
         self.comment
@@ -53,11 +53,11 @@ impl<'a> ClauseLine<'a> {
 
 /// The lines of soft clauses, and of some hard ones.
 #[derive(Drop)]
-pub(crate) struct ClauseLines<'a> {
+pub struct ClauseLines<'a> {
     /// Of all soft clauses, in their order.
-    pub(crate) soft: Vec<ClauseLine<'a>>,
+    pub soft: Vec<ClauseLine<'a>>,
     /// Of the hard clauses that were asked for, in their order.
-    pub(crate) hard: Vec<ClauseLine<'a>>,
+    pub hard: Vec<ClauseLine<'a>>,
     // How many hard clauses were met.
     hard_count: u32,
 }
@@ -65,7 +65,7 @@ pub(crate) struct ClauseLines<'a> {
 impl<'a> ClauseLines<'a> {
     /// Those of all soft clauses of the text, and of the hard ones with these numbers, which
     /// count from 0 and rise.
-    pub(crate) fn of(alloc: Global, text: &'a [u8], wanted: &[u32]) -> Result<Self, AllocError> {
+    pub fn of(alloc: Global, text: &'a [u8], wanted: &[u32]) -> Result<Self, AllocError> {
         let mut clauses = ClauseLines {
             soft: Vec::new(alloc),
             hard: Vec::new(alloc),

@@ -4,12 +4,12 @@ ghost use Rattle.std.specs.Prelude.{◌++◌, length, OnOk, IfErr};
 ghost use Rattle.text.specs.Writing.{Writes};
 ghost use Rattle.explain.specs.Contradicting.{LeavesContradiction, Lists, contradiction_text};
 ghost use Rattle.explain.specs.Contradicting.{no_solution, open_text, refuted_text, sources_text};
-ghost use Rattle.explain.specs.Sheets.{Displays};
+ghost use Rattle.explain_text.specs.Sheets.{Displays};
 
 use crate::clause_lines::{ClauseLine, ClauseLines};
 use crate::explaining::{ExplainFault, NO_SOLUTION};
 use crate::putting::put_source;
-use crate::sheet::Sheet;
+use explain_text::sheet::Sheet;
 use std::alloc::Global;
 use std::io::Write;
 use text::output::WriteFault;

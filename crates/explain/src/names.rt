@@ -1,13 +1,13 @@
 // The names that comments give to variables, as `c 7 = Ann Tue`: those of true ones are written.
 ghost use Rattle.std.specs.Prelude.{◌≡◌, ◌∷◌};
 ghost use Rattle.text.specs.Text.{tokens_of};
-ghost use Rattle.explain.specs.Sheets.{Displays};
+ghost use Rattle.explain_text.specs.Sheets.{Displays};
 ghost use Rattle.explain.specs.Names.{is_true_variable, name_line, name_text, names_text};
 ghost use Rattle.explain.specs.Names.{words_text};
 
 use crate::falsified::is_true;
-use crate::sheet::Sheet;
-use crate::showing::put_shown;
+use explain_text::sheet::Sheet;
+use explain_text::showing::put_shown;
 use std::io::Write;
 use text::cutting::{lines, tokens};
 use text::pieces::Tokens;

@@ -1,15 +1,15 @@
 // The lines of an explanation.
 ghost use Rattle.std.specs.Prelude.{◌<◌, ◌^◌, sum_by};
 ghost use Rattle.std.specs.List.{flat_map};
-ghost use Rattle.explain.specs.Sheets.{Displays};
+ghost use Rattle.explain_text.specs.Sheets.{Displays};
 ghost use Rattle.explain.specs.Explanation.{bits_line, broken_line, comment_text, cost_line};
 ghost use Rattle.explain.specs.Explanation.{count_line, paid_line, paid_lines, source_text};
 ghost use Rattle.explain.specs.Explanation.{source_text_at, told_text};
 
 use crate::clause_lines::ClauseLine;
 use crate::falsified::GivenUp;
-use crate::sheet::Sheet;
-use crate::showing::put_shown;
+use explain_text::sheet::Sheet;
+use explain_text::showing::put_shown;
 use std::io::Write;
 
 /// There are too few or too many bits.
@@ -98,7 +98,7 @@ fn put_paid<W: Write>(
 }
 
 /// The line at this place.
-pub(crate) fn put_source_at<W: Write>(
+pub fn put_source_at<W: Write>(
     sheet: &mut Sheet,
     writer: &mut W,
     soft: &[ClauseLine<'_>],
@@ -124,7 +124,7 @@ pub(crate) fn put_broken<W: Write>(sheet: &mut Sheet, writer: &mut W, hard: &[Cl
 }
 
 /// A line of the text with its number, and its comment.
-pub(crate) fn put_source<W: Write>(sheet: &mut Sheet, writer: &mut W, clause_line: &ClauseLine<'_>)
+pub fn put_source<W: Write>(sheet: &mut Sheet, writer: &mut W, clause_line: &ClauseLine<'_>)
     ensures { Displays (W.contents writer.old) sheet.old (source_text clause_line.now)
         (W.contents writer.new) sheet.new }
 {

@@ -2,12 +2,12 @@
 //! clauses, and the sum of the weights.
 ghost use Rattle.std.specs.Prelude.{◌≡◌, sum_by, OnOk, IfErr};
 ghost use Rattle.text.specs.Writing.{Writes};
-ghost use Rattle.explain.specs.Sheets.{Displays};
+ghost use Rattle.explain_text.specs.Sheets.{Displays};
 ghost use Rattle.explain.specs.Summary.{Summarises, LeavesSummary, counts_text, summary_text};
 
 use crate::explaining::{ExplainFault, read_text};
-use crate::sheet::Sheet;
 use cnf::types::Instance;
+use explain_text::sheet::Sheet;
 use std::alloc::Global;
 use std::io::Write;
 use text::output::WriteFault;

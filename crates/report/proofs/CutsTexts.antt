@@ -109,6 +109,13 @@ module _ (p : Problem) (s : CutsState) (some : 0 < s.worth) (ended : s.ended ≡
       let least = cuts_sound p (Some s.worth) r.0 s limits up u f in
       omega (arith, enough, least)
 
+-- where it is right for the cost 0, there is no other cost up to that
+pub zero_up_to : (p : Problem) (front : List ℕ) → IsRightText p 0 true front
+    → IsRightUpTo p 0 front
+zero_up_to p front right cost le =
+    let is : 0 ≡ cost = omega (arith, le) in
+    subst (λ z. IsRightText p z true front) is right
+
 -- and no line follows
 pub nothing_behind : (p : Problem) (limit held : ℕ) (front : List ℕ) (proof : Option (List ℕ))
     → IsRightUpTo p limit front → held ≤ limit

@@ -1,5 +1,5 @@
 -- What a certificate was judged as that was read.
-use Rattle.std.proofs.Common.{◌≡◌, ℕ, List, [], ◌∷◌, ◌++◌, Option, Some, None}
+use Rattle.std.proofs.Common.{◌≡◌, ℕ, true, List, [], ◌∷◌, ◌++◌, Option, Some, None}
 use Rattle.std.proofs.Common.{Ok, Err, refl, sym, ◌∙◌, ap, inl, inr, append_assoc}
 use Rattle.std.specs.Prelude.{IfSome, ◌==◌, Result}
 use Rattle.std.specs.Io.KnownBytes.{Consumes, IsAtEnd}
@@ -8,12 +8,16 @@ use Rattle.cnf.specs.Problem.{Problem}
 use Rattle.text.specs.Pieces.{IsEnded}
 use Rattle.text.specs.Text.{token_lines}
 use Rattle.lrat_machine.specs.declared.verdicts.Cause.{Cause}
+use Rattle.lrat_machine.specs.declared.verdicts.Verdict.{Verdict}
+use Rattle.lrat_machine.specs.declared.verdicts.Verdict.TheVariants.{Yes}
 use Rattle.lrat_cuts.specs.Cuts.{CutsState}
 use Rattle.lrat_cuts.specs.Pieces.{CheckerState, HasJudged}
-use Rattle.lrat_cuts.specs.Verdict.{ended_part, ended_with, judged_text}
+use Rattle.lrat_cuts.specs.Verdict.{cuts_verdict, ended_part, ended_with, judged_text}
+use Rattle.lrat_cuts.specs.Verdict.{verdict_of}
 use Rattle.lrat_cuts.proofs.Laws.{ended_part-more}
 use Rattle.lrat_check.proofs.PieceLaws.{over_all, over_ended}
 use Rattle.cuts_log.specs.Starts.{IsReached}
+use Rattle.cuts_solver.specs.Solving.{IsRightText}
 use Rattle.report.specs.Earlier.{IsEarlier}
 
 -- the part up to the last line feed is ended by it
@@ -69,3 +73,24 @@ module _ (c : CheckerState) (p : Problem) (fed : List ℕ) (o n : Option (List �
           → IfSome all (λ bytes. IsEarlier p s (ended_part bytes))
       known None h = tt
       known (Some bytes) h = record { judged = sym h; ended = part_ended bytes }
+
+-- a certificate that was accepted is right, and has ended
+module _ (p : Problem) (cost : ℕ) where
+  right_state : (text : List ℕ) (r : Result CutsState (Cause × ℕ))
+      → judged_text (Some cost) p text ≡ r → verdict_of r ≡ Yes → IsRightText p cost true text
+  right_state text (Ok s) is y =
+      elim (cases_Bool s.ended) [
+        | inl t ↦ (s, is, t)
+        | inr f ↦ absurd (cc)
+      ]
+  right_state text (Err e) is y = absurd (cc)
+
+  pub right_text : (text : List ℕ) → cuts_verdict (Some cost) p text ≡ Yes
+      → IsRightText p cost true text
+  right_text text y = right_state text (judged_text (Some cost) p text) refl y
+
+  pub right_known : (known : Option (List ℕ)) (v : Verdict)
+      → IfSome known (λ bytes. v ≡ cuts_verdict (Some cost) p bytes) → v ≡ Yes
+      → IfSome known (IsRightText p cost true)
+  right_known None v h y = tt
+  right_known (Some bytes) v h y = right_text bytes (sym h ∙ y)

@@ -69,10 +69,6 @@ cost_held_by limit Unsatisfiable = NUMBER_LIMIT
 cost_held_by limit (Satisfiable c bits) = c
 cost_held_by limit Unknown = limit
 
--- at the beginning they hold in all solutions
-abbrev pub cost_held : Said → ℕ
-cost_held said = cost_held_by NUMBER_LIMIT said
-
 -- all lines of the certificate are right behind those in front of it, and where it is needed the
 -- last one adds the empty clause
 pub record IsRightBehind (front : List ℕ) (limit : ℕ) (p : Problem) (said : Said)
@@ -80,10 +76,6 @@ pub record IsRightBehind (front : List ℕ) (limit : ℕ) (p : Problem) (said : 
   pub left : CutsState
   pub judged : judged_text (Some (cost_held_by limit said)) p (front ++ proved) ≡ Ok left
   pub ended : NeedsProof said → left.ended ≡ true
-
--- nothing is in front of it
-abbrev pub IsRightFor : Problem → Said → List ℕ → Type 0
-IsRightFor p said proved = IsRightBehind [] NUMBER_LIMIT p said proved
 
 -- a checker says yes to text, result and certificate
 abbrev pub ChecksByCuts : Option (List ℕ) → List ℕ → List ℕ → Type 0
@@ -112,12 +104,6 @@ pub record IsRunBehind (front : List ℕ) (limit : ℕ) (text : Option (List ℕ
   -- the effort: where no certificate is needed, it is spent
   pub spent : (NeedsProof said → ⊥) → left_of new ≡ 0
   pub answers : new.answers ≡ old.answers + length (told_in before said)
-
--- a run whose certificate begins
-abbrev pub IsRunByCuts : Option (List ℕ) → CutsStatus → List ℕ → List ℕ → BudgetState
-    → BudgetState → Type 0
-IsRunByCuts text status written proved old new =
-    IsRunBehind [] NUMBER_LIMIT text status written proved old new
 
 -- what stands after a run that ended so
 pub record EndsBehind (front : List ℕ) (limit : ℕ) (text out out' proof proof' : Option (List ℕ))

@@ -12,7 +12,8 @@ use Rattle.improve_cuts.specs.ByCuts.{BeginsWith}
 use Rattle.report.specs.declared.earlier.Judged.{Judged}
 use Rattle.report.specs.declared.earlier.Judged.TheVariants.{Right, Wrong}
 
--- this text was judged so line by line, whatever its cuts hold for, and a line feed ends it
+-- this text was judged so line by line, whatever its cuts hold for; it is empty, or a line feed
+-- ends it
 pub record IsEarlier (p : Problem) (s : CutsState) (text : List ℕ) : Type 0 where
   pub judged : judged_text None p text ≡ Ok s
   pub ended : IsEnded text

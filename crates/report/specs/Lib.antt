@@ -1,5 +1,4 @@
 pub mod Printing
-pub mod Profiles
 pub mod Codes
 pub mod Faults
 pub mod Told

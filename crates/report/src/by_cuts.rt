@@ -1,53 +1,36 @@
 //! The run by forms and cuts: a text in, a result out, and a certificate that is written while the
 //! search goes on.
-ghost use Rattle.std.specs.Prelude.{◌≡◌, ◌<◌, ◌≤◌, [], ◌∷◌, ℕ, List, Option, Err, true};
-ghost use Rattle.std.specs.Prelude.{IfOk, IfErr, IfSome, IsSome, OnOk};
-ghost use Rattle.cdcl_order.specs.Watch.{with_seen};
+ghost use Rattle.std.specs.Prelude.{◌≡◌, ℕ, List, Option, Err, true};
+ghost use Rattle.std.specs.Prelude.{IfOk, IfErr, IfSome, IsSome};
 ghost use Rattle.cdcl_order.specs.Budgets.{WaivesAs};
-ghost use Rattle.cnf.specs.Problem.{Problem};
-ghost use Rattle.cnf.specs.declared.limits.TheConstants.{NUMBER_LIMIT};
 ghost use Rattle.cuts_log.specs.Judging.{IsBefore};
 ghost use Rattle.cuts_log.specs.Starts.{IsReached};
-ghost use Rattle.improve.specs.Improving.{IsSolution};
-ghost use Rattle.improve_cuts.specs.ByCuts.{BeginsOn, BeginsWith, SameOrigin};
-ghost use Rattle.text.specs.Writing.{Writes};
-ghost use Rattle.report.specs.Best.{IsTrueOf, end_of, said_by};
-ghost use Rattle.report.specs.ByCuts.{AnswersByCuts, EndsBehind, EndsByCuts, IsSeenByCuts};
-ghost use Rattle.report.specs.ByCuts.{IsShownByCuts, LeavesAnswerByCuts, LeavesBehind};
-ghost use Rattle.report.specs.ByCuts.{LeavesByCuts, SearchesByCuts, cuts_outcome, said_text};
-ghost use Rattle.report.specs.ByCuts.{held_by, held_for, status_by};
+ghost use Rattle.cuts_solver.specs.Solving.{IsRightText};
+ghost use Rattle.improve_cuts.specs.ByCuts.{BeginsOn};
+ghost use Rattle.report.specs.ByCuts.{EndsBehind, EndsByCuts, IsSeenByCuts, LeavesBehind};
+ghost use Rattle.report.specs.ByCuts.{LeavesByCuts};
 ghost use Rattle.report.specs.Earlier.{EndsAt, IsEarlier, IsRightUpTo};
 ghost use Rattle.report.specs.Running.{ReadsOnlyAs};
 
-use crate::answering::{deliver_end, spell_optimum, spell_satisfiable};
+mod beginning;
+mod ending;
+mod searching;
+
 use crate::best::RunWatch;
+use crate::by_cuts::beginning::{begin_below, begin_free, count_room, first_solution};
+use crate::by_cuts::ending::end_by_cuts;
+use crate::by_cuts::searching::{CutsSearch, find_at_once, find_by_cuts};
 use crate::earlier::{CannotResume, Earlier};
 use crate::fault::RunFault;
 use crate::finding::Finding;
-use crate::solving::{Run, is_solution};
+use crate::solving::Run;
 use crate::status::CutsStatus;
-use crate::told::{Finished, Told};
-use cdcl::budget::Budget;
-use cnf::limits::NUMBER_LIMIT;
 use cnf::types::Instance;
 use cuts_solver::solver::{CutsSolver, Written};
-use improve::found::ImproveFault;
-use improve::search::tell;
-use improve::solutions::{Solution, price};
-use improve_cuts::by_cuts::{CutsTask, improve_by_cuts};
-use improve_cuts::found::CutsFound;
+use improve_cuts::by_cuts::CutsTask;
 use std::alloc::{AllocError, Global};
 use std::io::{Read, Write};
 use wcnf::reading::read_from;
-
-/// The most variables to count with.
-const MOST_COUNT_ROOM: usize = 1 << 20;
-
-/// The variables to count with for each soft clause of a small instance, beyond two thousand.
-const ROOM_EACH_FEW: usize = 8;
-
-/// The variables to count with for each soft clause of a large instance, beyond ten thousand.
-const ROOM_EACH_MANY: usize = 2;
 
 /// What a run by forms and cuts leaves.
 #[derive(Drop)]
@@ -243,6 +226,59 @@ impl<'s, 'b, 'o, 'w, O: Write, K: RunWatch> Run<'s, 'b, 'o, 'w, O, K> {
         }
     }
 
+    /// As `resume_read_by_cuts`, where the certificate has ended and is right for the cost 0, and
+    /// the first bits cost that. The answer comes at once, and no line is written.
+    ///
+    /// # Errors
+    ///
+    /// `Lacking` where the first bits are no such solution. Nothing is written then, nothing is
+    /// shown, and no effort is spent; the first bits are gone.
+    pub fn tell_free_by_cuts<P: Write + Drop>(
+        &mut self,
+        alloc: Global,
+        instance: &Instance,
+        proof: P,
+    ) -> Result<CutsRun<P>, CannotResume>
+        ensures names { (self.new.budget.ghost_name ≡ self.old.budget.ghost_name)
+            × (self.new.out.ghost_name ≡ self.old.out.ghost_name)
+            × (self.new.watch.ghost_name ≡ self.old.watch.ghost_name) }
+        ensures ok { (text : Option (List ℕ)) → ReadsOnlyAs text instance.now → (front : List ℕ)
+            → IsRightText instance.now 0 true front
+            → IfOk result (λ run. IfOk run.ended (λ status. IfSome run.proof (λ writer.
+            EndsBehind front 0 text
+            (O.contents self.old.out.now) (O.contents self.new.out.now)
+            (P.contents proof) (P.contents writer) status
+            self.old.budget.now self.new.budget.now))) }
+        ensures fault { (text : Option (List ℕ)) → ReadsOnlyAs text instance.now
+            → (front : List ℕ) → IsRightText instance.now 0 true front
+            → IfOk result (λ run. IfErr run.ended (λ fault. IfSome run.proof (λ writer.
+            LeavesBehind front fault text (O.contents self.old.out.now)
+            (O.contents self.new.out.now) (P.contents proof) (P.contents writer)
+            self.new.budget.now))) }
+        ensures writer { IfOk result (λ run. IsSome run.proof) }
+        ensures same_limit { self.new.budget.now.limit ≡ self.old.budget.now.limit }
+        ensures seen { (text : Option (List ℕ)) → ReadsOnlyAs text instance.now
+            → IfOk result (λ run. IfOk run.ended (λ status. IsSeenByCuts text
+            (O.contents self.old.out.now) (O.contents self.new.out.now) status
+            (K.seen self.old.watch.now) (K.seen self.new.watch.now))) }
+        ensures waives { WaivesAs self.old.budget.now self.new.budget.now
+            (K.waived self.old.watch.now) (K.waived self.new.watch.now) }
+        ensures refused { IfErr result (λ _. (self.new.budget.now ≡ self.old.budget.now)
+            × (O.contents self.new.out.now ≡ O.contents self.old.out.now)
+            × (K.seen self.new.watch.now ≡ K.seen self.old.watch.now)) }
+        ensures lacking { IfErr result (λ e. e ≡ CannotResume.Lacking 0) }
+    {
+        instance.limits();
+        let start = begin_free(first_solution(instance, self.start.take()))?;
+        let task = CutsTask {
+            instance,
+            start,
+            proved: 0,
+            learned: 0,
+        };
+        Ok(self.run_at_once(CutsSearch { alloc, task }, proof))
+    }
+
     /// Searches with a solver, and writes the end.
     fn run_by_cuts<P: Write + Drop>(
         &mut self,
@@ -347,247 +383,5 @@ impl<'s, 'b, 'o, 'w, O: Write, K: RunWatch> Run<'s, 'b, 'o, 'w, O, K> {
                 ended: Err(fault),
             },
         }
-    }
-}
-
-/// How many variables there are to count with. Each solution decides all of them, so that there are
-/// few where there is little to count.
-fn count_room(instance: &Instance) -> u32 {
-    let softs = instance.soft().len();
-    let few = softs.saturating_mul(ROOM_EACH_FEW).saturating_add(2000);
-    let many = softs.saturating_mul(ROOM_EACH_MANY).saturating_add(10_000);
-    few.min(many).min(MOST_COUNT_ROOM) as u32
-}
-
-/// A search, and where its memory comes from.
-#[derive(Drop)]
-struct CutsSearch<'i> {
-    alloc: Global,
-    task: CutsTask<'i>,
-}
-
-/// Looks for an optimum, and tells the cost of each better solution.
-fn find_by_cuts<O: Write, P: Write + Drop, K: RunWatch>(
-    search: CutsSearch<'_>,
-    solver: &mut CutsSolver<P>,
-    budget: &mut Budget,
-    out: &mut O,
-    watch: &mut K,
-) -> Result<CutsFound, RunFault>
-    requires { BeginsOn search.task.instance.now search.task.start solver.old }
-    ensures searches { SearchesByCuts search.entry.task.instance.now solver.old.log.cost result
-        solver.new.refuted solver.new.log.cost (O.contents out.old) (O.contents out.new)
-        budget.old budget.new }
-    ensures origin { SameOrigin solver.old solver.new }
-    ensures shown { IfOk result (λ found. IsShownByCuts search.entry.task.instance.now
-        solver.old.log.cost found solver.new.refuted solver.new.log.cost
-        (O.contents out.old) (O.contents out.new) budget.new
-        (K.seen watch.old) (K.seen watch.new)) }
-    ensures waives { WaivesAs budget.old budget.new (K.waived watch.old) (K.waived watch.new) }
-{
-    let CutsSearch { alloc, task } = search;
-    task.instance.limits();
-    let mut told = Told::new(alloc, out);
-    let searched = improve_by_cuts(task, solver, budget, &mut told, watch);
-    let Finished { writer, fault } = told.finish();
-    // Nothing is done here: the proof learns from this use what the writer holds.
-    let _ = &*writer;
-    conclude(searched, fault, solver.has_write_failed())
-}
-
-/// What is found where nothing costs less than what cuts have held for: the first solution is told
-/// for a unit of the budget, if one is left; without one there is none.
-fn find_at_once<O: Write, K: RunWatch>(
-    search: CutsSearch<'_>,
-    budget: &mut Budget,
-    out: &mut O,
-    watch: &mut K,
-) -> Result<CutsFound, RunFault>
-    requires { (limit : ℕ) × EndsAt search.task.instance.now limit search.task.start }
-    ensures searches { (limit : ℕ) → EndsAt search.entry.task.instance.now limit
-        search.entry.task.start → SearchesByCuts search.entry.task.instance.now limit result
-        true (held_for limit result) (O.contents out.old) (O.contents out.new)
-        budget.old budget.new }
-    ensures shown { (limit : ℕ) → EndsAt search.entry.task.instance.now limit
-        search.entry.task.start → IfOk result (λ found. IsShownByCuts
-        search.entry.task.instance.now limit found true (held_by limit found.best)
-        (O.contents out.old) (O.contents out.new) budget.new
-        (K.seen watch.old) (K.seen watch.new)) }
-    ensures waives { WaivesAs budget.old budget.new (K.waived watch.old) (K.waived watch.new) }
-    ensures below { (limit : ℕ) → EndsAt search.entry.task.instance.now limit
-        search.entry.task.start → IfOk result (λ found. held_by limit found.best ≤ limit) }
-{
-    let CutsSearch { alloc, task } = search;
-    let CutsTask {
-        instance,
-        start,
-        ..
-    } = task;
-    instance.limits();
-    let Some(solution) = start else {
-        return Ok(CutsFound {
-            best: None,
-            is_proved: true,
-        });
-    };
-    if budget.left() == 0 {
-        return Ok(CutsFound {
-            best: None,
-            is_proved: false,
-        });
-    }
-    budget.count_answer();
-    let mut told = Told::new(alloc, out);
-    let has_failed = tell(instance, &mut told, watch, &solution).is_err();
-    let Finished { writer, fault } = told.finish();
-    // Nothing is done here: the proof learns from this use what the writer holds.
-    let _ = &*writer;
-    if has_failed {
-        drop(solution);
-        return Err(fault);
-    }
-    Ok(CutsFound {
-        best: Some(solution),
-        is_proved: true,
-    })
-}
-
-/// The solution that these bits are, if they are one.
-fn first_solution(instance: &Instance, start: Option<Vec<bool>>) -> Option<Solution>
-    ensures { IfSome result (λ b. IsSolution instance.now b.bits.items b.cost) }
-{
-    match start {
-        Some(bits) => {
-            if is_solution(instance, &bits) {
-                Some(price(instance, bits))
-            } else {
-                None
-            }
-        }
-        None => None,
-    }
-}
-
-/// The solution that a search begins with behind lines whose cuts hold for this.
-///
-/// # Errors
-///
-/// Those of `CannotResume`.
-fn begin_below(worth: u64, start: Option<Solution>) -> Result<Option<Solution>, CannotResume>
-    requires { worth ≤ NUMBER_LIMIT }
-    ensures some { IfOk result (λ _. 0 < worth) }
-    ensures begins { (p : Problem)
-        → IfSome start (λ b. IsSolution p b.bits.items b.cost)
-        → IfOk result (λ first. BeginsWith p worth first) }
-    ensures lacking { IfErr result
-        (λ e. (cost : ℕ) → e ≡ CannotResume.Lacking cost → cost ≡ worth) }
-{
-    if worth == 0 {
-        return Err(CannotResume::Unfit);
-    }
-    if let Some(solution) = start {
-        if solution.cost <= worth {
-            return Ok(Some(solution));
-        }
-    }
-    if worth < NUMBER_LIMIT {
-        return Err(CannotResume::Lacking(worth));
-    }
-    Ok(None)
-}
-
-/// The outcome of a search, where this is why a telling failed. A solver fails also where a write
-/// of the certificate does.
-fn conclude(
-    searched: Result<CutsFound, ImproveFault>,
-    fault: RunFault,
-    has_write_failed: bool,
-) -> Result<CutsFound, RunFault>
-    ensures { result ≡ cuts_outcome searched fault has_write_failed }
-{
-    match searched {
-        Ok(found) => Ok(found),
-        Err(ImproveFault::Memory) => {
-            if has_write_failed {
-                Err(RunFault::ProofOutput)
-            } else {
-                Err(RunFault::Memory)
-            }
-        }
-        Err(ImproveFault::Progress) => Err(fault),
-    }
-}
-
-/// Ends the certificate, of which this was written, and then the result, of a search that found
-/// this.
-fn end_by_cuts<O: Write, P: Write + Drop, K: RunWatch>(
-    instance: &Instance,
-    finding: &Finding<'_>,
-    written: Written<P>,
-    out: &mut O,
-    watch: &mut K,
-) -> CutsRun<P>
-    requires { IsTrueOf instance.now (said_by finding.now) }
-    ensures ok { IfOk result.ended (λ status. IfSome result.proof (λ writer.
-        AnswersByCuts written.is_whole (said_by finding.now)
-        (O.contents out.old) (O.contents out.new)
-        (P.contents written.writer) (P.contents writer))) }
-    ensures fault { IfErr result.ended (λ fault. IfSome result.proof (λ writer.
-        LeavesAnswerByCuts fault written.is_whole (said_by finding.now)
-        (O.contents out.old) (O.contents out.new)
-        (P.contents written.writer) (P.contents writer))) }
-    ensures writer { IsSome result.proof }
-    ensures status { IfOk result.ended (λ status. status ≡ status_by (said_by finding.now)) }
-    ensures seen { IfOk result.ended (λ status. K.seen watch.new
-        ≡ with_seen (end_of instance.now (said_by finding.now) ∷ []) (K.seen watch.old)) }
-    ensures same_waived { K.waived watch.new ≡ K.waived watch.old }
-{
-    let Written { writer, is_whole } = written;
-    let mut proof = writer;
-    if let Err(fault) = answer_by_cuts(finding, is_whole, out, &mut proof) {
-        return CutsRun {
-            proof: Some(proof),
-            ended: Err(fault),
-        };
-    }
-    watch.ended(instance, finding);
-    CutsRun {
-        proof: Some(proof),
-        ended: Ok(CutsStatus::of(finding)),
-    }
-}
-
-/// Flushes the certificate, which has all its lines or not, and writes the end of the result where
-/// it has.
-fn answer_by_cuts<O: Write, P: Write>(
-    finding: &Finding<'_>,
-    is_whole: bool,
-    out: &mut O,
-    proof: &mut P,
-) -> Result<(), RunFault>
-    ensures ok { OnOk result (AnswersByCuts is_whole (said_by finding.now)
-        (O.contents out.old) (O.contents out.new) (P.contents proof.old) (P.contents proof.new)) }
-    ensures fault { IfErr result (λ fault. LeavesAnswerByCuts fault is_whole
-        (said_by finding.now) (O.contents out.old) (O.contents out.new)
-        (P.contents proof.old) (P.contents proof.new)) }
-{
-    if !is_whole {
-        return Err(RunFault::ProofOutput);
-    }
-    proof.flush().map_err(|_| RunFault::ProofOutput)?;
-    deliver_said(finding, out)
-}
-
-/// Writes the end of the result, and flushes.
-fn deliver_said<O: Write>(finding: &Finding<'_>, out: &mut O) -> Result<(), RunFault>
-    ensures writes { Writes result (O.contents out.old) (said_text (said_by finding.now))
-        (O.contents out.new) }
-    ensures fault { IfErr result (λ fault. fault ≡ RunFault.Output) }
-{
-    match finding {
-        Finding::Optimum { bits, .. } => deliver_end(spell_optimum(bits), bits, out),
-        Finding::Unsat => deliver_end(b"s UNSATISFIABLE", &[], out),
-        Finding::Best { bits, .. } => deliver_end(spell_satisfiable(bits), bits, out),
-        Finding::Nothing => deliver_end(b"s UNKNOWN", &[], out),
     }
 }

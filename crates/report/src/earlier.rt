@@ -1,10 +1,11 @@
 //! A certificate of forms and cuts that an earlier run has left, for a run that goes on with it.
-ghost use Rattle.std.specs.Prelude.{◌≡◌, ◌≤◌, IfOk};
+ghost use Rattle.std.specs.Prelude.{◌≡◌, ◌≤◌, true, IfOk, IfSome};
 ghost use Rattle.cnf.specs.declared.limits.TheConstants.{NUMBER_LIMIT};
+ghost use Rattle.cuts_solver.specs.Solving.{IsRightText};
 ghost use Rattle.report.specs.Earlier.{IsJudgedAs};
 
 use cnf::types::Instance;
-use lrat_check::verdicts::{Cause, CheckFault};
+use lrat_check::verdicts::{Cause, CheckFault, Verdict};
 use lrat_cuts::machine::CutsMachine;
 use lrat_cuts::pieces::CutsChecker;
 use lrat_cuts::streams::judge;
@@ -18,7 +19,7 @@ pub enum CannotResume {
     Lacking(u64),
     /// A cut of it holds for no cost, it deletes a clause of the formula, or it has a clause that a
     /// search cannot take: without a literal, with one variable twice, or with one for which there
-    /// is no room.
+    /// is no room. Or its ids leap far ahead of its lines.
     Unfit,
 }
 
@@ -80,5 +81,36 @@ impl Earlier {
         ensures { result ≡ self.now.machine.state.ended }
     {
         self.machine.has_ended()
+    }
+}
+
+/// Whether a certificate ends with the empty clause and is right where cuts have to hold for the
+/// cost 0. `Earlier` does not tell: it takes a cut that is worth less for one that is worth 0.
+///
+/// # Errors
+///
+/// Those of `Earlier::read`.
+pub fn is_right_for_zero<R: Read>(instance: &Instance, proof: &mut R) -> Result<bool, CheckFault>
+    ensures { IfOk result (λ right. right ≡ true
+        → IfSome (R.remaining proof.old) (IsRightText instance.now 0 true)) }
+{
+    let mut checker = CutsChecker::new(instance, Some(0))?;
+    match judge(&mut checker, proof) {
+        Ok(()) => Ok(is_yes(checker.finish()?)),
+        Err(fault) => {
+            // By a call: that is proved once, and not field by field here.
+            drop(checker);
+            Err(CheckFault::from(fault))
+        }
+    }
+}
+
+/// Whether the verdict is yes.
+fn is_yes(verdict: Verdict) -> bool
+    ensures { result ≡ true → verdict ≡ Verdict.Yes }
+{
+    match verdict {
+        Verdict::Yes => true,
+        Verdict::No(_, _) => false,
     }
 }

@@ -1,7 +1,7 @@
 //! What is said where a command line cannot be read.
 use clap::Error;
 use clap::error::ErrorKind;
-use explain::showing::Shown;
+use explain_text::showing::Shown;
 use report::fault::RunFault;
 use std::io::{self, Write};
 use wmax_commands::faults::{Fault, tell_fault};

@@ -1,6 +1,6 @@
 //! The whole program but for `main`: what the command line asks for is done.
 use crate::mistakes::{refuse, tell_memory, tell_words};
-use report::command_line::make_command;
+use command_line::making::make_command;
 use std::env;
 use std::fs::OpenOptions;
 use std::io::Write;

@@ -1,6 +1,6 @@
 //! What a command line asks for, read once: which command, of which files, and how.
 use clap::ArgMatches;
-use report::words::{
+use command_line::words::{
     BEST_OPTION, CHECK, CONFLICTS_OPTION, COST, ENCODE, EXPLAIN, FILE, FROM_OPTION, LOWER,
     LRAT_OPTION, PROFILE_OPTION, PROGRESS_OPTION, PROOF, PROOF_OPTION, RESULT, RESUME_OPTION,
     SOLVE, TIME_LIMIT_OPTION,

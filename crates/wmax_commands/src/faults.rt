@@ -3,7 +3,7 @@ ghost use Rattle.std.specs.Prelude.{◌≡◌, IfOk, IfSome};
 ghost use Rattle.wmax_commands.specs.Faults.{fault_of_text, fault_status, file_fault};
 ghost use Rattle.wmax_commands.specs.Faults.{output_outcome};
 
-use explain::mending::advise_unpacking;
+use explain_text::mending::advise_unpacking;
 use report::fault::RunFault;
 use report::printing::{fault_code, print_fault};
 use std::fs::{self, File};

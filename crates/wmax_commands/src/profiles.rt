@@ -2,8 +2,8 @@
 //! first.
 use crate::faults::Fault;
 use adder::profiles::Profile;
+use command_line::words::pick_profile;
 use report::fault::RunFault;
-use report::words::pick_profile;
 use std::env::{self, VarError};
 use std::io::Write;
 use std::rt::Env;

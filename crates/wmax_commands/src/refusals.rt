@@ -5,10 +5,10 @@ ghost use Rattle.wmax_commands.specs.Refusals.{kept_status};
 
 use crate::checking::show;
 use crate::faults::Fault;
+use command_line::words::{BEST_OPTION, FROM_OPTION, PROOF_OPTION, RESUME_OPTION};
 use lrat_check::verdicts::Verdict;
 use report::earlier::CannotResume;
 use report::fault::RunFault;
-use report::words::{BEST_OPTION, FROM_OPTION, PROOF_OPTION, RESUME_OPTION};
 use std::io::Write;
 use wmax_onlooker::standard_error::Messages;
 
@@ -30,7 +30,7 @@ impl From<CannotResume> for ResumeFault {
     fn from(why: CannotResume) -> Self {
         match why {
             CannotResume::Lacking(cost) => ResumeFault::Lacking(cost),
-            CannotResume::Unfit => ResumeFault::Closed,
+            CannotResume::Unfit => ResumeFault::Unfit,
         }
     }
 }
@@ -68,11 +68,11 @@ pub(crate) enum KeptFileFault {
 #[derive(Clone, Copy, Drop)]
 pub(crate) enum ResumeFault {
     /// It is in no regular file.
-    Kept,
+    NotRegular,
     /// There is no solution at hand that costs at most this, and it says nothing of others.
     Lacking(u64),
     /// No search can go on with what it leaves.
-    Closed,
+    Unfit,
 }
 
 /// Tells why there is no run; the exit status.
@@ -95,7 +95,7 @@ fn refuse_resumed<E: Write>(messages: &mut Messages<'_, E>, why: ResumeFault) ->
 {
     let out = messages.below();
     let _ = match why {
-        ResumeFault::Kept => writeln!(
+        ResumeFault::NotRegular => writeln!(
             out,
             "error: --{RESUME_OPTION} needs a regular file as PATH of --{PROOF_OPTION}"
         ),
@@ -104,7 +104,7 @@ fn refuse_resumed<E: Write>(messages: &mut Messages<'_, E>, why: ResumeFault) ->
             "error: --{RESUME_OPTION} needs a solution that costs at most {cost}: name it by \
              --{BEST_OPTION} or --{FROM_OPTION}"
         ),
-        ResumeFault::Closed => writeln!(
+        ResumeFault::Unfit => writeln!(
             out,
             "error: no search can go on with the certificate that --{PROOF_OPTION} names"
         ),

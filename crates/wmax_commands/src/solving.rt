@@ -1,5 +1,5 @@
 //! `wmax solve`: a result and its certificate.
-ghost use Rattle.std.specs.Prelude.{◌≡◌, IfOk, None, Some};
+ghost use Rattle.std.specs.Prelude.{◌≡◌, IfOk, Some};
 ghost use Rattle.wmax_commands.specs.Resuming.{IsFor};
 
 use crate::arguments::SolveRequest;
@@ -7,14 +7,13 @@ use crate::faults::{Fault, end_output, open, tell_text_fault};
 use crate::inputs::{Inputs, prepare};
 use crate::profiles::{CUTS, Certifying, NoProfile, choose_profile, refuse_profile};
 use crate::refusals::{KeptFileFault, Refused, ResumeFault, tell_refused};
-use crate::resuming::{Resumed, take_certificate};
+use crate::resuming::{Origin, Resumed, take_certificate};
 use cdcl::budget::Budget;
 use cnf::types::Instance;
+use command_line::words::MOST_CONFLICTS;
 use report::best::RunWatch;
-use report::earlier::Earlier;
 use report::fault::RunFault;
 use report::solving::Run;
-use report::words::MOST_CONFLICTS;
 use std::alloc::Global;
 use std::io::{self, Sink, Write};
 use std::num::saturating_f64_to_u64;
@@ -22,7 +21,7 @@ use std::rt::{Clock, Env, Files};
 use std::time::Duration;
 use wmax_onlooker::alarm::{Alarm, Deadline};
 use wmax_onlooker::file_id::{FileId, empty, find_file_id, open_proof};
-use wmax_onlooker::keeper::{BestPaths, Keeper};
+use wmax_onlooker::keeper::{BestPaths, FirstText, Keeper};
 use wmax_onlooker::onlooker::Onlooker;
 use wmax_onlooker::progress::Meter;
 use wmax_onlooker::resumed_file::ResumedFile;
@@ -40,10 +39,13 @@ const NO_CUTS: &str = "error: solve takes --resume only with --profile 3";
 
 /// FILE is opened, then RESULT, if the search begins with one: that is judged by FILE, which is
 /// read then. Then the file of the best solution is looked at, and the search begins with what
-/// stands there, if it is cheaper. Then the file of the certificate is opened or created, and read
-/// if it is to go on, then that of the best solution is written, then that of the certificate is
-/// emptied, unless it goes on, and FILE is read, if it was not before. Without a file the
-/// certificate is dropped.
+/// stands there, if it is cheaper. Then the file of the certificate is opened or created, then that
+/// of the best solution is written, then that of the certificate is emptied, and FILE is read, if
+/// it was not before. Without a file the certificate is dropped.
+///
+/// If the certificate is to go on, FILE is read before that of the certificate is opened, which is
+/// read then. Neither it nor the file of the best solution is changed before it is clear that the
+/// search can begin.
 pub fn solve<'a, R: Files + AllocGlobal + Print + Env + Clock, E: Write>(
     rt: &R,
     messages: &mut Messages<'_, E>,
@@ -170,8 +172,8 @@ fn solve_into<'a, R: Files + AllocGlobal + Print + Clock, E: Write>(
 /// What is written.
 #[derive(Drop)]
 struct RunOutputs<'a, R: Files, P> {
-    /// The certificate of an earlier run, if it goes on.
-    earlier: Option<Earlier>,
+    /// Where the search begins.
+    origin: Origin,
     /// Where the certificate goes on, or a new one goes.
     proof: P,
     /// What keeps the best solution.
@@ -184,12 +186,12 @@ fn drop_certificate<'a, R: Files>(
     inputs: &mut Inputs<'a, R::File>,
     read: [FileId; 2],
 ) -> Result<RunOutputs<'a, R, Sink>, Refused<'a>>
-    ensures { IfOk result (λ outputs. outputs.earlier ≡ None) }
+    ensures { IfOk result (λ outputs. outputs.origin ≡ Origin.Blank) }
 {
     let [here, _] = read;
-    let keeper = start_keeper(rt, inputs.kept.take(), [here, here])?;
+    let keeper = start_keeper(rt, inputs.kept.take(), [here, here], FirstText::Now)?;
     Ok(RunOutputs {
-        earlier: None,
+        origin: Origin::Blank,
         proof: io::sink(),
         keeper,
     })
@@ -202,17 +204,17 @@ fn open_outputs<'a, R: Files>(
     inputs: &mut Inputs<'a, R::File>,
     read: [FileId; 2],
 ) -> Result<RunOutputs<'a, R, R::File>, Refused<'a>>
-    ensures { IfOk result (λ outputs. outputs.earlier ≡ None) }
+    ensures { IfOk result (λ outputs. outputs.origin ≡ Origin.Blank) }
 {
     let [here, _] = read;
     let proof = open_proof(rt, path, read)?;
     let there = find_file_id(&proof).ok_or(RunFault::ProofOutput)?;
-    let keeper = start_keeper(rt, inputs.kept.take(), [here, there])?;
+    let keeper = start_keeper(rt, inputs.kept.take(), [here, there], FirstText::Now)?;
     if !empty(&proof) {
         return Err(Refused::Fault(Fault::Run(RunFault::ProofOutput)));
     }
     Ok(RunOutputs {
-        earlier: None,
+        origin: Origin::Blank,
         proof,
         keeper,
     })
@@ -227,20 +229,27 @@ fn resume_outputs<'a, R: Files + AllocGlobal>(
     read: [FileId; 2],
 ) -> Result<RunOutputs<'a, R, ResumedFile<R::File>>, Refused<'a>>
     ensures { IfOk result
-        (λ outputs. IsFor (inputs.new.source).instance outputs.earlier) }
+        (λ outputs. IsFor (inputs.new.source).instance outputs.origin) }
 {
     let [here, _] = read;
     let Resumed {
-        earlier,
+        origin,
         proof,
         there,
     } = take_certificate(rt, path, inputs, read)?;
-    let keeper = start_keeper(rt, inputs.kept.take(), [here, there])?;
-    Ok(RunOutputs {
-        earlier,
-        proof,
-        keeper,
-    })
+    // Whether a search can go on with the lines is not known yet.
+    match start_keeper(rt, inputs.kept.take(), [here, there], FirstText::Later) {
+        Ok(keeper) => Ok(RunOutputs {
+            origin,
+            proof,
+            keeper,
+        }),
+        Err(refused) => {
+            // By a call: that is proved once, and not field by field here.
+            drop(origin);
+            Err(refused)
+        }
+    }
 }
 
 /// What keeps the best solution. That its files are none of the others is looked at once more, now
@@ -249,13 +258,14 @@ fn start_keeper<'a, R: Files>(
     rt: &'a R,
     kept: Option<BestPaths<'a>>,
     others: [FileId; 2],
+    first: FirstText,
 ) -> Result<Keeper<'a, R>, Refused<'a>> {
     if let Some(kept) = &kept {
         if kept.paths.are_taken(rt, &others) {
             return Err(Refused::Best(KeptFileFault::Taken));
         }
     }
-    Keeper::start(rt, kept, others).ok_or(Refused::Best(KeptFileFault::Unwritable))
+    Keeper::start(rt, kept, others, first).ok_or(Refused::Best(KeptFileFault::Unwritable))
 }
 
 /// Solves, with what is to be written at hand. FILE is read here, unless something was judged by it
@@ -271,10 +281,10 @@ fn solve_over<'a, R: Files + AllocGlobal + Print + Clock, E: Write, P: Write + D
     inputs: &mut Inputs<'a, R::File>,
     outputs: RunOutputs<'a, R, P>,
 ) -> Result<u8, Refused<'a>>
-    requires { IsFor (inputs.old.source).instance outputs.earlier }
+    requires { IsFor (inputs.old.source).instance outputs.origin }
 {
     let RunOutputs {
-        earlier,
+        origin,
         proof,
         keeper,
     } = outputs;
@@ -282,7 +292,7 @@ fn solve_over<'a, R: Files + AllocGlobal + Print + Clock, E: Write, P: Write + D
     let budget = Budget::new(plan.request.limit.min(MOST_CONFLICTS));
     let mut onlooker = Onlooker {
         keeper,
-        meter: start_meter(rt, plan, budget.left(), &earlier),
+        meter: start_meter(rt, plan, budget.left(), &origin),
         alarm: Alarm::new(rt, plan.deadline),
         messages,
     };
@@ -291,7 +301,7 @@ fn solve_over<'a, R: Files + AllocGlobal + Print + Clock, E: Write, P: Write + D
     let search = Search {
         instance: inputs.source.instance(),
         start,
-        earlier,
+        origin,
         certifying: plan.certifying,
         budget,
     };
@@ -307,7 +317,7 @@ fn start_meter<'a, R: Clock + Files + AllocGlobal>(
     rt: &'a R,
     plan: Plan<'_>,
     limit: u64,
-    earlier: &Option<Earlier>,
+    origin: &Origin,
 ) -> Option<Meter<'a, R>> {
     if !plan.request.is_told {
         return None;
@@ -315,7 +325,7 @@ fn start_meter<'a, R: Clock + Files + AllocGlobal>(
     // A certificate of forms and cuts is not written at the end, but all along.
     let writes_last = plan.request.proof.is_some() && !plan.certifying.is_cuts();
     let mut meter = Meter::start(rt, limit, writes_last)?;
-    if let Some(earlier) = earlier {
+    if let Origin::Behind(earlier) = origin {
         meter.begin_at(earlier.proved());
     }
     Some(meter)
@@ -328,8 +338,8 @@ struct Search<'i> {
     instance: &'i Instance,
     /// The bits with which it begins, if there are any.
     start: Option<Vec<bool>>,
-    /// The certificate with which it goes on, if it goes on with one.
-    earlier: Option<Earlier>,
+    /// Where it begins.
+    origin: Origin,
     /// How its certificate shows that nothing is cheaper.
     certifying: Certifying,
     /// The effort that it may take.
@@ -348,12 +358,12 @@ fn run_search<O: Write, P: Write + Drop, K: RunWatch>(
     proof: P,
     watch: &mut K,
 ) -> Result<Result<u8, RunFault>, ResumeFault>
-    requires { IsFor (Some search.instance.now) search.earlier }
+    requires { IsFor (Some search.instance.now) search.origin }
 {
     let Search {
         instance,
         mut start,
-        earlier,
+        origin,
         certifying,
         mut budget,
     } = search;
@@ -366,17 +376,17 @@ fn run_search<O: Write, P: Write + Drop, K: RunWatch>(
     match certifying {
         Certifying::Formula(profile) => {
             // By a call: that is proved once, and not field by field here.
-            drop(earlier);
+            drop(origin);
             let mut proof = proof;
             let ended = run.solve_read(alloc, instance, &mut proof, profile);
             Ok(ended.map(|status| status.code()))
         }
-        Certifying::Cuts => run_by_cuts(&mut run, alloc, instance, earlier, proof),
+        Certifying::Cuts => run_by_cuts(&mut run, alloc, instance, origin, proof),
     }
 }
 
-/// Searches by forms and cuts, behind the lines of an earlier certificate if there is one; the exit
-/// status.
+/// Searches by forms and cuts, behind the lines of an earlier certificate if it begins there; the
+/// exit status.
 ///
 /// # Errors
 ///
@@ -385,14 +395,15 @@ fn run_by_cuts<O: Write, P: Write + Drop, K: RunWatch>(
     run: &mut Run<'_, '_, '_, '_, O, K>,
     alloc: Global,
     instance: &Instance,
-    earlier: Option<Earlier>,
+    origin: Origin,
     proof: P,
 ) -> Result<Result<u8, RunFault>, ResumeFault>
-    requires { IsFor (Some instance.now) earlier }
+    requires { IsFor (Some instance.now) origin }
 {
-    let ended = match earlier {
-        None => run.solve_read_by_cuts(alloc, instance, proof),
-        Some(earlier) => run.resume_read_by_cuts(alloc, instance, earlier, proof)?,
+    let ended = match origin {
+        Origin::Blank => run.solve_read_by_cuts(alloc, instance, proof),
+        Origin::Behind(earlier) => run.resume_read_by_cuts(alloc, instance, earlier, proof)?,
+        Origin::Shown => run.tell_free_by_cuts(alloc, instance, proof)?,
     };
     Ok(ended.ended.map(|status| status.code()))
 }

@@ -4,7 +4,7 @@ ghost use Rattle.std.specs.Io.KnownBytes.{IsAtEnd};
 ghost use Rattle.wmax_onlooker.specs.Files.{IsFileFault};
 
 use crate::standard_error::Messages;
-use explain::showing::Shown;
+use explain_text::showing::Shown;
 use report::fault::RunFault;
 use std::io::{Read, Write};
 use wcnf::faults::{FaultKind, ReadFault};

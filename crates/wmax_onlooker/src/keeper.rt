@@ -54,12 +54,29 @@ pub struct Keeper<'a, R: Files> {
     /// What the solution costs that stands there, as in `BestPaths`. While the search goes on only
     /// a cheaper one replaces it.
     cost: Option<u64>,
+    /// Whether a first text is still to be written, once the search begins.
+    is_due: bool,
+}
+
+/// When a first text is put where nothing stands.
+#[derive(Clone, Copy, Drop)]
+pub enum FirstText {
+    /// At once: there will be a search.
+    Now,
+    /// Once a search has begun: the run may still be refused, and then changes nothing.
+    Later,
 }
 
 impl<'a, R: Files> Keeper<'a, R> {
-    /// Writes first that nothing is known, where nothing stands there. None where nothing can be
+    /// Writes a first text, which says that nothing is known, to see that it can be written. If
+    /// nothing stands there, it stays: at once, or once the search begins. None where nothing can be
     /// written.
-    pub fn start(rt: &'a R, kept: Option<BestPaths<'a>>, others: [FileId; 2]) -> Option<Self>
+    pub fn start(
+        rt: &'a R,
+        kept: Option<BestPaths<'a>>,
+        others: [FileId; 2],
+        first: FirstText,
+    ) -> Option<Self>
         ensures nowhere { IsNone kept.entry → IsSome result }
         ensures cost { IfSome kept.entry (λ kept. IfSome result (λ keeper.
             keeper.cost ≡ kept.cost)) }
@@ -68,6 +85,7 @@ impl<'a, R: Files> Keeper<'a, R> {
             return Some(Keeper {
                 file: None,
                 cost: None,
+                is_due: false,
             });
         };
         let BestPaths {
@@ -75,14 +93,33 @@ impl<'a, R: Files> Keeper<'a, R> {
             cost,
             is_free,
         } = kept;
+        let is_put = is_free && is_now(first);
         let file = WholeFile::new(rt, paths, others);
-        if !can_write(&file, is_free) {
+        if !can_write(&file, is_put) {
             return None;
         }
         Some(Keeper {
             file: Some(file),
             cost,
+            is_due: is_free && !is_put,
         })
+    }
+
+    /// Writes the first text, if that was left until the search has begun.
+    pub(crate) fn begin<E: Write>(&mut self, messages: &mut Messages<'_, E>)
+        ensures cost { self.new.cost ≡ self.old.cost }
+    {
+        if !self.is_due {
+            return;
+        }
+        self.is_due = false;
+        let Some(file) = &mut self.file else {
+            return;
+        };
+        if let Some(mut part) = file.begin(messages) {
+            let written = write_unknown(&mut part);
+            file.end(written, messages);
+        }
     }
 
     /// Whether a solution of this cost is cheaper than the one that stands there.
@@ -120,6 +157,7 @@ impl<'a, R: Files> Keeper<'a, R> {
         if !self.is_cheaper(cost) {
             return;
         }
+        self.is_due = false;
         let Some(file) = &mut self.file else {
             return;
         };
@@ -155,16 +193,23 @@ impl<'a, R: Files> Keeper<'a, R> {
     }
 }
 
-/// Writes a first text, which is put in its place, where that is free, or taken away again. Whether
-/// it could.
-fn can_write<R: Files>(file: &WholeFile<'_, R>, is_free: bool) -> bool {
+/// Whether a first text is put now.
+fn is_now(first: FirstText) -> bool {
+    match first {
+        FirstText::Now => true,
+        FirstText::Later => false,
+    }
+}
+
+/// Writes a first text, which is put in its place or taken away again. Whether it could.
+fn can_write<R: Files>(file: &WholeFile<'_, R>, is_put: bool) -> bool {
     let Some(mut part) = file.try_begin() else {
         return false;
     };
     let is_written = write_unknown(&mut part).is_ok();
-    if is_written && is_free && file.try_end() {
+    if is_written && is_put && file.try_end() {
         return true;
     }
     let is_removed = file.try_drop();
-    is_written && !is_free && is_removed
+    is_written && !is_put && is_removed
 }

@@ -41,6 +41,8 @@ impl<'a, 'm, 'b, R: Files + Clock + AllocGlobal, E: Write> cdcl::watch::SearchWa
     }
 
     fn waives(&mut self, left: u64) -> u64 {
+        // A search asks this first when it begins.
+        self.keeper.begin(self.messages);
         if let Some(meter) = &mut self.meter {
             meter.note_left(left);
         }
@@ -66,6 +68,7 @@ impl<'a, 'm, 'b, R: Files + Clock + AllocGlobal, E: Write> Watch for Onlooker<'a
 
 impl<'a, 'm, 'b, R: Files + Clock + AllocGlobal, E: Write> RunWatch for Onlooker<'a, 'm, 'b, R, E> {
     fn searched(&mut self, finding: &Finding<'_>) {
+        self.keeper.begin(self.messages);
         let is_in_time = self.alarm.waived == 0;
         if let Some(meter) = &mut self.meter {
             meter.searched(finding, is_in_time, self.messages);

@@ -8,7 +8,7 @@ ghost use Rattle.wmax_onlooker.specs.WholeFile.{TakesName, TakesPlace, part_path
 use crate::file_id::{FileId, FilePlace, find_place, is_taken, open_empty};
 use crate::files::{UNREADABLE, read_file};
 use crate::standard_error::Messages;
-use explain::showing::Shown;
+use explain_text::showing::Shown;
 use report::fault::RunFault;
 use std::alloc::AllocError;
 use std::fs::{self, File};

@@ -2,7 +2,7 @@
 use Rattle.std.proofs.Common.{◌∙◌, ◌∷◌, ◌+◌, ap, sym, drop, rules}
 use Rattle.std.proofs.lemmas.List.{drop_more}
 use Rattle.explain.specs.Contradicting.{sources_text}
-use Rattle.explain.proofs.Sheets.{leads_on, leads_same}
+use Rattle.explain_text.proofs.Laws.{leads_on, leads_same}
 use Rattle.explain.proofs.contradicting.put_sources.Goals as goal
 
 pub loop-clause_line-preserved : goal.loop-clause_line-preserved

@@ -1,7 +1,7 @@
 -- Whoever puts the lines that are left has put all.
 use Rattle.std.proofs.Common.{drop}
 use Rattle.explain.specs.Contradicting.{sources_text}
-use Rattle.explain.proofs.Sheets.{Leads}
+use Rattle.explain_text.proofs.Laws.{Leads}
 use Rattle.explain.proofs.contradicting.put_sources.Given as goal
 
 abbrev pub invariant-loop-clause_line : goal.invariant-loop-clause_line

@@ -1,5 +1,5 @@
 -- What was put is what is written.
-use Rattle.explain.proofs.Sheets.{more, written}
+use Rattle.explain_text.proofs.Laws.{more, written}
 use Rattle.explain.proofs.contradicting.write_lines.Goals as goal
 
 pub returns : goal.returns

@@ -1,5 +1,5 @@
 -- What was put is what is written.
-use Rattle.explain.proofs.Sheets.{written}
+use Rattle.explain_text.proofs.Laws.{written}
 use Rattle.explain.proofs.explaining.write_bits.Goals as goal
 
 pub returns : goal.returns

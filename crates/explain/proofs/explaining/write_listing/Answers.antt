@@ -1,8 +1,8 @@
 -- What was put is what is written.
 use Rattle.std.proofs.Common.{sym}
-use Rattle.explain.specs.Sheets.{Displays}
+use Rattle.explain_text.specs.Sheets.{Displays}
 use Rattle.explain.specs.Explained.{listing_text}
-use Rattle.explain.proofs.Sheets.{more, written}
+use Rattle.explain_text.proofs.Laws.{more, written}
 use Rattle.explain.proofs.explaining.write_listing.Given.{Over}
 use Rattle.explain.proofs.explaining.write_listing.Goals as goal
 use Rattle.explain.proofs.explaining.write_listing.Goals.{After-put_names}

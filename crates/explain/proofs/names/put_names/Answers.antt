@@ -3,7 +3,7 @@ use Rattle.std.proofs.Common.{ap}
 use Rattle.std.specs.List.{flat_map}
 use Rattle.text.specs.Text.{tokens_of}
 use Rattle.explain.specs.Names.{name_text}
-use Rattle.explain.proofs.Sheets.{leads_on, leads_same}
+use Rattle.explain_text.proofs.Laws.{leads_on, leads_same}
 use Rattle.explain.proofs.names.put_names.Goals as goal
 
 pub loop-numbered-preserved : goal.loop-numbered-preserved

@@ -3,7 +3,7 @@ use Rattle.std.proofs.Common.{length}
 use Rattle.std.specs.List.{flat_map}
 use Rattle.text.specs.Text.{tokens_of}
 use Rattle.explain.specs.Names.{name_text, names_text}
-use Rattle.explain.proofs.Sheets.{Leads}
+use Rattle.explain_text.proofs.Laws.{Leads}
 use Rattle.explain.proofs.names.put_names.Given as goal
 
 abbrev pub invariant-loop-numbered : goal.invariant-loop-numbered

@@ -1,7 +1,7 @@
 -- A word more, after its space.
 use Rattle.std.proofs.Common.{ap}
 use Rattle.explain.specs.Names.{words_text}
-use Rattle.explain.proofs.Sheets.{leads_on, leads_same}
+use Rattle.explain_text.proofs.Laws.{leads_on, leads_same}
 use Rattle.explain.proofs.names.put_words.Goals as goal
 
 pub loop-word-preserved : goal.loop-word-preserved

@@ -1,7 +1,7 @@
 -- Whoever puts the words that are left has put all.
 use Rattle.std.proofs.Common.{length}
 use Rattle.explain.specs.Names.{words_text}
-use Rattle.explain.proofs.Sheets.{Leads}
+use Rattle.explain_text.proofs.Laws.{Leads}
 use Rattle.explain.proofs.names.put_words.Given as goal
 
 abbrev pub invariant-loop-word : goal.invariant-loop-word

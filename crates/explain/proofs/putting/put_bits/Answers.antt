@@ -1,5 +1,5 @@
 -- One part after another.
-use Rattle.explain.proofs.Sheets.{more}
+use Rattle.explain_text.proofs.Laws.{more}
 use Rattle.explain.proofs.putting.put_bits.Goals as goal
 
 pub returns : goal.returns

@@ -3,7 +3,7 @@ use Rattle.std.proofs.Common.{◌∙◌, ◌∷◌, ◌+◌, ap, sym, drop, rule
 use Rattle.std.specs.List.{flat_map}
 use Rattle.std.proofs.lemmas.List.{drop_more}
 use Rattle.explain.specs.Explanation.{broken_line}
-use Rattle.explain.proofs.Sheets.{more, leads_on, leads_same}
+use Rattle.explain_text.proofs.Laws.{more, leads_on, leads_same}
 use Rattle.explain.proofs.putting.put_broken.Goals as goal
 
 pub loop-clause_line-preserved : goal.loop-clause_line-preserved

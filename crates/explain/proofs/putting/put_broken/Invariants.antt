@@ -2,7 +2,7 @@
 use Rattle.std.proofs.Common.{drop}
 use Rattle.std.specs.List.{flat_map}
 use Rattle.explain.specs.Explanation.{broken_line}
-use Rattle.explain.proofs.Sheets.{Leads}
+use Rattle.explain_text.proofs.Laws.{Leads}
 use Rattle.explain.proofs.putting.put_broken.Given as goal
 
 abbrev pub invariant-loop-clause_line : goal.invariant-loop-clause_line

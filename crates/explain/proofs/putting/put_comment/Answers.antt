@@ -1,7 +1,7 @@
 -- The comment has a byte.
 use Rattle.std.proofs.Common.{sym, ◌∙◌}
 use Rattle.explain.proofs.Comments.{comment_with}
-use Rattle.explain.proofs.Sheets.{more}
+use Rattle.explain_text.proofs.Laws.{more}
 use Rattle.explain.proofs.putting.put_comment.Goals as goal
 
 pub returns : goal.returns

@@ -4,7 +4,7 @@ use Rattle.std.proofs.lemmas.List.{drop_more}
 use Rattle.std.proofs.lemmas.List.Sums.{sum_by-cons}
 use Rattle.explain.specs.declared.falsified.GivenUp.{GivenUp}
 use Rattle.explain.specs.Explanation.{paid_lines}
-use Rattle.explain.proofs.Sheets.{leads_on, leads_same}
+use Rattle.explain_text.proofs.Laws.{leads_on, leads_same}
 use Rattle.explain.proofs.putting.put_given_up.Goals as goal
 
 pub loop-each-preserved : goal.loop-each-preserved

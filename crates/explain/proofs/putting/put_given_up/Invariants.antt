@@ -2,7 +2,7 @@
 use Rattle.std.proofs.Common.{◌≡◌, ◌+◌, drop, sum_by}
 use Rattle.explain.specs.declared.falsified.GivenUp.{GivenUp}
 use Rattle.explain.specs.Explanation.{paid_lines}
-use Rattle.explain.proofs.Sheets.{Leads}
+use Rattle.explain_text.proofs.Laws.{Leads}
 use Rattle.explain.proofs.putting.put_given_up.Given as goal
 
 abbrev pub invariant-loop-each : goal.invariant-loop-each

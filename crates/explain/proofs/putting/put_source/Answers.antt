@@ -1,6 +1,6 @@
 -- One part after another.
 use Rattle.std.proofs.Common.{sym}
-use Rattle.explain.proofs.Sheets.{more}
+use Rattle.explain_text.proofs.Laws.{more}
 use Rattle.explain.proofs.putting.put_source.Goals as goal
 
 pub returns : goal.returns

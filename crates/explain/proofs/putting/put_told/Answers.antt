@@ -1,6 +1,6 @@
 -- Another cost was told.
 use Rattle.std.proofs.lemmas.Bool.{ne_eqb}
-use Rattle.explain.proofs.Sheets.{more}
+use Rattle.explain_text.proofs.Laws.{more}
 use Rattle.explain.proofs.putting.put_told.Goals as goal
 
 pub returns : goal.returns

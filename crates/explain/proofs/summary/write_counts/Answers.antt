@@ -1,8 +1,8 @@
 -- What was put is what is written.
 use Rattle.std.proofs.Common.{rules, subst}
-use Rattle.explain.specs.Sheets.{Displays}
+use Rattle.explain_text.specs.Sheets.{Displays}
 use Rattle.explain.specs.Summary.{summary_text}
-use Rattle.explain.proofs.Sheets.{written}
+use Rattle.explain_text.proofs.Laws.{written}
 use Rattle.explain.proofs.Counts.{counted}
 use Rattle.explain.proofs.summary.write_counts.Given.{Over}
 use Rattle.explain.proofs.summary.write_counts.Goals as goal

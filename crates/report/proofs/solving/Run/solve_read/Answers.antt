@@ -23,7 +23,8 @@ write_answer-requires g c =
     let held = g.O.Write.contents in
     let f = c.in_ok-found in
     proof_room c.args.profile c.args.instance.now (held c.args.self.now.out.now)
-    (held c.find_best.new.out) c.args.self.now.budget.now c.find_best.new.budget f.found f.ensures.searches
+    (held c.find_best.new.out) c.args.self.now.budget.now c.find_best.new.budget f.found
+    f.ensures.searches
 
 pub returns-in-Err-clause-fault : goal.returns-in-Err-clause-fault
 returns-in-Err-clause-fault g c text r =
@@ -32,8 +33,8 @@ returns-in-Err-clause-fault g c text r =
     let f = c.in_ok-found in
     let w = c.write_answer in
     answer_leaves c.args.profile text c.args.instance.now r.0 r.1 c.args.self.now.budget.now
-    c.find_best.new.budget (held c.args.self.now.out.now) (held c.find_best.new.out) (held w.new.out)
-    (certified c.args.proof.now) (certified w.new.proof) f.found f.ensures.searches
+    c.find_best.new.budget (held c.args.self.now.out.now) (held c.find_best.new.out)
+    (held w.new.out) (certified c.args.proof.now) (certified w.new.proof) f.found f.ensures.searches
     c.in-Err.fault c.in-Err.ensures.fault
 
 pub returns-clause-ok : goal.returns-clause-ok
@@ -44,9 +45,9 @@ returns-clause-ok g c text r =
     let w = c.write_answer in
     ends c.args.profile text c.args.instance.now
     r.0 r.1 c.args.self.now.budget.now c.find_best.new.budget
-    (held c.args.self.now.out.now) (held c.find_best.new.out) (held w.new.out) (certified c.args.proof.now)
-    (certified w.new.proof) f.found f.ensures.searches c.of-3.result c.of-3.ensures
-    c.in_default.ensures.ok
+    (held c.args.self.now.out.now) (held c.find_best.new.out) (held w.new.out)
+    (certified c.args.proof.now) (certified w.new.proof) f.found f.ensures.searches
+    c.of-3.result c.of-3.ensures c.in_default.ensures.ok
 
 pub ended-requires : goal.ended-requires
 ended-requires g c =
@@ -63,9 +64,10 @@ returns-clause-seen g c text r =
     let f = c.in_ok-found in
     let w = c.write_answer in
     seen_as c.args.profile text c.args.instance.now r.0
-    (held c.args.self.now.out.now) (held c.find_best.new.out) (held w.new.out) (certified c.args.proof.now)
-    (certified w.new.proof) (seen c.args.self.now.watch.now) (seen c.find_best.new.watch) _ f.found
-    f.ensures.shown c.in_default.ensures.ok
+    (held c.args.self.now.out.now) (held c.find_best.new.out) (held w.new.out)
+    (certified c.args.proof.now) (certified w.new.proof)
+    (seen c.args.self.now.watch.now) (seen c.find_best.new.watch) _ f.found f.ensures.shown
+    c.in_default.ensures.ok
     (c.ended.ensures.shown
     ∙ ap (λ z. with_seen (end_of c.args.instance.now z ∷ []) (seen c.searched.new.self))
     c.of-2.ensures

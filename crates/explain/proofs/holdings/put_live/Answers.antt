@@ -1,8 +1,0 @@
--- One part after another.
-use Rattle.explain.proofs.Sheets.{more}
-use Rattle.explain.proofs.holdings.put_live.Goals as goal
-
-pub returns-in-Some : goal.returns-in-Some
-returns-in-Some g c =
-    rw (c.in-Some.is)
-    (more c.put.ensures (more c.put_number.ensures c.put-in-Some.ensures))

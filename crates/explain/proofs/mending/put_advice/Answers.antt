@@ -1,7 +1,0 @@
--- One part after another.
-use Rattle.explain.proofs.Sheets.{more}
-use Rattle.explain.proofs.mending.put_advice.Goals as goal
-
-pub returns : goal.returns
-returns g c =
-    (_, more c.put_word.ensures (more c.put.ensures (more c.put-2.ensures c.put-3.ensures)))

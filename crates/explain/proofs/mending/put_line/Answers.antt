@@ -1,6 +1,0 @@
--- One part after another.
-use Rattle.explain.proofs.Sheets.{more}
-use Rattle.explain.proofs.mending.put_line.Goals as goal
-
-pub returns : goal.returns
-returns g c = more c.put.ensures (more c.put_cut.ensures c.put-2.ensures)

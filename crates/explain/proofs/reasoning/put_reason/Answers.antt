@@ -1,9 +1,0 @@
--- The fact, and what it says.
-use Rattle.explain.proofs.Facts.{adds_on}
-use Rattle.explain.proofs.Sheets.{more}
-use Rattle.explain.proofs.reasoning.put_reason.Goals as goal
-
-pub returns : goal.returns
-returns g c =
-    let said = adds_on c.put_saying.ensures c.put_meanings.ensures in
-    (said.0, more c.put_fact.ensures said.1)

@@ -1,6 +1,0 @@
--- One part after another.
-use Rattle.explain.proofs.Sheets.{more}
-use Rattle.explain.proofs.reasoning.put_worth.Goals as goal
-
-pub returns-in-Some : goal.returns-in-Some
-returns-in-Some g c = (_, more c.put-in-Some.ensures c.put_number.ensures)

@@ -1,0 +1,3 @@
+mod Sheets
+mod Words
+pub mod Laws

@@ -1,0 +1,4 @@
+pub mod Mending
+pub mod Sheets
+pub mod Showing
+pub mod Vectors
