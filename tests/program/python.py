@@ -546,6 +546,22 @@ def lies(program):
     found = shop.solve(program=program, folder=going, resume=True, warm=False)
     expect("of another instance", (found.cost, found.is_optimum), (3, True))
     expect("anew", shop.solve(program=program, folder=going).is_optimum, True)
+    # In profile 3 the certificate goes on: no line and no bound is lost, until nothing is left to do.
+    lines, bounds, costs = b"", [0], []
+    for effort in (2, 5, 10, 20, 40, 80, None, None):
+        found = cover(40).solve(program=program, conflicts=effort, folder=folder / "lines", resume=True)
+        after = (folder / "lines" / "instance.lrat").read_bytes()
+        expect(f"lines that go on, {effort}", (after.startswith(lines), found.lower >= bounds[-1], found.is_optimum or effort is not None),
+               (True, True, True))
+        is_last, lines = after == lines, after
+        bounds.append(found.lower)
+        costs.append(found.cost)
+    expect("lines that go on: an optimum", (found.is_optimum, found.cost, found.status), (True, cover(40).solve(program=program).cost, 30))
+    expect("lines that go on: at first there was none", bounds[1] < costs[0], True)
+    expect("an optimum that is known: its lines stay", is_last, True)
+    (folder / "lines" / "instance.lrat").write_bytes(lines[:-3])
+    found = cover(40).solve(program=program, folder=folder / "lines", resume=True)
+    expect("a line that was torn", (found.is_optimum, found.cost), (True, costs[-1]))
     unused = wmax.Instance()
     first, last = unused.variables("first", "last")
     unused.soft(1, first)
@@ -897,6 +913,18 @@ def pigeons(holes):
         instance.at_most(1, [row[hole] for row in sits])
     for row in sits:
         instance.soft(1, *row)
+    return instance
+
+
+def cover(size):
+    """A random graph of which vertices are to be chosen, so that each edge has one; their weights vary."""
+    draw = random.Random(7)
+    instance = wmax.Instance()
+    vertices = [instance.variable(f"vertex {number}") for number in range(size)]
+    for _ in range(3 * size):
+        instance.hard(*draw.sample(vertices, 2))
+    for vertex in vertices:
+        instance.soft(draw.randrange(1, 60), -vertex)
     return instance
 
 

@@ -236,15 +236,33 @@ for name in package_choice_60_1 network_20_1 diagnosis_100_1; do
     ok "$name: its lines stay" begins
 done
 
+# keeps_best NAME STATUS WORD..: a run that is refused leaves the certificate, and the file of the best solution: one that is not
+# there, is empty, has a solution or is that of another text
+keeps_best() {
+    local name=$1 wanted=$2 best
+    shift 2
+    for best in none '' $'o 4\ns SATISFIABLE\nv 01\n'; do
+        rm -f "$work/best"
+        [ "$best" = none ] || printf '%s' "$best" > "$work/best"
+        cp "$work/proof" "$work/before"
+        call solve --proof proof --best best --resume "$@" text
+        ok "$name, best [$best]: $status $err" [ "$status" = "$wanted" -a -z "$(grep '^[osv] ' <<< "$out")" ]
+        ok "$name, best [$best]: both stay" [ -z "$(cmp "$work/proof" "$work/before" 2>&1)" -a ! -e "$work/best.part" -a \
+            "$(cat "$work/best" 2> /dev/null || echo none)" = "${best%$'\n'}" ]
+    done
+    rm -f "$work/best"
+}
+
 # What no search can go on with: a clause of the formula is deleted, ids leap, or each solution costs more than a cut is worth.
 lines text 'h 1 2 0' '3 -1 0' '4 -2 0'
 lines found 'o 3' 's SATISFIABLE' 'v 10'
 while IFS='|' read -r line said; do
-    printf 'form 1 0\n%b\n' "$line" > "$work/proof"
+    printf 'form 1 0\n%b\nfor' "$line" > "$work/proof"
     cp "$work/proof" "$work/before"
     call solve --from found --proof proof --resume text
     expect "$line" 2 '' "error: $said"
     ok "$line: the certificate stays" cmp -s "$work/proof" "$work/before"
+    keeps_best "$line" 2 --from found
 done <<'ROWS'
 1 d 1 0|no search can go on with the certificate that --proof names
 bound 0 0\n1 d 1 0|no search can go on with the certificate that --proof names
@@ -280,6 +298,26 @@ goes_on
 ok "room on the disk: the optimum of $status $(cost) $err" is_optimum "$optimum"
 ok 'room on the disk: the lines stay' begins
 
+# A disk that is full, if this user may mount a small one: both files stand there.
+unshare -rm mount -t tmpfs -o size=64k none /mnt 2> /dev/null && {
+    rm -f "$work"/{best,proof}
+    # shellcheck disable=SC2016
+    (cd "$work" && unshare -rm bash -c 'mount -t tmpfs -o size=$(($1 * 512)) none /mnt || exit
+        "$0" solve --best /mnt/best --proof /mnt/proof --resume text > .out 2> .err; echo $? > .full; cp /mnt/* .
+        mount -o remount,size=1g /mnt
+        "$0" solve --best /mnt/best --proof /mnt/proof --resume text > .again; echo $? > .status
+        mv proof kept; cp /mnt/* .' "$wmax" $blocks)
+    ok "a small disk: $(cat "$work"/.{full,err})" [ "$(cat "$work/.full")" = 3 -a "$(grep ^error "$work/.err")" = 'error: ProofOutput' ]
+    ok 'a small disk: no end' [ -z "$(grep -v '^o ' "$work/.out")" ]
+    status=$(cat "$work/.status")
+    out=$(cat "$work/.again")
+    err=
+    ok "room on the small disk: the optimum of $status $(cost)" is_optimum "$optimum"
+    ended_lines "$work/kept" > "$work/ended"
+    mv "$work/ended" "$work/kept"
+    ok 'room on the small disk: the lines stay' begins
+}
+
 # A device that fails behind each byte of what a run adds: then it goes on.
 lines text 'h 1 2 0' '3 -1 0' '4 -2 0'
 compiles -O1 -shared -fPIC -o "$work/device.so" tests/program/device.c
@@ -310,6 +348,7 @@ refused() {
     ok "$1: as lower says" [ "${said%% *}" = NO ]
     ok "$1: it stays" cmp -s "$work/proof" "$work/before"
     ok "$1: the best solution stays" cmp -s "$work/best" "$work/kept"
+    keeps_best "$1" 1
 }
 while IFS='|' read -r proof name; do
     printf '%b\n' "$proof" > "$work/proof"
@@ -338,12 +377,36 @@ cp "$work/proof" "$work/before"
 call solve --proof proof --resume bad
 expect 'a faulty text' 2 '' 'error: line 1: NoZero'
 ok 'a faulty text: the certificate stays' cmp -s "$work/proof" "$work/before"
+call solve --best new --proof new.lrat --resume bad
+expect 'a faulty text, new files' 2 '' 'error: line 1: NoZero'
+ok 'a faulty text: no file is new' [ ! -e "$work/new" -a ! -e "$work/new.part" -a ! -e "$work/new.lrat" ]
 lines proof 'form 1 3 1 0'
 cp "$work/proof" "$work/before"
 lines best 'of an earlier run'
 goes_on
 expect 'no result' 2 '' 'error: --best names a file that is not a correct result for FILE'
 ok 'no result: the certificate stays' cmp -s "$work/proof" "$work/before"
+# a file of the best solution that is of no use
+printf 'form 1 3 1 0\nform' > "$work/proof"
+cp "$work/proof" "$work/before"
+call solve --best missing/best --proof proof --resume text
+expect 'no folder' 3 '' 'error: --best cannot be written'
+ok 'no folder: the certificate stays' cmp -s "$work/proof" "$work/before"
+for path in proof ./proof text; do
+    call solve --best $path --proof proof --resume text
+    expect "--best $path" 2 '' 'error: --best names another file of the run, or something other than a regular file'
+    ok "--best $path: the certificate stays" cmp -s "$work/proof" "$work/before"
+done
+call solve --best new --proof new --resume text
+expect 'two names of one new file' 2 '' 'error: --best names another file of the run, or something other than a regular file'
+ok 'two names of one new file: there is none' [ ! -e "$work/new" -a ! -e "$work/new.part" ]
+# nothing is known yet: a new file says so once there is a search
+lines proof 'form 1 3 1 0'
+cp "$work/proof" "$work/before"
+call solve --best new --proof proof --resume --conflicts 0 text
+expect 'no effort' 0 's UNKNOWN' ''
+ok 'no effort: the certificate stays' cmp -s "$work/proof" "$work/before"
+ok 'no effort: what is kept' [ "$(cat "$work/new")" = 's UNKNOWN' -a ! -e "$work/new.part" ]
 lines wrong 'o 3' 's SATISFIABLE' 'v 01'
 call solve --from wrong --proof proof --resume text
 expect 'a wrong result' 1 'NO CostWrong 1' ''
@@ -420,7 +483,7 @@ ok 'an optimum, without effort: the certificate stays' cmp -s "$work/proof" "$wo
 ok 'an optimum, without effort: the solution stays' [ "$(cat "$work/best")" = "$wanted" ]
 lines unknown 's UNKNOWN'
 lacks 'an optimum, without the solution' --from unknown
-call solve --profile 3 --conflicts 1 text
+call solve --profile 3 --conflicts 2 text
 ok 'a dearer solution' [ "$status" = 10 -a "$(cost)" -gt "$optimum" ]
 printf '%s\n' "$out" > "$work/dear"
 lacks 'an optimum, with a dearer solution' --from dear
@@ -452,13 +515,34 @@ lines found 'o 0' 's SATISFIABLE' 'v 111'
 lines proof 'form 1 0'
 call solve --from found --proof proof --resume text
 ok 'no cost' is_optimum 0
-# nothing can cost less than nothing, whatever a certificate says: it is written anew where its cuts are worth nothing
-for lines in 'form 1 0\ncut 0\n' 'form 1 0\ncut -2 0\n' 'form 1 0\ncut 0\nform'; do
+# nothing can cost less than nothing, whatever a certificate says: where it does not show that, it is written anew
+for lines in 'form 1 0\ncut -2 0\n' 'form 1 0\ncut -2 0\nform' 'form 1 5 1 0\ncut 0\n'; do
+    [[ $lines = *' 5 '* ]] && lines text 'h 1 2 3 0' '3 2 0' '4 3 0'
     printf '%b' "$lines" > "$work/proof"
+    cp "$work/proof" "$work/kept"
     call solve --from found --proof proof --resume text
     ok "no cost, $lines" is_optimum 0
+    ok "no cost, $lines: it is written anew" [ "$(begins && echo stays)" = '' ]
 done
-printf '%s\n' "$out" > "$work/best"
-goes_on
-ok 'no cost, which was shown' is_optimum 0
+# else it stays
+lines text 'h 1 0' '3 2 0' '4 3 0'
+rm -f "$work/best"
+wanted=$'o 0\ns OPTIMUM FOUND\nv 111'
+lines free '2 1 0 1 0' 'form 1 0' 'cut -2 0' 'cut 0'
+cp "$work/free" "$work/proof"
+at_once 'no cost, which was shown' 30 "$wanted" --from found
+call solve --from found --best best --proof proof --resume --progress text
+ok 'no cost, which was shown: it is told and kept' [ "$status$out" = "30$wanted" -a "$(cat "$work/best")" = "$wanted" ]
+err=
+ok 'no cost, which was shown: it checks' is_optimum 0
+ok 'no cost, which was shown: it stays' cmp -s "$work/free" "$work/proof"
+call solve --from found --proof proof --resume --conflicts 0 text
+expect 'no cost, without effort' 0 's UNKNOWN' ''
+ok 'no cost, without effort: it stays' cmp -s "$work/free" "$work/proof"
+printf form >> "$work/proof"
+call solve --from found --proof proof --resume text
+expect 'no cost, and a torn line' 30 "$wanted" ''
+ok 'no cost, and a torn line: that is cut off' cmp -s "$work/free" "$work/proof"
+optimum=0
+lacks 'no cost, without a solution'
 totals

@@ -178,6 +178,37 @@ for moment in $(seq 1 40); do
 done
 ok 'killed at forty moments' [ $right = 40 ]
 
+# killed_at COUNT: killed as soon as so many lines of --progress have told a bound. `tenths` is what
+# the last of them said; 0 where there were fewer.
+killed_at() {
+    local lines left=$1
+    rm -f "$work/proof"
+    exec {lines}< <(cd "$work" && exec "$wmax" solve --profile 3 --proof proof --progress text 2>&1 > /dev/null)
+    while [ "$left" != 0 ] && read -r -u "$lines" line; do
+        [[ $line =~ ', at least '([0-9]+)(\.([0-9]))? ]] || continue
+        tenths=$((10#${BASH_REMATCH[1]} * 10 + ${BASH_REMATCH[3]:-0}))
+        left=$((left - 1))
+    done
+    kill -KILL $! 2> /dev/null
+    wait $! 2> /dev/null
+    exec {lines}<&-
+    [ "$left" = 0 ] || tenths=0
+}
+
+# What --progress has told is proved by what stands in PATH then.
+for instance in 'test_selection 300' 'roster 10' 'upgrade 600'; do
+    awk -v family="${instance% *}" -v size="${instance#* }" -v seed=1 -f bench/maxsat.awk > "$work/text"
+    told=0
+    right=0
+    for count in 1 2 3 4 5; do
+        killed_at $count
+        [ "$tenths" = 0 ] || told=$((told + 1))
+        bound=$(lower)
+        [ $((${bound:--1} * 10)) -ge "$tenths" ] && right=$((right + 1))
+    done
+    ok "$instance: killed once bounds were told, $right of $told" [ $right = 5 -a $told -gt 2 ]
+done
+
 # Each lower bound that a search tells is proved by what stands up to it in the certificate.
 awk -v family=set_cover -v size=300 -v seed=1 -f bench/maxsat.awk > "$work/text"
 call solve --profile 3 --conflicts 500 --proof proof text
