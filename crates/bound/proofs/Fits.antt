@@ -200,11 +200,11 @@ pub plain_soft : (n v : ℕ) (ss : List SoftClause) → n ≤ v
 plain_soft n v [] le h = tt
 plain_soft n v (s ∷ ss) le h = (plain_of n v s.clause le h.0, plain_soft n v ss le h.1)
 
-pub literals_of : (v : ℕ) (es : List Relaxed)
+pub are_variables : (v : ℕ) (es : List Relaxed)
     → AllByRecursion (λ e. IsPlain v (e.soft).clause × IsVariable v (e.literal).variable) es
     → AllByRecursion (λ e. IsVariable v (e.literal).variable) es
-literals_of v [] h = tt
-literals_of v (e ∷ es) h = (h.0.1, literals_of v es h.1)
+are_variables v [] h = tt
+are_variables v (e ∷ es) h = (h.0.1, are_variables v es h.1)
 
 pub hard_is_formula : (p : Problem) → IsInstance p → IsFormula (hard_cnf p)
 hard_is_formula p h = record {
@@ -229,7 +229,7 @@ network_variables profile p h =
     let relaxed =
     relaxed_with (IsVariable v) (relaxing_of profile) (n + 1) p.soft soft
     (λ x l u. (omega arith, omega arith)) in
-    adders_with profile p (IsVariable v) (literals_of v es relaxed)
+    adders_with profile p (IsVariable v) (are_variables v es relaxed)
     (λ x l u. (omega arith, omega arith))
 
 -- the hard clauses and the soft ones

@@ -18,7 +18,7 @@ use Rattle.adder.specs.Network.{Relaxed, relaxed_as, relaxed_variables}
 use Rattle.adder.specs.Parts.{weight_in}
 use Rattle.adder.proofs.Laws.{relaxed_weights, relaxed_with}
 use Rattle.bound.specs.Weighted.{weights_in, weights_of}
-use Rattle.bound.proofs.Fits.{IsVariable, literals_of, plain_soft}
+use Rattle.bound.proofs.Fits.{IsVariable, are_variables, plain_soft}
 
 -- what holds of each literal holds of those that are kept
 kept_literals : (Q : Literal → Type 0) (es : List Relaxed) → AllByRecursion (λ e. Q e.literal) es
@@ -42,7 +42,7 @@ weights_variables p h =
     let soft =
     plain_soft p.variables v p.soft (omega arith)
     (recursion_from_All (λ s. IsClauseWithin p.variables s.clause) p.soft h.soft_clauses) in
-    kept_literals (λ l. IsVariable v l.variable) es (literals_of v es
+    kept_literals (λ l. IsVariable v l.variable) es (are_variables v es
     (relaxed_with (IsVariable v) UnitsByNegation (p.variables + 1) p.soft soft
     (λ x l u. (omega arith, omega arith))))
 

@@ -48,7 +48,6 @@ pub fn weights(instance: &Instance) -> Result<Vec<Relaxation>, AllocError>
         (λ w. All (λ r. r.lit.variable ≤ relaxed_variables Two instance.now) w.items) }
     ensures sum { IfOk result (λ w. sum_by (λ r. r.weight) w.items < NUMBER_LIMIT) }
 {
-    instance.limits();
     let alloc = instance.allocator();
     let mut marks = Marks::new(alloc, instance.vars())?;
     let mut fresh = instance.vars() + 1;

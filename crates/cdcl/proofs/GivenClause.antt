@@ -17,7 +17,7 @@ use Rattle.lrat_log.specs.Log.{LogLine, number_in}
 use Rattle.lrat_log.specs.Steps.{IsBaseOf, StaysLogOver, given_of}
 use Rattle.cdcl_search.specs.declared.search.Search.{Search}
 use Rattle.cdcl_search.specs.declared.input.Input.{Input}
-use Rattle.cdcl_search.specs.Giving.{IsFreshName, IsFrozen, GivesOne, Takes}
+use Rattle.cdcl_search.specs.Giving.{IsFreshName, IsFrozen, GivesOne, TakesGiven}
 use Rattle.cdcl_search.specs.Running.{is_refuted, IsInput, Runs}
 use Rattle.cdcl.specs.Outcomes.{IsSolver}
 use Rattle.cdcl_search.proofs.Laws.{log_given, based_given}
@@ -88,7 +88,7 @@ pub gives_solver : (s t : Search) (p q : Input) (n : Name) (c : List Literal) (l
     (failed : Bool) → IsSolver s p ls failed → failed ≡ false → GivesOne p q n c
     → IsFreshName p.given n → IsId (number_in n)
     → All (IsFrozen (p.frozen).items) c → has_repeat c ≡ false → is_tautology c ≡ false
-    → All (λ l. 0 < l.variable) c → (is_refuted ls ≡ false → Takes s t p q n c)
+    → All (λ l. 0 < l.variable) c → (is_refuted ls ≡ false → TakesGiven s t p q n c)
     → IsSolver t q ls failed
 gives_solver s t p q n c ls failed i works gives fresh id fixed once apart ones takes =
     let small = frozen_small (p.frozen).items c fixed ones in

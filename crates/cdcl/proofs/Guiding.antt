@@ -22,7 +22,7 @@ use Rattle.cdcl_search.specs.Cores.{IsShown}
 use Rattle.cdcl_search.specs.Running.{Runs, Writes, StaysOpen}
 use Rattle.cdcl_search.proofs.Laws.{learns_join, writes_none}
 use Rattle.cdcl.specs.declared.guided.GuidedEnd.{GuidedEnd}
-use Rattle.cdcl.specs.Turns.{GoesOn}
+use Rattle.cdcl.specs.Turns.{RoundGoesOn}
 use Rattle.cdcl.specs.Guiding.{axiom_count, IsGuidedLine, WritesOpen, PaysOpen, IsGuidedEnd}
 use Rattle.cdcl.specs.declared.guided.cutting.Taking.{Taking}
 use Rattle.cdcl.specs.declared.guided.cutting.Taking.TheVariants.{Refused}
@@ -191,7 +191,7 @@ guided_ends old new p before after had left end is pays =
     record { ends = is; goes = tt; pays = pays; err = tt }
 
 pub guided_goes : {E : Type 0} (old new : Search) (p : Input) (before after : List LogLine)
-    (had left : BudgetState) → GoesOn old new p after had left
+    (had left : BudgetState) → RoundGoesOn old new p after had left
     → PaysOpen p.given before after had left
     → GuidedTurns {E = E} (Ok None) old new p before after had left
 guided_goes old new p before after had left goes pays =
@@ -203,7 +203,7 @@ pub guided_breaks : {E : Type 0} (result : Result (Option GuidedEnd) E) (old new
     → GuidedTurns result old new p before after had left
 guided_breaks result old new p before after had left fails log pays = record {
   ends = IfOk-from_err result (λ next. IfSome next (IsGuidedEnd new p after left)) fails;
-  goes = IfOk-from_err result (λ next. IfNone next (GoesOn old new p after had left)) fails;
+  goes = IfOk-from_err result (λ next. IfNone next (RoundGoesOn old new p after had left)) fails;
   pays = pays;
   err = when_err result log;
 }
@@ -219,7 +219,8 @@ turns_of result old new p q before after had left same =
 goes_after : (old mid new : Search) (p : Input) (after : List LogLine) (had left : BudgetState)
     → (mid.engine).variables ≡ (old.engine).variables → mid.policy ≡ old.policy
     → length (old.engine).trail ≤ length (mid.engine).trail → (next : Option GuidedEnd)
-    → IfNone next (GoesOn mid new p after had left) → IfNone next (GoesOn old new p after had left)
+    → IfNone next (RoundGoesOn mid new p after had left) → IfNone next
+    (RoundGoesOn old new p after had left)
 goes_after old mid new p after had left variables policy longer (Some end) goes = tt
 goes_after old mid new p after had left variables policy longer None goes = record {
   runs = goes.runs;
@@ -237,8 +238,8 @@ guided_after result old mid new p before between after had left variables policy
     record {
       ends = t.ends;
       goes =
-          IfOk-weaker result (λ next. IfNone next (GoesOn mid new p after had left))
-          (λ next. IfNone next (GoesOn old new p after had left))
+          IfOk-weaker result (λ next. IfNone next (RoundGoesOn mid new p after had left))
+          (λ next. IfNone next (RoundGoesOn old new p after had left))
           (goes_after old mid new p after had left variables policy longer) t.goes;
       pays =
           paid_join p.given before between after had had left

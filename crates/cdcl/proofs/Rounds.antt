@@ -10,7 +10,7 @@ use Rattle.lrat_log.specs.Log.{LogLine}
 use Rattle.cdcl_search.specs.declared.input.Input.{Input}
 use Rattle.cdcl_search.specs.declared.search.Search.{Search}
 use Rattle.cdcl_search.specs.Running.{Runs, StaysOpen}
-use Rattle.cdcl.specs.Turns.{rounds_left, GoesOn}
+use Rattle.cdcl.specs.Turns.{rounds_left, RoundGoesOn}
 
 rounds_fall : (a b v s t : ℕ) → a < b → s ≤ v + 1 → a * (v + 2) + s < b * (v + 2) + t
 rounds_fall a b v s t less low =
@@ -36,7 +36,7 @@ falls_first old new before after same less =
 pub goes_learned : (old new : Search) (p : Input) (ls : List LogLine) (before after : BudgetState)
     → Runs new p ls → (new.engine).variables ≡ (old.engine).variables
     → after ≡ record before { learned = before.learned + 1; waived = after.waived }
-    → before.waived ≤ after.waived → 0 < left_of before → GoesOn old new p ls before after
+    → before.waived ≤ after.waived → 0 < left_of before → RoundGoesOn old new p ls before after
 goes_learned old new p ls before after r same paid more some = record {
   runs = r;
   fewer = falls_first old new before after same
@@ -49,7 +49,7 @@ goes_learned old new p ls before after r same paid more some = record {
 pub goes_paid : (old new : Search) (p : Input) (ls : List LogLine) (before after : BudgetState)
     → Runs new p ls → (new.engine).variables ≡ (old.engine).variables
     → after ≡ record before { learned = before.learned + 1 } → 0 < left_of before
-    → GoesOn old new p ls before after
+    → RoundGoesOn old new p ls before after
 goes_paid old new p ls before after r same paid some =
     let kept : after.waived ≡ before.waived = ap (λ (b : BudgetState). b.waived) paid in
     goes_learned old new p ls before after r same
@@ -65,7 +65,7 @@ goes_paid old new p ls before after r same paid some =
 pub goes_restarted : (old new : Search) (p : Input) (ls : List LogLine) (budget : BudgetState)
     → Runs new p ls → (new.engine).variables ≡ (old.engine).variables
     → (old.policy).has_learned ≡ true → (new.policy).has_learned ≡ false
-    → GoesOn old new p ls budget budget
+    → RoundGoesOn old new p ls budget budget
 goes_restarted old new p ls budget r same learned none = record {
   runs = r;
   fewer = falls_first old new budget budget same
@@ -79,7 +79,7 @@ pub goes_decided : (old new : Search) (p : Input) (ls : List LogLine) (budget : 
     → (new.policy).has_learned ≡ (old.policy).has_learned
     → length (new.engine).trail ≡ length (old.engine).trail + 1
     → length (old.engine).trail ≤ (old.engine).variables
-    → GoesOn old new p ls budget budget
+    → RoundGoesOn old new p ls budget budget
 goes_decided old new p ls budget r same learned longer within = record {
   runs = r;
   fewer =

@@ -22,7 +22,7 @@ use Rattle.cdcl.specs.declared.guided.GuidedEnd.TheVariants.{Satisfied, Refuted,
 use Rattle.cdcl.specs.declared.guided.cutting.Taking.{Taking}
 use Rattle.cdcl.specs.declared.guided.cutting.Taking.TheVariants.{Refused, Taken, Ended}
 use Rattle.cdcl.specs.Solving.{IsLiveRefuted}
-use Rattle.cdcl.specs.Turns.{IsSatisfied, GoesOn}
+use Rattle.cdcl.specs.Turns.{IsSatisfied, RoundGoesOn}
 
 abbrev pub axiom_count : List LogLine → ℕ
 axiom_count ls = count_by (λ l. is_axiom l.kind) ls
@@ -78,7 +78,7 @@ pub record GuidedEnds {E : Type 0} (result : Result GuidedEnd E) (new : Search) 
 pub record GuidedTurns {E : Type 0} (result : Result (Option GuidedEnd) E) (old new : Search)
     (p : Input) (before after : List LogLine) (had left : BudgetState) : Type 0 where
   pub ends : IfOk result (λ next. IfSome next (IsGuidedEnd new p after left))
-  pub goes : IfOk result (λ next. IfNone next (GoesOn old new p after had left))
+  pub goes : IfOk result (λ next. IfNone next (RoundGoesOn old new p after had left))
   pub pays : PaysOpen p.given before after had left
   pub err : OnErr result (StaysOpen p after)
 
@@ -87,7 +87,7 @@ abbrev pub IsTaking : Search → Search → Input → List LogLine → List LogL
     → BudgetState → Taking → Type 0
 IsTaking old new p before after had left Refused =
     (new ≡ old) × (after ≡ before) × (left ≡ had)
-IsTaking old new p before after had left Taken = GoesOn old new p after had left
+IsTaking old new p before after had left Taken = RoundGoesOn old new p after had left
 IsTaking old new p before after had left Ended = IsEnded p after
 
 pub record TakesCut {E : Type 0} (result : Result Taking E) (old new : Search) (p : Input)

@@ -25,7 +25,7 @@ rounds_left s b =
     + ((s.engine).variables + 1 - length (s.engine).trail)
 
 -- after a round the search goes on, and fewer are left
-pub record GoesOn (old new : Search) (p : Input) (ls : List LogLine)
+pub record RoundGoesOn (old new : Search) (p : Input) (ls : List LogLine)
     (before after : BudgetState) : Type 0 where
   pub runs : Runs new p ls
   pub fewer : rounds_left new after < rounds_left old before

@@ -30,6 +30,10 @@ impl<S: Sink> Sink for Tally<S> {
 
     ghost follows = { λ first now. S.follows first.sink now.sink };
 
+    /// # Errors
+    ///
+    /// `AllocError` for a line that brings a clause from outside, and where the sink below refuses
+    /// the line. The lines stay as they were.
     fn append(&mut self, kind: Kind, lits: &[Lit], hints: &[Hint]) -> Result<(), AllocError> {
         if is_axiom(kind) {
             return Err(AllocError);

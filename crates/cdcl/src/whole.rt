@@ -34,7 +34,6 @@ pub fn start_whole(formula: Formula, room: u32) -> Result<(Search, Input), Alloc
     ensures room { IfOk result (λ r.
         (r.0).engine.variables ≡ formula.variables + room) }
 {
-    formula.limits();
     let variables = formula.vars();
     let clauses = formula.into_clauses();
     let mut store = store_of(&clauses)?;

@@ -1,5 +1,6 @@
 -- Which learned clauses are deleted, by tiers of LBD, and when.
-use Rattle.std.specs.Prelude.{◌≡◌, ℕ, ◌+◌, ◌-◌, ◌*◌, ◌/◌, nat_lt, Bool, false, List, [], ◌∷◌, ◌++◌}
+use Rattle.std.specs.Prelude.{◌≡◌, ℕ, zero, suc, ◌+◌, ◌-◌, ◌*◌, ◌/◌, nat_lt, Bool, false}
+use Rattle.std.specs.Prelude.{List, [], ◌∷◌, ◌++◌}
 use Rattle.std.specs.Prelude.{min, length, map, All, fold, if◌then◌else◌, IsPermutation, IsSortedBy}
 use Rattle.std.specs.List.Sorted.{IsStableBy}
 use Rattle.std.specs.Ordering.{nat_cmp, ordering_then, is_lt}
@@ -13,6 +14,11 @@ use Rattle.cdcl_order.specs.declared.standings.TheConstants.{KEPT}
 -- how many conflicts come between the last deletion and the next one
 abbrev pub due_at : ℕ → ℕ
 due_at deletions = FIRST_DELETION + DELETION_STEP * min deletions DELETION_STEPS
+
+-- how many conflicts a search has had when it makes its nth deletion; 0 for n = 0
+abbrev pub conflicts_until : ℕ → ℕ
+conflicts_until zero = 0
+conflicts_until (suc n) = conflicts_until n + due_at n
 
 -- Clauses that are spared.
 

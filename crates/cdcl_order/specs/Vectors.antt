@@ -5,7 +5,7 @@ use Rattle.propagate.specs.Trail.{Assigned}
 use Rattle.cdcl_order.specs.declared.deletions.Candidate.{Candidate}
 use Rattle.cdcl_order.specs.declared.deletions.Ranked.{Ranked}
 use Rattle.cdcl_order.specs.Budgets.{BudgetState, WaivesAs, left_of}
-use Rattle.cdcl_order.specs.Deletions.{due_at, is_worse, sifted}
+use Rattle.cdcl_order.specs.Deletions.{due_at, conflicts_until, is_worse, sifted}
 use Rattle.cdcl_order.specs.Levels.{lbd_of}
 use Rattle.cdcl_order.specs.Orders.{positive}
 use Rattle.cdcl_order.specs.Phases.{PhasesState, phase_of, restarted}
@@ -68,6 +68,10 @@ second = refl
 
 longest : due_at 1000 ≡ 5000
 longest = refl
+
+-- the first deletion comes after 1000 conflicts, the second after 1100 more
+two_deletions : conflicts_until 2 ≡ 2100
+two_deletions = refl
 
 -- the variables 1 and 2 were decided, 3 followed on level 2
 abbrev two_levels : List Assigned

@@ -1,8 +1,9 @@
 // Which learned clauses are deleted, and when: the tiers of Glucose and CaDiCaL (Audemard and Simon
 // 2009; Oh 2015). A clause of low LBD, whose literals stood in few levels, stays, one that served
 // in a conflict lately outlives a deletion or two, and of the others the worse half goes.
-ghost use Rattle.std.specs.Prelude.{◌≡◌, ◌≤◌, ◌↔◌, IsTrue, OnOk, IfOk};
-ghost use Rattle.cdcl_order.specs.Deletions.{due_at, sifted, IsWorseHalf, IsChosen};
+ghost use Rattle.std.specs.Prelude.{◌≡◌, ◌+◌, ◌<◌, ◌≤◌, ◌↔◌, IsTrue, OnOk, IfOk};
+ghost use Rattle.cdcl_order.specs.Deletions.{due_at, conflicts_until, sifted};
+ghost use Rattle.cdcl_order.specs.Deletions.{IsWorseHalf, IsChosen};
 
 use crate::standings::{ClauseStanding, KEPT, Standings};
 use clauses::store::CRef;
@@ -37,11 +38,32 @@ pub(crate) struct Ranked {
     reference: CRef,
 }
 
+/// How many conflicts come between the last of `deletions` deletions and the next one.
+fn pause(deletions: u64) -> u64
+    ensures { result ≡ due_at deletions }
+{
+    FIRST_DELETION + DELETION_STEP * deletions.min(DELETION_STEPS)
+}
+
 /// Whether it is time to delete, `conflicts` conflicts after the last of `deletions` deletions.
 pub(crate) fn is_due(conflicts: u64, deletions: u64) -> bool
     ensures { IsTrue result ↔ due_at deletions ≤ conflicts }
 {
-    conflicts >= FIRST_DELETION + DELETION_STEP * deletions.min(DELETION_STEPS)
+    conflicts >= pause(deletions)
+}
+
+/// How many deletions a search makes within its first `conflicts` conflicts.
+pub(crate) fn deletions_within(conflicts: u64) -> u64
+    ensures made { conflicts_until result ≤ conflicts }
+    ensures no_more { conflicts < conflicts_until (result + 1) }
+{
+    let mut left = conflicts;
+    let mut deletions = 0;
+    while left >= pause(deletions) {
+        left -= pause(deletions);
+        deletions += 1;
+    }
+    deletions
 }
 
 /// Of these clauses, the older first, those that are to go. Where memory is refused some may have

@@ -10,7 +10,7 @@ ghost use Rattle.propagate.specs.Fits.{Fits};
 ghost use Rattle.cdcl_order.specs.Orders.{IsOpenVariable, AreClosed};
 
 use crate::budget::Budget;
-use crate::deletions::{Candidate, choose, is_due};
+use crate::deletions::{Candidate, choose, deletions_within, is_due};
 use crate::levels::Levels;
 use crate::order::Order;
 use crate::phases::Phases;
@@ -143,17 +143,22 @@ impl Policy {
         }
     }
 
-    /// A conflict taught a clause: by these reasons, the conflict among them. Its analysis met
-    /// these variables, and those beside them stand in the reasons of the clause's literals: they
-    /// are bumped too. The engine is still as it was at the conflict. It answers the clause's LBD:
-    /// the number of levels above 0 among its literals.
+    /// These variables are bumped: the analysis of a conflict met them, or they stand in the
+    /// reasons of the literals of the clause that it taught.
+    pub fn bump(&mut self, variables: &[u32])
+        ensures same_view { self.new ≡ self.old }
+    {
+        self.order.bump_all(variables);
+    }
+
+    /// A conflict taught a clause: by these reasons, the conflict among them. The variables of its
+    /// analysis were bumped before. The engine is still as it was at the conflict. It answers the
+    /// clause's LBD: the number of levels above 0 among its literals.
     pub fn learn_from(
         &mut self,
         engine: &Engine,
         store: &Store,
         reasons: &[CRef],
-        met: &[u32],
-        beside: &[u32],
         lits: &[Lit],
     ) -> u32
         requires variables { engine.now.variables ≡ self.old.variables }
@@ -162,8 +167,6 @@ impl Policy {
         requires within { All (λ l. l.variable ≤ engine.now.variables) lits.now }
         ensures { self.new ≡ record self.old { has_learned = true } }
     {
-        self.order.bump_all(met);
-        self.order.bump_all(beside);
         self.order.decay();
         self.phases.count();
         self.pace.count();
@@ -246,6 +249,15 @@ impl Policy {
     /// How many literals were assigned and are so no more: a measure of work.
     pub fn propagations(&self) -> u64 {
         self.undone
+    }
+
+    /// The search goes on with one that has had so many conflicts: from now on deletions come as
+    /// late as there. As often as at a beginning, they would leave it half of its clauses.
+    pub fn count_earlier(&mut self, conflicts: u64)
+        ensures same_view { self.new ≡ self.old }
+    {
+        self.deletions = deletions_within(conflicts);
+        self.since = 0;
     }
 
     /// Whether it is time to delete learned clauses.

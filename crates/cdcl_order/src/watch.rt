@@ -19,6 +19,17 @@ pub struct SearchReport {
     pub restarts: u64,
 }
 
+/// Which form shows a lower bound of the cost.
+#[derive(Clone, Copy, Debug, PartialEq, Eq, Drop)]
+pub enum Way {
+    /// That of the cores: the cost less the facts of their counts.
+    Cores,
+    /// One of the linear relaxation.
+    Relaxation,
+    /// The cost itself, under what was learned.
+    Cost,
+}
+
 /// Is told how far a search has come, each time that it has learned a clause. It can ask for the
 /// end: then it waives the effort that is left. Beside that, what the search answers, and what it
 /// writes, does not depend on it.

@@ -37,6 +37,6 @@ abbrev pub TakesClause : Search → Search → Name → List Literal → Type 0
 TakesClause old new n c = (p q : Input) (ls : List LogLine) → IsGivable p n c → GivesOne p q n c
     → p.first ≤ length p.given → Runs old p ls → Runs new q ls
 
-abbrev pub Takes : Search → Search → Input → Input → Name → List Literal → Type 0
-Takes old new p q n c = (ls : List LogLine) → IsGivable p n c
+abbrev pub TakesGiven : Search → Search → Input → Input → Name → List Literal → Type 0
+TakesGiven old new p q n c = (ls : List LogLine) → IsGivable p n c
     → p.first ≤ length p.given → Runs old p ls → Runs new q ls

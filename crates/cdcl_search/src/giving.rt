@@ -3,7 +3,7 @@ ghost use Rattle.std.specs.Prelude.{◌≡◌, ◌<◌, false, All, OnOk, OnErr}
 ghost use Rattle.cnf.specs.declared.limits.TheConstants.{NUMBER_LIMIT};
 ghost use Rattle.lrat_log.specs.declared.lines.Name.TheVariants.{Formula};
 ghost use Rattle.cdcl_search.specs.Running.{CanAttach};
-ghost use Rattle.cdcl_search.specs.Giving.{TakesClause, Takes, GivesOne};
+ghost use Rattle.cdcl_search.specs.Giving.{TakesClause, TakesGiven, GivesOne};
 
 use crate::input::Input;
 use crate::search::Search;
@@ -43,7 +43,7 @@ pub fn give(
     requires number { (0 < number) × (number < NUMBER_LIMIT) }
     requires can { refuted ≡ false → CanAttach search.old lits.now }
     ensures takes { OnOk result (refuted ≡ false
-        → Takes search.old search.new input.old input.new (Formula number) lits.now) }
+        → TakesGiven search.old search.new input.old input.new (Formula number) lits.now) }
     ensures given { OnOk result (GivesOne input.old input.new (Formula number) lits.now) }
     ensures unchanged { OnErr result (input.new ≡ input.old) }
 {

@@ -70,7 +70,7 @@ fn note_unit<S: Sink>(search: &mut Search, input: &Input, sink: &mut S) -> Resul
 }
 
 /// Writes the Empty line, by a clause that is false at level 0.
-pub fn refute<S: Sink>(
+pub fn write_empty<S: Sink>(
     search: &mut Search,
     input: &Input,
     sink: &mut S,

@@ -169,12 +169,12 @@ impl Search {
         ensures variables { self.new.policy.variables ≡ self.old.policy.variables }
         ensures only_policy { self.new ≡ record self.old { policy = self.new.policy } }
     {
+        self.policy.bump(self.analyzer.met());
+        self.policy.bump(self.analyzer.beside());
         self.policy.learn_from(
             &self.engine,
             &self.store,
             learned.hints.as_slice(),
-            self.analyzer.met(),
-            self.analyzer.beside(),
             learned.lits.as_slice(),
         )
     }

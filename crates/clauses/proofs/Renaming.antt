@@ -10,7 +10,7 @@ use Rattle.std.proofs.lemmas.List.{drop_more}
 use Rattle.std.proofs.lemmas.List.Elements.{All-nil, All-cons}
 use Rattle.std.proofs.lemmas.List.Sums.{sum_by-cons}
 use Rattle.cnf.specs.Literal.{Literal}
-use Rattle.clauses.specs.Heads.{Head, literals_of, slots_of, clauses_in, AllLive, IsLaid}
+use Rattle.clauses.specs.Heads.{Head, literals_under, slots_of, clauses_in, AllLive, IsLaid}
 use Rattle.clauses.specs.Slots.{Slots, clause_at, places_from, live_clauses, room_of, Renaming}
 use Rattle.clauses.specs.Slots.{moves_from, moves_of, IsRenaming}
 use Rattle.cnf.proofs.Laws.{laid_le, pieces_live, pieces_dead}
@@ -119,21 +119,21 @@ moves_new old new (None ∷ slots) = moves_new (old + 1) new slots
 moves_new old new (Some c ∷ slots) = ap (λ ks. new ∷ ks) (moves_new (old + 1) (new + 1) slots)
 
 -- from one place on, the slots are these
-abbrev GoesOn : Slots → ℕ → Slots → Type 0
-GoesOn whole at slots = (k : ℕ) → clause_at whole (at + k) ≡ clause_at slots k
+abbrev HoldsFrom : Slots → ℕ → Slots → Type 0
+HoldsFrom whole at slots = (k : ℕ) → clause_at whole (at + k) ≡ clause_at slots k
 
 goes_on_head : (whole : Slots) (at : ℕ) (s : Option (List Literal)) (slots : Slots)
-    → GoesOn whole at (s ∷ slots) → clause_at whole at ≡ s
+    → HoldsFrom whole at (s ∷ slots) → clause_at whole at ≡ s
 goes_on_head whole at s slots h = let e : at + 0 ≡ at = omega arith in
     ap (clause_at whole) (sym e) ∙ h 0
 
 goes_on_tail : (whole : Slots) (at : ℕ) (s : Option (List Literal)) (slots : Slots)
-    → GoesOn whole at (s ∷ slots) → GoesOn whole (at + 1) slots
+    → HoldsFrom whole at (s ∷ slots) → HoldsFrom whole (at + 1) slots
 goes_on_tail whole at s slots h k = let e : at + suc k ≡ at + 1 + k = omega arith in
     ap (clause_at whole) (sym e) ∙ h (suc k)
 
-moves_same : (before after : Slots) (old new : ℕ) (slots : Slots) → GoesOn before old slots
-    → GoesOn after new (together slots) → All (λ m. clause_at after m.1 ≡ clause_at before m.0)
+moves_same : (before after : Slots) (old new : ℕ) (slots : Slots) → HoldsFrom before old slots
+    → HoldsFrom after new (together slots) → All (λ m. clause_at after m.1 ≡ clause_at before m.0)
     (moves_from old new slots)
 moves_same before after old new [] f g = All-nil (λ m. clause_at after m.1 ≡ clause_at before m.0)
 moves_same before after old new (None ∷ slots) f g =
@@ -146,7 +146,7 @@ moves_same before after old new (Some c ∷ slots) f g =
     (moves_same before after (old + 1) (new + 1) slots (goes_on_tail before old (Some c) slots f)
     (goes_on_tail after new (Some c) (together slots) g))
 
-goes_on_all : (slots : Slots) → GoesOn slots 0 slots
+goes_on_all : (slots : Slots) → HoldsFrom slots 0 slots
 goes_on_all slots k = ap (clause_at slots) (zero-add k)
 
 renaming_together : (slots : Slots) → IsRenaming slots (together slots) (moves_of slots)
@@ -167,7 +167,7 @@ clauses_of_slots ls [] = refl
 clauses_of_slots ls (h ∷ hs) =
     elim (cases_Bool h.live) [
       | inl e ↦ rw (slot_live ls h e, pieces_live heads ls h hs e)
-          (ap (λ cs. literals_of ls h ∷ cs) (clauses_of_slots ls hs))
+          (ap (λ cs. literals_under ls h ∷ cs) (clauses_of_slots ls hs))
       | inr e ↦ rw (slot_dead ls h e, pieces_dead heads ls h hs e) (clauses_of_slots ls hs)
     ]
 
@@ -176,7 +176,7 @@ slots_of_live : (ls : List Literal) (hs : List Head) → AllLive hs
 slots_of_live ls [] l = refl
 slots_of_live ls (h ∷ hs) l =
     rw (slot_live ls h l.0, pieces_live heads ls h hs l.0)
-    (ap (λ xs. Some (literals_of ls h) ∷ xs) (slots_of_live ls hs l.1))
+    (ap (λ xs. Some (literals_under ls h) ∷ xs) (slots_of_live ls hs l.1))
 
 pub brought_together : (ls ms : List Literal) (hs ks : List Head) → AllLive ks
     → clauses_in ms ks ≡ clauses_in ls hs
@@ -197,15 +197,15 @@ room_laid ls from to (h ∷ hs) p w l =
     room_laid ls (from + h.length) to hs p.1 w l.1 in
     let within : h.start + h.length ≤ to =
     omega (arith, p.0, laid_le heads (from + h.length) to hs p.1) in
-    let long : length (literals_of ls h) ≡ h.length =
+    let long : length (literals_under ls h) ≡ h.length =
     omega (
       arith,
       length-take-le (h.start + h.length - h.start) (drop h.start ls)
           (omega (arith, length-drop h.start ls)),
     ) in
-    let step : room_of (literals_of ls h ∷ clauses_in ls hs) ≡ length (literals_of ls h) + 1
+    let step : room_of (literals_under ls h ∷ clauses_in ls hs) ≡ length (literals_under ls h) + 1
     + room_of (clauses_in ls hs) =
-    sum_by-cons (λ c. length c + 1) (literals_of ls h) (clauses_in ls hs) in
+    sum_by-cons (λ c. length c + 1) (literals_under ls h) (clauses_in ls hs) in
     rw (pieces_live heads ls h hs l.0) (omega (arith, rest, long, step))
 
 pub room_of_store : (ls : List Literal) (hs : List Head) → IsLaid 0 hs (length ls) → AllLive hs

@@ -10,7 +10,7 @@ use Rattle.std.proofs.lemmas.Option.{slice_get-map, slice_get_past, slice_get_ca
 use Rattle.std.proofs.lemmas.Option.{slice_get-get_or}
 use Rattle.cnf.specs.Literal.{Literal}
 use Rattle.clauses.specs.declared.heads.ClauseSpan.{ClauseSpan}
-use Rattle.clauses.specs.Heads.{Head, span_of, literals_of, slot_of, slots_of, state_of, IsLaid}
+use Rattle.clauses.specs.Heads.{Head, span_of, literals_under, slot_of, slots_of, state_of, IsLaid}
 use Rattle.clauses.specs.Heads.{IsStore}
 use Rattle.clauses.specs.Slots.{in_slot, clause_at, IsLive}
 use Rattle.cnf.proofs.Laws.{range-append, range-appended, laid_le, laid_push, laid_set}
@@ -29,7 +29,7 @@ clause_of_none ls hs r e =
     ap in_slot (slice_get-map (slot_of ls) hs r ∙ ap (option_map (slot_of ls)) e)
 
 pub slot_live : (ls : List Literal) (h : Head) → h.live ≡ true
-    → slot_of ls h ≡ Some (literals_of ls h)
+    → slot_of ls h ≡ Some (literals_under ls h)
 slot_live ls h e = rw e refl
 
 pub slot_dead : (ls : List Literal) (h : Head) → h.live ≡ false → slot_of ls h ≡ None
@@ -39,7 +39,7 @@ live_by_head : (ls : List Literal) (hs : List Head) (r : ℕ) (h : Head) → sli
     → IsTrue h.live ↔ IsLive (slots_of ls hs) r
 live_by_head ls hs r h e =
     let to : h.live ≡ true → IsLive (slots_of ls hs) r =
-    λ t. (literals_of ls h, clause_of_head ls hs r h e ∙ slot_live ls h t) in
+    λ t. (literals_under ls h, clause_of_head ls hs r h e ∙ slot_live ls h t) in
     let from : IsLive (slots_of ls hs) r → h.live ≡ true = λ (c, at). elim (cases_Bool h.live) [
       | inl t ↦ t
       | inr f ↦ let z : None ≡ Some c = sym (clause_of_head ls hs r h e ∙ slot_dead ls h f) ∙ at in

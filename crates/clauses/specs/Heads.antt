@@ -18,11 +18,11 @@ head_of s live = record { start = s.start; length = s.length; live = live }
 abbrev pub span_of : Head → ClauseSpan
 span_of h = record { start = h.start; length = h.length }
 
-abbrev pub literals_of : List Literal → Head → List Literal
-literals_of literals h = slice_range literals h.start (h.start + h.length)
+abbrev pub literals_under : List Literal → Head → List Literal
+literals_under literals h = slice_range literals h.start (h.start + h.length)
 
 abbrev pub slot_of : List Literal → Head → Option (List Literal)
-slot_of literals h = if h.live then Some (literals_of literals h) else None
+slot_of literals h = if h.live then Some (literals_under literals h) else None
 
 abbrev pub slots_of : List Literal → List Head → List (Option (List Literal))
 slots_of literals heads = map (slot_of literals) heads
@@ -42,7 +42,7 @@ IsLaid from (h ∷ hs) to = (h.start ≡ from) × IsLaid (from + h.length) hs to
 abbrev pub clauses_in : List Literal → List Head → List (List Literal)
 clauses_in literals [] = []
 clauses_in literals (h ∷ hs) =
-    if h.live then literals_of literals h ∷ clauses_in literals hs else clauses_in literals hs
+    if h.live then literals_under literals h ∷ clauses_in literals hs else clauses_in literals hs
 
 abbrev pub AllLive : List Head → Type 0
 AllLive hs = AllByRecursion (λ h. h.live ≡ true) hs

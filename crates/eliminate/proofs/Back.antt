@@ -163,8 +163,8 @@ abbrev pub Entails : List (List Literal) → List Literal → Type 0
 Entails cs c = (t : Assignment) → SatisfiesAll t cs → Satisfies t c
 
 -- the clause is removed with the variable, or has not the variable and follows from those after
-abbrev pub IsKept : Removed → List (List Literal) → List Literal → Type 0
-IsKept r after c = Contains r.clauses c
+abbrev pub IsAccountedFor : Removed → List (List Literal) → List Literal → Type 0
+IsAccountedFor r after c = Contains r.clauses c
     ⊎ (Entails after c × (contains_literal (positive r.variable) c ≡ false)
     × (contains_literal (negative r.variable) c ≡ false))
 
@@ -189,7 +189,7 @@ pub record IsElimination (r : Removed) (before after : List (List Literal)) : Ty
   pub resolved : All (λ c. All (λ d. contains_literal (positive r.variable) c ≡ true
       → contains_literal (negative r.variable) d ≡ true
       → ResolveTo after r.variable c d) r.clauses) r.clauses
-  pub kept : All (IsKept r after) before
+  pub kept : All (IsAccountedFor r after) before
 
 pub left_true : (t : Assignment) (after : List (List Literal)) (c : List Literal)
     → SatisfiesAll t after → IsLeft after c → Satisfies t c

@@ -24,7 +24,7 @@ use Rattle.lrat_log.specs.Steps.{added_count}
 use Rattle.eliminate_names.specs.Work.{name_at, added_line, delete_line, IsRupLine}
 use Rattle.eliminate_tables.specs.Rows.{with_clause_rows}
 use Rattle.eliminate.specs.State.{Start, IsState, AreFree, GivesBack}
-use Rattle.eliminate.proofs.Back.{Entails, IsKept, HaveVariable, negative, extends_weaker}
+use Rattle.eliminate.proofs.Back.{Entails, IsAccountedFor, HaveVariable, negative, extends_weaker}
 use Rattle.eliminate.proofs.Back.{extends_eliminated, resolve_to, entails_subsumed, entails_member}
 use Rattle.eliminate_names.proofs.Laws.{work_added, work_deleted}
 use Rattle.clauses.proofs.Laws.{clause_cases, clause_kept, clause_left, clause_other, all_live}
@@ -144,7 +144,7 @@ goes_back n removed r before slots left back some few g =
             | inl pair ↦ inl pair
             | inr there ↦ inr (entails_member (live_clauses left) _ there)
           ]);
-      kept = all_live (IsKept r (live_clauses left)) slots (λ q c e. elim (g.each q c e) [
+      kept = all_live (IsAccountedFor r (live_clauses left)) slots (λ q c e. elim (g.each q c e) [
         | inl there ↦ let w = (g.stays q c there).1 in
             inr (
               entails_member (live_clauses left) c (contains_live left q c there),

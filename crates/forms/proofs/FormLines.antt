@@ -16,7 +16,7 @@ use Rattle.forms.specs.Forms.{Forms, Numbered, Count, Group, at_number, cited, c
 use Rattle.forms.specs.Forms.{clause_size}
 use Rattle.forms.specs.Forms.{fact_size, facts_size, less_fact}
 use Rattle.forms.specs.Forms.{less_numbered, numbered_size, without_multiplier}
-use Rattle.forms.specs.Answers.{HasRoom}
+use Rattle.forms.specs.Answers.{HasFactRoom}
 
 -- sizes do not depend on multipliers
 size_cleared : (n : Numbered) → numbered_size (without_multiplier n) ≡ numbered_size n
@@ -124,15 +124,15 @@ less_terms at s f k h =
 
 -- there is room for a fact, and then for the others
 pub room_first : (at : Clauses) (s : Forms) (f : NamedFact) (fs : List NamedFact)
-    → HasRoom at s (f ∷ fs)
+    → HasFactRoom at s (f ∷ fs)
     → IfSome (fact_size at s.numbered f) (λ n. s.terms + n ≤ MOST_TERMS)
-    × HasRoom at (less_fact at s f) fs
+    × HasFactRoom at (less_fact at s f) fs
 room_first at s f fs (n, e, le) =
     by (fact_size at s.numbered f) (facts_size at s.numbered fs) refl refl
   where
     by : (o r : Option ℕ) → fact_size at s.numbered f ≡ o → facts_size at s.numbered fs ≡ r
         → IfSome (fact_size at s.numbered f) (λ n. s.terms + n ≤ MOST_TERMS)
-        × HasRoom at (less_fact at s f) fs
+        × HasFactRoom at (less_fact at s f) fs
     by None r p q = let bad = rw p at e in cc
     by (Some k) None p q = let bad = rw (p, q) at e in cc
     by (Some k) (Some m) p q =

@@ -21,9 +21,9 @@ use Rattle.forms.specs.declared.state.Forms.TheInside.{Inside}
 use Rattle.forms.specs.Answers.{AreStageClauses, MakesStageClauses}
 use Rattle.forms.specs.Forms.{Forms, Made, Numbered, Count, Group, are_known, at_number, count_line}
 use Rattle.forms.specs.Forms.{last_of, more_grown, more_line, next_stage, plus, with_stage}
-use Rattle.forms.specs.Kept.{IsKept, forms_in}
+use Rattle.forms.specs.Kept.{AreFormsKept, forms_in}
 use Rattle.forms.specs.Stamped.{numbered_at, numbered_in}
-use Rattle.forms.specs.Within.{IsWithin}
+use Rattle.forms.specs.Within.{IsStampedWithin}
 use Rattle.forms.proofs.Knowing.{known}
 
 -- those of a stage, whatever becomes of the state apart from its variables
@@ -82,7 +82,7 @@ count_shape s outputs inputs m h =
 
 -- what is known of the tree of a count
 item_tree : (v terms p : ℕ) (items : List Stamped) (j : ℕ) (inputs : List Literal) (tree : Tree)
-    (multiplier : ℕ) → AllByRecursion (IsWithin v terms) items
+    (multiplier : ℕ) → AllByRecursion (IsStampedWithin v terms) items
     → slice_get (map (numbered_at p) items) j ≡ Some (Count inputs tree multiplier)
     → IsTreeBelow (v + 1) tree × HasHalvesApart tree
 item_tree v terms p [] j inputs tree multiplier h e = absurd (cc)
@@ -94,14 +94,14 @@ item_tree v terms p (n ∷ items) (suc j) inputs tree multiplier h e =
     item_tree v terms p items j inputs tree multiplier h.1 e
 
 number_tree : (v terms p : ℕ) (items : List Stamped) (number : ℕ) (inputs : List Literal)
-    (tree : Tree) (multiplier : ℕ) → AllByRecursion (IsWithin v terms) items
+    (tree : Tree) (multiplier : ℕ) → AllByRecursion (IsStampedWithin v terms) items
     → at_number (numbered_in p items) number ≡ Some (Count inputs tree multiplier)
     → IsTreeBelow (v + 1) tree × HasHalvesApart tree
 number_tree v terms p items zero inputs tree multiplier h e = absurd (cc)
 number_tree v terms p items (suc j) inputs tree multiplier h e =
     item_tree v terms p items j inputs tree multiplier h e
 
-more_shape : (f : Inside) → IsKept f → (number : ℕ) (m : Made)
+more_shape : (f : Inside) → AreFormsKept f → (number : ℕ) (m : Made)
     → more_line number (forms_in f) ≡ Ok m → AreStageClauses m
 more_shape f kept number m h = by (at_number s.numbered number) refl
   where
@@ -123,7 +123,7 @@ more_shape f kept number m h = by (at_number s.numbered number) refl
         let g = next_stage v tree in
         let own = number_tree f.variables f.terms f.present f.numbered.items number inputs tree
         multiplier
-        (recursion_from_All (IsWithin f.variables f.terms) f.numbered.items kept.within) e in
+        (recursion_from_All (IsStampedWithin f.variables f.terms) f.numbered.items kept.within) e in
         elim (cases_Bool (nat_le (size_of tree) (length (outputs_of tree)))) [
           | inl y ↦
               let line : more_line number s ≡ Err Name = rw (e, y) refl in
@@ -140,6 +140,6 @@ more_shape f kept number m h = by (at_number s.numbered number) refl
               (stage_shape height v tree (omega arith) own.0 own.1) (sym line ∙ h)
         ]
 
-pub makes_clauses : (f : Inside) → IsKept f → MakesStageClauses (forms_in f)
+pub makes_clauses : (f : Inside) → AreFormsKept f → MakesStageClauses (forms_in f)
 makes_clauses f kept =
     record { count = count_shape (forms_in f); more = more_shape f kept }

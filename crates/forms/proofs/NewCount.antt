@@ -14,13 +14,13 @@ use Rattle.forms.specs.declared.faults.TheConstants.{MOST_COUNT_CLAUSES}
 use Rattle.forms.specs.declared.state.Forms.TheInside.{Inside}
 use Rattle.forms.specs.Answers.{HasGrown}
 use Rattle.forms.specs.Forms.{Numbered, Count, are_known, count_line}
-use Rattle.forms.specs.Kept.{IsKept, forms_in}
+use Rattle.forms.specs.Kept.{AreFormsKept, forms_in}
 use Rattle.forms.specs.Stamped.{numbered_in}
 use Rattle.forms.specs.Within.{IsCount}
 use Rattle.forms.proofs.Knowing.{each_within, known, known_few}
 
 -- a count of these literals is made
-module _ (outputs : ℕ) (inputs : List Literal) (f : Inside) (kept : IsKept f)
+module _ (outputs : ℕ) (inputs : List Literal) (f : Inside) (kept : AreFormsKept f)
     (is_known : are_known (forms_in f) inputs ≡ true) (some : 1 ≤ outputs)
     (few : outputs ≤ length inputs) where
   size : size_of (tree_of inputs) ≡ length inputs

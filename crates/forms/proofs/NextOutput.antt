@@ -23,9 +23,9 @@ use Rattle.forms.specs.Answers.{IsMore, fault_of}
 use Rattle.forms.specs.Forms.{Forms, Made, Numbered, Count, Group, at_number, last_of, more_line}
 use Rattle.forms.specs.Forms.{multiplier_of, next_stage, plus}
 use Rattle.forms.specs.declared.state.Forms.TheInside.{Inside}
-use Rattle.forms.specs.Kept.{IsKept, forms_in}
+use Rattle.forms.specs.Kept.{AreFormsKept, forms_in}
 use Rattle.forms.specs.Stamped.{IsStamped, numbered_at, numbered_in}
-use Rattle.forms.specs.Within.{CanGrow, IsCount, IsWithin}
+use Rattle.forms.specs.Within.{CanGrow, IsCount, IsStampedWithin}
 use Rattle.forms.proofs.Stamps.{found}
 
 pub count_grows : (v terms : ℕ) (inputs : List Literal) (tree : Tree) (multiplier : ℕ) → 0 < v
@@ -205,7 +205,7 @@ pub record IsAfter (variables made : ℕ) (clauses : List (List Literal)) (next 
   pub room : made + length clauses ≤ MOST_COUNT_CLAUSES
 
 -- what is known of the count with a number that has a further output
-module _ (number : ℕ) (f : Inside) (kept : IsKept f)
+module _ (number : ℕ) (f : Inside) (kept : AreFormsKept f)
     (none : None ≡ fault_of (more_line number (forms_in f))) where
   pub chosen_count : OpenCount number (forms_in f)
   chosen_count = open_count number (forms_in f) none
@@ -232,9 +232,9 @@ module _ (number : ℕ) (f : Inside) (kept : IsKept f)
         ∙ o.open_one.is in
         cc
 
-    pub chosen_within : IsWithin f.variables f.terms n
+    pub chosen_within : IsStampedWithin f.variables f.terms n
     chosen_within =
-        subst (IsWithin f.variables f.terms) (sym is)
+        subst (IsStampedWithin f.variables f.terms) (sym is)
         (kept.within (number - 1) n chosen_place.1)
 
     pub chosen_stamped : IsStamped f.present n
@@ -247,7 +247,7 @@ module _ (number : ℕ) (f : Inside) (kept : IsKept f)
         grows : (m : Stamped)
             → numbered_at f.present m
             ≡ Count chosen_count.inputs chosen_count.tree chosen_count.multiplier
-            → IsWithin f.variables f.terms m → CanGrow m
+            → IsStampedWithin f.variables f.terms m → CanGrow m
         grows (StampedGroup lits) e h = absurd (cc)
         grows (StampedCount c) e h =
             let t : c.totalizer ≡ chosen_count.tree = cc in
@@ -260,7 +260,7 @@ module _ (number : ℕ) (f : Inside) (kept : IsKept f)
         step : (m : Stamped)
             → numbered_at f.present m
             ≡ Count chosen_count.inputs chosen_count.tree chosen_count.multiplier
-            → IsWithin f.variables f.terms m
+            → IsStampedWithin f.variables f.terms m
             → IsStep f.variables f.made (next_stage (f.variables + 1) chosen_count.tree)
         step (StampedGroup lits) e h = absurd (cc)
         step (StampedCount c) e h =

@@ -68,13 +68,13 @@ abbrev pub IsFact : NamedFact → Type 0
 IsFact f = f.weight < NUMBER_LIMIT
 
 -- the facts are there, and there is room for their terms
-abbrev pub HasRoom : Clauses → Forms → List NamedFact → Type 0
-HasRoom at s facts =
+abbrev pub HasFactRoom : Clauses → Forms → List NamedFact → Type 0
+HasFactRoom at s facts =
     (n : ℕ) × (facts_size at s.numbered facts ≡ Some n) × (s.terms + n ≤ MOST_TERMS)
 
 -- why there is no room for the facts, if there is none
 abbrev pub HasSizeFault : Clauses → Forms → List NamedFact → Option LineFault → Type 0
-HasSizeFault at s facts None = HasRoom at s facts
+HasSizeFault at s facts None = HasFactRoom at s facts
 HasSizeFault at s facts (Some Name) = facts_size at s.numbered facts ≡ None
 HasSizeFault at s facts (Some Limit) =
     (n : ℕ) × (facts_size at s.numbered facts ≡ Some n) × (MOST_TERMS < s.terms + n)
@@ -83,5 +83,5 @@ HasSizeFault at s facts (Some Worth) = ⊥
 -- why a form line is refused, or what it leaves
 abbrev pub HasFormFault : Clauses → Option ℕ → List NamedFact → Forms → Option LineFault → Type 0
 HasFormFault at scale facts s None =
-    HasRoom at s facts × (form_line at scale facts s ≡ Ok (less_facts at (begun scale s) facts))
+    HasFactRoom at s facts × (form_line at scale facts s ≡ Ok (less_facts at (begun scale s) facts))
 HasFormFault at scale facts s (Some fault) = form_line at scale facts s ≡ Err fault

@@ -104,7 +104,7 @@ at_number ns (suc j) = slice_get ns j
 
 -- the form with w times these literals more
 abbrev pub plus : ℤ → List Literal → CostForm → CostForm
-plus w ls f = record f { rest = plus_literals w ls f.rest }
+plus w ls f = record f { added = plus_literals w ls f.added }
 
 -- the last of the literals, if there is one
 abbrev pub last_of : List Literal → List Literal
@@ -212,7 +212,7 @@ abbrev pub less : ℕ → List Literal → CostForm → CostForm
 less w ls f = plus (pos 0 -ℤ pos w) ls f
 
 abbrev pub plus_number : ℤ → CostForm → CostForm
-plus_number w f = record f { rest = plus_constant w f.rest }
+plus_number w f = record f { added = plus_constant w f.added }
 
 -- the form less w times the fact of a clause
 abbrev pub less_clause : ℕ → List Literal → Forms → Forms

@@ -5,7 +5,7 @@ use Rattle.forms.specs.declared.state.Forms.TheInside.{Inside}
 use Rattle.forms.specs.declared.faults.TheConstants.{MOST_COUNT_CLAUSES, MOST_TERMS}
 use Rattle.forms.specs.Forms.{Forms}
 use Rattle.forms.specs.Stamped.{AreStamped, numbered_in}
-use Rattle.forms.specs.Within.{IsWithin}
+use Rattle.forms.specs.Within.{IsStampedWithin}
 
 abbrev pub forms_in : Inside → Forms
 forms_in f = record {
@@ -21,7 +21,7 @@ forms_in f = record {
 abbrev pub most_mass : ℕ → ℕ → ℕ
 most_mass terms made = terms * 2 ^ 62 * (3 + 2 * made)
 
-pub record IsKept (f : Inside) : Type 0 where
+pub record AreFormsKept (f : Inside) : Type 0 where
   -- each variable has a place
   pub width : f.variables < width_of (f.bound).form
   pub marks : 2 * f.variables ≤ length f.marks
@@ -30,5 +30,5 @@ pub record IsKept (f : Inside) : Type 0 where
   pub made : f.made ≤ MOST_COUNT_CLAUSES
   pub terms : f.terms ≤ MOST_TERMS
   pub mass : (f.bound).mass ≤ most_mass f.terms f.made
-  pub within : All (IsWithin f.variables f.terms) f.numbered.items
+  pub within : All (IsStampedWithin f.variables f.terms) f.numbered.items
   pub stamped : AreStamped f.present f.numbered.items

@@ -19,10 +19,10 @@ pub record IsCount (variables terms : ℕ) (inputs : List Literal) (tree : Tree)
   pub often : multiplier ≤ terms * 2 ^ 62
 
 -- and of a count or group
-abbrev pub IsWithin : ℕ → ℕ → Stamped → Type 0
-IsWithin variables terms (StampedGroup lits) =
+abbrev pub IsStampedWithin : ℕ → ℕ → Stamped → Type 0
+IsStampedWithin variables terms (StampedGroup lits) =
     (2 ≤ length lits.items) × All (λ l. l.variable ≤ variables) lits.items
-IsWithin variables terms (StampedCount c) =
+IsStampedWithin variables terms (StampedCount c) =
     IsCount variables terms c.inputs.items c.totalizer c.multiplier
 
 -- what it takes to have its fact in a form of some width

@@ -8,7 +8,7 @@ ghost use Rattle.totalizer.specs.Stages.{outputs_of};
 ghost use Rattle.forms.specs.Forms.{Group, cited, clause_size, less, less_item, numbered_size};
 ghost use Rattle.forms.specs.Forms.{plus_number};
 ghost use Rattle.forms.specs.Forms.{plus as plus_literals};
-ghost use Rattle.forms.specs.Within.{CanCite, IsWithin};
+ghost use Rattle.forms.specs.Within.{CanCite, IsStampedWithin};
 ghost use Rattle.forms.specs.Stamped.{IsStamped, numbered_at};
 
 use crate::numbered::{Count, Numbered};
@@ -26,8 +26,8 @@ pub(crate) fn subtract_item(bound: &mut CostBound, item: &mut Numbered, weight: 
     ensures mass { bound.new.mass
         ≤ bound.old.mass + 3 * 2 ^ 62 * numbered_size (numbered_at present item.old) }
     ensures item { numbered_at present item.new ≡ cited weight (numbered_at present item.old) }
-    ensures within { (variables terms : ℕ) → IsWithin variables terms item.old
-        → IsWithin variables (terms + 1) item.new }
+    ensures within { (variables terms : ℕ) → IsStampedWithin variables terms item.old
+        → IsStampedWithin variables (terms + 1) item.new }
     ensures stamped { IsStamped present item.new }
 {
     match item {

@@ -12,7 +12,7 @@ ghost use Rattle.forms.specs.Forms.{Count as CountOf, Forms, more_line, multipli
 ghost use Rattle.forms.specs.Forms.{plus};
 ghost use Rattle.forms.specs.Answers.{IsGrown, IsMore, fault_of};
 ghost use Rattle.forms.specs.Stamped.{AreStamped, IsStamped, numbered_at, numbered_in};
-ghost use Rattle.forms.specs.Within.{CanGrow, IsCount, IsWithin};
+ghost use Rattle.forms.specs.Within.{CanGrow, IsCount, IsStampedWithin};
 
 use crate::citing::multiplier_at;
 use crate::faults::{LineFault, MOST_COUNT_CLAUSES};
@@ -73,9 +73,9 @@ pub(crate) fn push_count(
     ensures count { OnOk result ((present : ℕ) → numbered_in present numbered.new.items
         ≡ numbered_in present numbered.old.items ++ CountOf inputs.now totalizer 0 ∷ []) }
     ensures within { OnOk result ((variables terms : ℕ)
-        → All (IsWithin variables terms) numbered.old.items
+        → All (IsStampedWithin variables terms) numbered.old.items
         → IsCount variables terms inputs.now totalizer 0
-        → All (IsWithin variables terms) numbered.new.items) }
+        → All (IsStampedWithin variables terms) numbered.new.items) }
     ensures stamped { OnOk result ((present : ℕ) → AreStamped present numbered.old.items
         → AreStamped present numbered.new.items) }
     ensures err { OnErr result (numbered.new.items ≡ numbered.old.items) }
@@ -117,7 +117,7 @@ pub(crate) fn more_fault(numbered: &[Numbered], number: u64, made: usize) -> Opt
 /// How many times the form with a stamp has the fact of a count; 0 of a group.
 pub(crate) fn multiplier_of(item: &Numbered, present: u64) -> u128
     ensures value { result ≡ multiplier_of (numbered_at present item.now) }
-    ensures small { (variables terms : ℕ) → IsWithin variables terms item.now
+    ensures small { (variables terms : ℕ) → IsStampedWithin variables terms item.now
         → result ≤ terms * 2 ^ 62 }
 {
     match item {
@@ -146,8 +146,8 @@ pub(crate) fn grow_item(
         → numbered_at present item.old ≡ CountOf inputs tree multiplier
         → IfOk result (λ next. IsMore (next_stage fresh tree) inputs multiplier clauses.old
         (numbered_at present item.new) clauses.new next) }
-    ensures within { IfOk result (λ next. (terms : ℕ) → IsWithin (fresh - 1) terms item.old
-        → IsWithin (next - 1) terms item.new) }
+    ensures within { IfOk result (λ next. (terms : ℕ) → IsStampedWithin (fresh - 1) terms item.old
+        → IsStampedWithin (next - 1) terms item.new) }
     ensures stamped { OnOk result ((present : ℕ) → IsStamped present item.old
         → IsStamped present item.new) }
     ensures widened { IfOk result (λ next. bound.new

@@ -4,7 +4,7 @@ ghost use Rattle.std.specs.Option.{option_copied, option_map};
 ghost use Rattle.forms.specs.Forms.{at_number, cleared, inputs_of, numbered_size, outputs_at};
 ghost use Rattle.forms.specs.Forms.{without_multiplier};
 ghost use Rattle.forms.specs.Stamped.{AreStamped, IsStamped, numbered_in, numbered_at};
-ghost use Rattle.forms.specs.Within.{IsWithin};
+ghost use Rattle.forms.specs.Within.{IsStampedWithin};
 
 use cnf::types::Lit;
 use totalizer::totalizer::Totalizer;
@@ -88,8 +88,9 @@ pub(crate) fn next_stamp(numbered: &mut Vec<Numbered>, present: u64) -> u64
     ensures cleared { numbered_in result numbered.new.items
         ≡ cleared (numbered_in present numbered.old.items) }
     ensures stamped { AreStamped result numbered.new.items }
-    ensures within { (variables terms : ℕ) → All (IsWithin variables terms) numbered.old.items
-        → All (IsWithin variables terms) numbered.new.items }
+    ensures within { (variables terms : ℕ) → All (IsStampedWithin variables terms)
+        numbered.old.items
+        → All (IsStampedWithin variables terms) numbered.new.items }
 {
     if present == u64::MAX {
         for place in 0..numbered.len() {
@@ -105,8 +106,8 @@ fn forget(item: &mut Numbered)
     ensures cleared { (p q : ℕ) → 0 < p
         → numbered_at p item.new ≡ without_multiplier (numbered_at q item.old) }
     ensures stamped { (p : ℕ) → IsStamped p item.new }
-    ensures within { (variables terms : ℕ) → IsWithin variables terms item.old
-        → IsWithin variables terms item.new }
+    ensures within { (variables terms : ℕ) → IsStampedWithin variables terms item.old
+        → IsStampedWithin variables terms item.new }
 {
     match item {
         Numbered::Count(count) => {

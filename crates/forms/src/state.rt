@@ -54,7 +54,7 @@ pub struct Forms {
 
 impl Model for Forms {
     ghost use Rattle.forms.specs.Forms.{Forms as FormsState};
-    ghost use Rattle.forms.specs.Kept.{forms_in, IsKept};
+    ghost use Rattle.forms.specs.Kept.{forms_in, AreFormsKept};
 
     ghost Value = { FormsState };
 
@@ -65,7 +65,7 @@ impl Model for Forms {
 
     ghost view = { forms_in };
 
-    ghost invariant = { IsKept };
+    ghost invariant = { AreFormsKept };
 }
 
 impl Forms {
@@ -145,7 +145,7 @@ impl Forms {
     /// What a variable adds to the present form that is true; 0 where it has no place.
     pub fn coefficient(&self, variable: u32) -> i128
         ensures { result ≡ (pos self.now.form.scale *ℤ coefficient self.now.form.cost variable)
-            +ℤ coefficient self.now.form.rest variable }
+            +ℤ coefficient self.now.form.added variable }
     {
         self.bound.coefficient(variable as usize)
     }

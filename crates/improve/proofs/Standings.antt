@@ -15,7 +15,8 @@ use Rattle.improve.specs.declared.found.ImproveFault.TheVariants.{Memory, Progre
 use Rattle.improve.specs.Progress.{Telling, with_told, with_failed}
 use Rattle.improve.specs.Improving.{IsSolution, IsCostOfSome, AreFalling, IsRightFound, OnWork}
 use Rattle.improve.specs.Improving.{work_count}
-use Rattle.improve.specs.Standing.{Standing, starting_with, costs_of, IsStanding, GoesOn, Descends}
+use Rattle.improve.specs.Standing.{Standing, starting_with, costs_of, IsStanding, MovesStanding}
+use Rattle.improve.specs.Standing.{Descends}
 use Rattle.improve.specs.Standing.{Ends, Fails}
 use Rattle.improve.specs.Bounds.{HasLast, HasNoBound}
 use Rattle.improve.specs.declared.bounds.Bounds.{Bounds}
@@ -38,7 +39,7 @@ first_standing p first solution =
 -- nothing was told
 pub goes_spent : (p : Problem) (now : Telling) (had left : BudgetState) (s : Standing) (x y : ℕ)
     → IsStanding p s → left.limit ≡ had.limit → left.answers ≡ had.answers
-    → left.learned + x ≡ had.learned + y → GoesOn p now now had left s s x y
+    → left.learned + x ≡ had.learned + y → MovesStanding p now now had left s s x y
 goes_spent p now had left s x y h limit answers learned = record {
   standing = h;
   told = λ earlier z. z;
@@ -50,8 +51,8 @@ goes_spent p now had left s x y h limit answers learned = record {
 
 module _ (p : Problem) (old mid new : Telling) (had between left : BudgetState) (s t u : Standing)
   where
-    pub goes_further : (x y z : ℕ) → GoesOn p old mid had between s t x y
-        → GoesOn p mid new between left t u y z → GoesOn p old new had left s u x z
+    pub goes_further : (x y z : ℕ) → MovesStanding p old mid had between s t x y
+        → MovesStanding p mid new between left t u y z → MovesStanding p old new had left s u x z
     goes_further x y z a b = record {
       standing = b.standing;
       told = λ earlier h. b.told earlier (a.told earlier h);
@@ -62,7 +63,7 @@ module _ (p : Problem) (old mid new : Telling) (had between left : BudgetState) 
     }
 
 module _ (p : Problem) (old mid new : Telling) (had between left : BudgetState) (s t : Standing)
-    (x y : ℕ) (a : GoesOn p old mid had between s t x y) where
+    (x y : ℕ) (a : MovesStanding p old mid had between s t x y) where
   pub fails_after : (e : ImproveFault) → Fails p e mid new between left t
       → Fails p e old new had left s
   fails_after e b =
@@ -82,10 +83,10 @@ module _ (p : Problem) (old mid new : Telling) (had between left : BudgetState) 
 -- before the first bound
 pub goes_first : (p : Problem) (now : Telling) (had : BudgetState) (first : Solution) (b : Bounds)
     → IsSolution p (first.bits).items first.cost → HasNoBound b
-    → GoesOn p now now had had (starting_with first)
+    → MovesStanding p now now had had (starting_with first)
     (record { best = first; earlier = (b.costs).items }) 0 (learned_count (b.solver).sink)
 goes_first p now had first b solution none =
-    subst (λ cs. GoesOn p now now had had (starting_with first)
+    subst (λ cs. MovesStanding p now now had had (starting_with first)
     (record { best = first; earlier = cs }) 0 (learned_count (b.solver).sink)) (sym none.none)
     (goes_spent p now had had (starting_with first) 0 (learned_count (b.solver).sink)
     (first_standing p first solution) refl refl (omega (arith, none.learned)))
@@ -95,7 +96,7 @@ pub goes_cheaper : (p : Problem) (old new : Telling) (had left : BudgetState) (s
     → IsStanding p s → t.earlier ≡ costs_of s → (t.best).cost < (s.best).cost
     → IsSolution p ((t.best).bits).items (t.best).cost → new ≡ with_told (t.best).cost old
     → left.answers ≡ had.answers + 1 → left.limit ≡ had.limit → (x y : ℕ)
-    → left.learned + x ≡ had.learned + y → GoesOn p old new had left s t x y
+    → left.learned + x ≡ had.learned + y → MovesStanding p old new had left s t x y
 goes_cheaper p old new had left s t h more less solution tells answers limit x y learned = record {
   standing = record {
     solution = solution;
@@ -169,7 +170,7 @@ ends_found profile used p result now had left s costs n x y h limit answers lear
 -- the solver answered that nothing is below the best solution, or that the budget is spent
 pub descends_last : (p : Problem) (old now : Telling) (had between left : BudgetState)
     (s : Standing) (best : Solution) (costs : List ℕ) (was : ℕ) (given b : Bounds)
-    → GoesOn p old now had between s (record { best = best; earlier = costs }) 0 was
+    → MovesStanding p old now had between s (record { best = best; earlier = costs }) 0 was
     → HasLast given costs best.cost → learned_count (given.solver).sink ≡ was
     → b.costs ≡ given.costs → left.limit ≡ between.limit → left.answers ≡ between.answers
     → left.learned + learned_count (given.solver).sink

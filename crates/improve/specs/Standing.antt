@@ -52,7 +52,7 @@ pub record HasSpent (before left : BudgetState) (costs : List ℕ) (lines : ℕ)
 
 -- on the way from one standing to the other, what was told and spent is just what that took; there
 -- were `was` learned lines before it, and `now` after it
-pub record GoesOn (p : Problem) (old new : Telling) (had left : BudgetState) (s t : Standing)
+pub record MovesStanding (p : Problem) (old new : Telling) (had left : BudgetState) (s t : Standing)
     (was now : ℕ) : Type 0 where
   pub standing : IsStanding p t
   pub told : (earlier : Telling) → HasTold earlier old (costs_of s)
@@ -67,7 +67,7 @@ pub record Descends (p : Problem) (old new : Telling) (had left : BudgetState) (
     (best : Solution) (b : Bounds) : Type 0 where
   pub earlier : List ℕ
   pub last : HasLast b earlier best.cost
-  pub goes_on : GoesOn p old new had left s (record { best = best; earlier = earlier })
+  pub goes_on : MovesStanding p old new had left s (record { best = best; earlier = earlier })
       0 (learned_count (b.solver).sink)
 
 -- a search ends so that came to this standing, and had learned `lines` lines

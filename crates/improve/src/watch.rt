@@ -4,19 +4,8 @@ ghost use Rattle.std.specs.Prelude.{◌≡◌, [], ◌∷◌};
 ghost use Rattle.cdcl_order.specs.Watch.{Better, with_seen};
 ghost use Rattle.improve.specs.Improving.{IsSolution};
 
-use cdcl::watch::{SearchWatch, Unwatched};
+use cdcl::watch::{SearchWatch, Unwatched, Way};
 use cnf::types::Instance;
-
-/// Which form it is that shows a lower bound.
-#[derive(Clone, Copy, Debug, PartialEq, Eq, Drop)]
-pub enum Way {
-    /// That of the cores.
-    Cores,
-    /// One of the relaxation.
-    Relaxation,
-    /// The cost itself, under what was learned.
-    Cost,
-}
 
 /// A lower bound of the cost, as a line of the certificate proves it.
 #[derive(Clone, Copy, Debug, PartialEq, Eq, Drop)]

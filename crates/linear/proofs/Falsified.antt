@@ -59,10 +59,10 @@ others_before (k ∷ c) (suc i) l h t lt is =
 pub least_pushed : (f : CostForm) (ls : List Literal) (i : ℕ) (l : Literal) (n : ℤ)
     → HasOneWidth f → has_repeat ls ≡ false → is_tautology ls ≡ false → i < length ls
     → l ≡ get_or ls i l → l.variable < width_of f
-    → n +ℤ least_at f.scale (coefficient f.cost l.variable) (coefficient f.rest l.variable)
+    → n +ℤ least_at f.scale (coefficient f.cost l.variable) (coefficient f.added l.variable)
     (get_or f.fixed l.variable None)
     ≡ least_where f (falsified (take i ls) f.fixed)
-    +ℤ least_at f.scale (coefficient f.cost l.variable) (coefficient f.rest l.variable)
+    +ℤ least_at f.scale (coefficient f.cost l.variable) (coefficient f.added l.variable)
     (Some l.negated)
     → n ≡ least_where f (falsified (take (i + 1) ls) f.fixed)
 least_pushed f ls i l n w h t lt is v e =
@@ -70,9 +70,9 @@ least_pushed f ls i l n w h t lt is v e =
     let k = falsified_length (take i ls) f.fixed in
     let o = falsified_other (take i ls) f.fixed l.variable (others_before ls i l h t lt is) in
     let d : l.variable < length fs = omega (arith, k, v) in
-    let s = sum_set_value f.scale (f.cost).coefficients (f.rest).coefficients fs l.variable
-    (Some l.negated) (w.cost ∙ sym k) (w.rest ∙ sym k) d in
-    let g = ap (least_at f.scale (coefficient f.cost l.variable) (coefficient f.rest l.variable))
+    let s = sum_set_value f.scale (f.cost).coefficients (f.added).coefficients fs l.variable
+    (Some l.negated) (w.cost ∙ sym k) (w.added ∙ sym k) d in
+    let g = ap (least_at f.scale (coefficient f.cost l.variable) (coefficient f.added l.variable))
     o in
     let p : falsified (take (i + 1) ls) f.fixed ≡ set fs l.variable (Some l.negated)
     = ap (λ xs. falsified xs f.fixed) (take_more ls i l lt)

@@ -14,7 +14,7 @@ use Rattle.linear.specs.Linear.{plus_at, plus_constant, coefficient}
 use Rattle.linear.specs.Costs.{least, least_sum, least_where, restarted, width_of, widened, form_of}
 use Rattle.linear.specs.Bounds.{BoundState, HasLeast, IsBounded}
 use Rattle.linear.proofs.Sums.{least_at, plus_small, scaled_small, sum_small, sum_set_cost}
-use Rattle.linear.proofs.Sums.{sum_set_rest, sum_set_value, sum_none, sum_scaled, sum_widened}
+use Rattle.linear.proofs.Sums.{sum_set_added, sum_set_value, sum_none, sum_scaled, sum_widened}
 use Rattle.linear.proofs.Sums.{distributes}
 
 no_mass : (n : ℕ) → sum_by unsigned_abs (replicate n (pos 0)) ≡ 0
@@ -30,16 +30,16 @@ where_small s fs b =
     let f = s.form in
     let n = sum_by unsigned_abs (f.cost).coefficients in
     let m = unsigned_abs (f.cost).constant in
-    let k = (pos f.scale *ℤ (f.cost).constant) +ℤ (f.rest).constant in
+    let k = (pos f.scale *ℤ (f.cost).constant) +ℤ (f.added).constant in
     let a : f.scale ≤ 2 ^ 62 = omega (arith, b.scale) in
     let c : m ≤ 2 ^ 62 = omega (arith, b.constant, b.weights) in
     let d : n ≤ 2 ^ 62 = omega (arith, b.coefficients, b.weights) in
     let x : f.scale * m ≤ 2 ^ 62 * 2 ^ 62 = mul-le-mul a c in
     let y : f.scale * n ≤ 2 ^ 62 * 2 ^ 62 = mul-le-mul a d in
-    let g = plus_small k (least_sum f.scale (f.cost).coefficients (f.rest).coefficients fs) in
-    let h = scaled_small f.scale (f.cost).constant (f.rest).constant in
-    let i = sum_small f.scale (f.cost).coefficients (f.rest).coefficients fs in
-    omega (arith, x, y, g, h, i, b.rest, b.mass)
+    let g = plus_small k (least_sum f.scale (f.cost).coefficients (f.added).coefficients fs) in
+    let h = scaled_small f.scale (f.cost).constant (f.added).constant in
+    let i = sum_small f.scale (f.cost).coefficients (f.added).coefficients fs in
+    omega (arith, x, y, g, h, i, b.added, b.mass)
 
 pub whole_small : (s : BoundState) (l k : ℤ) → HasLeast s l k → unsigned_abs l < 2 ^ 126
 whole_small s l k h =
@@ -69,28 +69,28 @@ cost_small s v b lt =
       b.coefficients,
     )
 
-pub rest_small : (s : BoundState) (v : ℕ) → IsBounded s → v < width_of s.form
-    → unsigned_abs (coefficient (s.form).rest v) ≤ s.mass
-rest_small s v b lt =
-    let d : v < length ((s.form).rest).coefficients = omega (arith, (b.width).rest, lt) in
-    omega (arith, get_or-le-sum_by unsigned_abs ((s.form).rest).coefficients v (pos 0) d, b.rest)
+pub added_small : (s : BoundState) (v : ℕ) → IsBounded s → v < width_of s.form
+    → unsigned_abs (coefficient (s.form).added v) ≤ s.mass
+added_small s v b lt =
+    let d : v < length ((s.form).added).coefficients = omega (arith, (b.width).added, lt) in
+    omega (arith, get_or-le-sum_by unsigned_abs ((s.form).added).coefficients v (pos 0) d, b.added)
 
 pub plus_constant_kept : (s : BoundState) (l k w : ℤ) → HasLeast s l k
     → s.mass + unsigned_abs w ≤ 2 ^ 120
     → HasLeast (record s {
-      form = record (s.form) { rest = plus_constant w (s.form).rest };
+      form = record (s.form) { added = plus_constant w (s.form).added };
       mass = s.mass + unsigned_abs w;
     }) (l +ℤ w) k
 plus_constant_kept s l k w h m =
     let b = h.bounded in
     record {
       bounded = record {
-        width = record { cost = (b.width).cost; rest = (b.width).rest };
+        width = record { cost = (b.width).cost; added = (b.width).added };
         scale = b.scale;
         constant = b.constant;
         coefficients = b.coefficients;
         weights = b.weights;
-        rest = omega (arith, plus_small ((s.form).rest).constant w, b.rest);
+        added = omega (arith, plus_small ((s.form).added).constant w, b.added);
         mass = m;
       };
       whole = omega (arith, ints, h.whole);
@@ -99,34 +99,34 @@ plus_constant_kept s l k w h m =
 
 pub plus_at_kept : (s : BoundState) (l k m w : ℤ) (v : ℕ) → HasLeast s l k
     → v < width_of s.form → s.mass + unsigned_abs w ≤ 2 ^ 120
-    → m +ℤ least_at (s.form).scale (coefficient (s.form).cost v) (coefficient (s.form).rest v)
+    → m +ℤ least_at (s.form).scale (coefficient (s.form).cost v) (coefficient (s.form).added v)
     (get_or (s.form).fixed v None)
-    ≡ l +ℤ least_at (s.form).scale (coefficient (s.form).cost v) (coefficient (s.form).rest v +ℤ w)
+    ≡ l +ℤ least_at (s.form).scale (coefficient (s.form).cost v) (coefficient (s.form).added v +ℤ w)
     (get_or (s.form).fixed v None)
     → HasLeast (record s {
-      form = record (s.form) { rest = plus_at w v (s.form).rest };
+      form = record (s.form) { added = plus_at w v (s.form).added };
       mass = s.mass + unsigned_abs w;
     }) m k
 plus_at_kept s l k m w v h lt small e =
     let b = h.bounded in
     let f = s.form in
     let cs = (f.cost).coefficients in
-    let rs = (f.rest).coefficients in
-    let r = coefficient f.rest v in
-    let d : v < length rs = omega (arith, (b.width).rest, lt) in
+    let rs = (f.added).coefficients in
+    let r = coefficient f.added v in
+    let d : v < length rs = omega (arith, (b.width).added, lt) in
     let x = sum_by-set unsigned_abs rs v (r +ℤ w) (pos 0) d in
-    let y = sum_set_rest f.scale cs rs f.fixed v (r +ℤ w) (b.width).cost (b.width).rest lt in
+    let y = sum_set_added f.scale cs rs f.fixed v (r +ℤ w) (b.width).cost (b.width).added lt in
     record {
       bounded = record {
         width = record {
           cost = (b.width).cost;
-          rest = length-set rs v (r +ℤ w) ∙ (b.width).rest;
+          added = length-set rs v (r +ℤ w) ∙ (b.width).added;
         };
         scale = b.scale;
         constant = b.constant;
         coefficients = b.coefficients;
         weights = b.weights;
-        rest = omega (arith, x, plus_small r w, b.rest);
+        added = omega (arith, x, plus_small r w, b.added);
         mass = small;
       };
       whole = omega (arith, ints, h.whole, e, y);
@@ -135,9 +135,9 @@ plus_at_kept s l k m w v h lt small e =
 
 pub set_value_kept : (s : BoundState) (l k m j : ℤ) (v : ℕ) (x : Bool) → HasLeast s l k
     → v < width_of s.form
-    → m +ℤ least_at (s.form).scale (coefficient (s.form).cost v) (coefficient (s.form).rest v)
+    → m +ℤ least_at (s.form).scale (coefficient (s.form).cost v) (coefficient (s.form).added v)
     (get_or (s.form).fixed v None)
-    ≡ l +ℤ least_at (s.form).scale (coefficient (s.form).cost v) (coefficient (s.form).rest v)
+    ≡ l +ℤ least_at (s.form).scale (coefficient (s.form).cost v) (coefficient (s.form).added v)
     (Some x)
     → j +ℤ least_at 1 (coefficient (s.form).cost v) (pos 0) (get_or (s.form).fixed v None)
     ≡ k +ℤ least_at 1 (coefficient (s.form).cost v) (pos 0) (Some x)
@@ -149,12 +149,12 @@ set_value_kept s l k m j v x h lt e g =
     let f = s.form in
     let n = length f.fixed in
     let cs = (f.cost).coefficients in
-    let rs = (f.rest).coefficients in
+    let rs = (f.added).coefficients in
     let zs = replicate n (pos 0) in
     let fs = set f.fixed v (Some x) in
     let d = length-set f.fixed v (Some x) in
     let z : get_or zs v (pos 0) ≡ pos 0 = get_or-replicate n v (pos 0) (pos 0) lt in
-    let y = sum_set_value f.scale cs rs f.fixed v (Some x) (b.width).cost (b.width).rest lt in
+    let y = sum_set_value f.scale cs rs f.fixed v (Some x) (b.width).cost (b.width).added lt in
     let c = coefficient f.cost v in
     let i : least_sum 1 cs zs fs +ℤ least_at 1 c (pos 0) (get_or f.fixed v None)
     ≡ least_sum 1 cs zs f.fixed +ℤ least_at 1 c (pos 0) (Some x)
@@ -167,12 +167,12 @@ set_value_kept s l k m j v x h lt e g =
     d in
     record {
       bounded = record {
-        width = record { cost = (b.width).cost ∙ sym d; rest = (b.width).rest ∙ sym d };
+        width = record { cost = (b.width).cost ∙ sym d; added = (b.width).added ∙ sym d };
         scale = b.scale;
         constant = b.constant;
         coefficients = b.coefficients;
         weights = b.weights;
-        rest = b.rest;
+        added = b.added;
         mass = b.mass;
       };
       whole = omega (arith, ints, h.whole, e, y);
@@ -213,16 +213,16 @@ plus_cost_kept s l k j x y v n h e lt p q small g =
     let t = sum_by-set unsigned_abs cs v (c +ℤ x) (pos 0) within in
     let o : ((pos 1 *ℤ (f.cost).constant) +ℤ y) ≡ (pos 1 *ℤ ((f.cost).constant +ℤ y)) =
     omega (arith, ints) in
-    let u = free_cost f.scale (f.cost).constant ((f.cost).constant +ℤ y) (f.rest).constant cs
-    (set cs v (c +ℤ x)) (f.rest).coefficients f.fixed e (sym d) in
+    let u = free_cost f.scale (f.cost).constant ((f.cost).constant +ℤ y) (f.added).constant cs
+    (set cs v (c +ℤ x)) (f.added).coefficients f.fixed e (sym d) in
     record {
       bounded = record {
-        width = record { cost = d ∙ (b.width).cost; rest = (b.width).rest };
+        width = record { cost = d ∙ (b.width).cost; added = (b.width).added };
         scale = b.scale;
         constant = omega (arith, plus_small (f.cost).constant y, b.constant, q);
         coefficients = omega (arith, t, plus_small c x, b.coefficients, p);
         weights = small;
-        rest = b.rest;
+        added = b.added;
         mass = b.mass;
       };
       whole = h.whole ∙ u;
@@ -244,12 +244,12 @@ restarted_kept s l k q h small =
     let i = sum_scaled q w cs f.fixed in
     record {
       bounded = record {
-        width = record { cost = (b.width).cost; rest = length-replicate w (pos 0) };
+        width = record { cost = (b.width).cost; added = length-replicate w (pos 0) };
         scale = small;
         constant = b.constant;
         coefficients = b.coefficients;
         weights = b.weights;
-        rest = omega (arith, no_mass w);
+        added = omega (arith, no_mass w);
         mass = omega arith;
       };
       whole = ap (λ x. pos q *ℤ x) h.alone ∙ omega (arith, ints, d, g, i);
@@ -281,10 +281,10 @@ widened_kept s l k width h =
     let w = length f.fixed in
     let n = width - w in
     let cs = (f.cost).coefficients in
-    let rs = (f.rest).coefficients in
+    let rs = (f.added).coefficients in
     let zs = replicate w (pos 0) in
     let fs = f.fixed ++ replicate n None in
-    let i = sum_widened f.scale n cs rs f.fixed (b.width).cost (b.width).rest in
+    let i = sum_widened f.scale n cs rs f.fixed (b.width).cost (b.width).added in
     let j = sum_widened 1 n cs zs f.fixed (b.width).cost (length-replicate w (pos 0)) in
     let z : length fs ≡ w + n
     = omega (
@@ -300,13 +300,13 @@ widened_kept s l k width h =
       bounded = record {
         width = record {
           cost = same_length cs f.fixed n (pos 0) None (b.width).cost;
-          rest = same_length rs f.fixed n (pos 0) None (b.width).rest;
+          added = same_length rs f.fixed n (pos 0) None (b.width).added;
         };
         scale = b.scale;
         constant = b.constant;
         coefficients = omega (arith, more_zeros cs n, b.coefficients);
         weights = b.weights;
-        rest = omega (arith, more_zeros rs n, b.rest);
+        added = omega (arith, more_zeros rs n, b.added);
         mass = b.mass;
       };
       whole = omega (arith, ints, h.whole, i);
@@ -324,12 +324,12 @@ new_kept n =
     let same = ap (λ a. least_sum 1 zs (replicate a (pos 0)) (replicate n None)) e in
     record {
       bounded = record {
-        width = record { cost = d ∙ sym e; rest = d ∙ sym e };
+        width = record { cost = d ∙ sym e; added = d ∙ sym e };
         scale = omega arith;
         constant = omega arith;
         coefficients = omega (arith, no_mass n);
         weights = omega arith;
-        rest = omega (arith, no_mass n);
+        added = omega (arith, no_mass n);
         mass = omega arith;
       };
       whole = omega (arith, ints, i);

@@ -15,12 +15,12 @@ use Rattle.cnf.specs.Literal.{Literal}
 use Rattle.std.proofs.lemmas.List.Elements.{recursion_from_All}
 use Rattle.linear.specs.Costs.{CostForm, fixed_by, form_of, restarted, widened, widened_linear}
 use Rattle.linear.specs.Costs.{width_of}
-use Rattle.linear.specs.Terms.{AreSmall, rest_of, costs, rests, values, form_of_terms}
+use Rattle.linear.specs.Terms.{AreSmall, added_of, costs, additions, values, form_of_terms}
 use Rattle.linear.specs.Bounds.{BoundState, HasLeast, IsBounded}
 use Rattle.linear.specs.declared.bounds.CostBound.TheInside.{Inside}
-use Rattle.linear.specs.Kept.{state_in, IsKept}
+use Rattle.linear.specs.Kept.{state_in, IsBoundKept}
 use Rattle.linear.proofs.Sums.{least_at, plus_small}
-use Rattle.linear.proofs.Moves.{cost_small, rest_small, plus_at_kept, set_value_kept}
+use Rattle.linear.proofs.Moves.{cost_small, added_small, plus_at_kept, set_value_kept}
 use Rattle.linear.proofs.Moves.{plus_cost_kept}
 
 pub map_same : {X Y : Type 0} (f : X → Y) (xs : List X) (i : ℕ) (x d : X) → i < length xs
@@ -50,9 +50,9 @@ pub cost_here : (ts : List Term) (v : ℕ) (old : Term) → StandsAt ts v old
     → get_or (costs ts) v (pos 0) ≡ old.cost
 cost_here ts v old h = map_here (λ t. t.cost) ts v old (pos 0) h.within h.here
 
-pub rest_here : (p : ℕ) (ts : List Term) (v : ℕ) (old : Term) → StandsAt ts v old
-    → get_or (rests p ts) v (pos 0) ≡ rest_of p old
-rest_here p ts v old h = map_here (rest_of p) ts v old (pos 0) h.within h.here
+pub added_here : (p : ℕ) (ts : List Term) (v : ℕ) (old : Term) → StandsAt ts v old
+    → get_or (additions p ts) v (pos 0) ≡ added_of p old
+added_here p ts v old h = map_here (added_of p) ts v old (pos 0) h.within h.here
 
 pub value_here : (ts : List Term) (v : ℕ) (old : Term) → StandsAt ts v old
     → get_or (values ts) v None ≡ old.value
@@ -63,114 +63,114 @@ same_form : (k : ℤ) (s : ℕ) (r : ℤ) (cs bs rs qs : List ℤ) (fs gs : List
     → (let f : CostForm = record {
       cost = record { constant = k; coefficients = cs };
       scale = s;
-      rest = record { constant = r; coefficients = rs };
+      added = record { constant = r; coefficients = rs };
       fixed = fs;
     } in f) ≡ record {
       cost = record { constant = k; coefficients = bs };
       scale = s;
-      rest = record { constant = r; coefficients = qs };
+      added = record { constant = r; coefficients = qs };
       fixed = gs;
     }
 same_form k s r cs bs rs qs fs gs a b c = cc
 
-pub rest_put : (k : ℤ) (s : ℕ) (r : ℤ) (p : ℕ) (ts : List Term) (v : ℕ) (old new : Term) (w : ℤ)
+pub added_put : (k : ℤ) (s : ℕ) (r : ℤ) (p : ℕ) (ts : List Term) (v : ℕ) (old new : Term) (w : ℤ)
     → StandsAt ts v old → new.cost ≡ old.cost → new.value ≡ old.value → new.stamp ≡ p
-    → new.rest ≡ rest_of p old +ℤ w
+    → new.added ≡ added_of p old +ℤ w
     → form_of_terms k s r p (set ts v new)
-    ≡ record (form_of_terms k s r p ts) { rest = plus_at w v (form_of_terms k s r p ts).rest }
-rest_put k s r p ts v old new w h c f a e =
-    let here : rest_of p new ≡ get_or (rests p ts) v (pos 0) +ℤ w
-    = ap (λ b. if b then new.rest else pos 0) (eq-eqb new.stamp p a) ∙ e
-    ∙ ap (λ x. x +ℤ w) (sym (rest_here p ts v old h)) in
-    same_form k s r (costs (set ts v new)) (costs ts) (rests p (set ts v new))
-    (set (rests p ts) v (get_or (rests p ts) v (pos 0) +ℤ w))
+    ≡ record (form_of_terms k s r p ts) { added = plus_at w v (form_of_terms k s r p ts).added }
+added_put k s r p ts v old new w h c f a e =
+    let here : added_of p new ≡ get_or (additions p ts) v (pos 0) +ℤ w
+    = ap (λ b. if b then new.added else pos 0) (eq-eqb new.stamp p a) ∙ e
+    ∙ ap (λ x. x +ℤ w) (sym (added_here p ts v old h)) in
+    same_form k s r (costs (set ts v new)) (costs ts) (additions p (set ts v new))
+    (set (additions p ts) v (get_or (additions p ts) v (pos 0) +ℤ w))
     (values (set ts v new)) (values ts)
     (map_kept (λ t. t.cost) ts v new old h.within h.here c)
-    (map-set (rest_of p) ts v new ∙ ap (λ x. set (rests p ts) v x) here)
+    (map-set (added_of p) ts v new ∙ ap (λ x. set (additions p ts) v x) here)
     (map_kept (λ t. t.value) ts v new old h.within h.here f)
 
 pub value_put : (k : ℤ) (s : ℕ) (r : ℤ) (p : ℕ) (ts : List Term) (v : ℕ) (old new : Term)
-    (x : Option Bool) → StandsAt ts v old → new.cost ≡ old.cost → new.rest ≡ old.rest
+    (x : Option Bool) → StandsAt ts v old → new.cost ≡ old.cost → new.added ≡ old.added
     → new.stamp ≡ old.stamp → new.value ≡ x
     → form_of_terms k s r p (set ts v new)
     ≡ record (form_of_terms k s r p ts) { fixed = set (values ts) v x }
 value_put k s r p ts v old new x h c e a f =
-    let same : rest_of p new ≡ rest_of p old
-    = ap (λ b. if b == p then new.rest else pos 0) a
+    let same : added_of p new ≡ added_of p old
+    = ap (λ b. if b == p then new.added else pos 0) a
     ∙ ap (λ y. if old.stamp == p then y else pos 0) e in
-    same_form k s r (costs (set ts v new)) (costs ts) (rests p (set ts v new)) (rests p ts)
+    same_form k s r (costs (set ts v new)) (costs ts) (additions p (set ts v new)) (additions p ts)
     (values (set ts v new)) (set (values ts) v x)
     (map_kept (λ t. t.cost) ts v new old h.within h.here c)
-    (map_kept (rest_of p) ts v new old h.within h.here same)
+    (map_kept (added_of p) ts v new old h.within h.here same)
     (map-set (λ t. t.value) ts v new ∙ ap (λ y. set (values ts) v y) f)
 
 pub cost_put : (k y : ℤ) (s : ℕ) (r : ℤ) (p : ℕ) (ts : List Term) (v : ℕ) (old new : Term) (x : ℤ)
-    → StandsAt ts v old → new.cost ≡ old.cost +ℤ x → new.rest ≡ old.rest
+    → StandsAt ts v old → new.cost ≡ old.cost +ℤ x → new.added ≡ old.added
     → new.stamp ≡ old.stamp → new.value ≡ old.value
     → form_of_terms (k +ℤ y) s r p (set ts v new)
     ≡ record (form_of_terms k s r p ts) {
       cost = plus_at x v (plus_constant y (form_of_terms k s r p ts).cost);
     }
 cost_put k y s r p ts v old new x h c e a f =
-    let same : rest_of p new ≡ rest_of p old
-    = ap (λ b. if b == p then new.rest else pos 0) a
+    let same : added_of p new ≡ added_of p old
+    = ap (λ b. if b == p then new.added else pos 0) a
     ∙ ap (λ y. if old.stamp == p then y else pos 0) e in
     let here : new.cost ≡ get_or (costs ts) v (pos 0) +ℤ x
     = c ∙ ap (λ z. z +ℤ x) (sym (cost_here ts v old h)) in
     same_form (k +ℤ y) s r (costs (set ts v new))
     (set (costs ts) v (get_or (costs ts) v (pos 0) +ℤ x))
-    (rests p (set ts v new)) (rests p ts)
+    (additions p (set ts v new)) (additions p ts)
     (values (set ts v new)) (values ts)
     (map-set (λ t. t.cost) ts v new ∙ ap (λ z. set (costs ts) v z) here)
-    (map_kept (rest_of p) ts v new old h.within h.here same)
+    (map_kept (added_of p) ts v new old h.within h.here same)
     (map_kept (λ t. t.value) ts v new old h.within h.here f)
 
 -- what is kept where one place changes
-pub rest_put_kept : (k : ℤ) (s : ℕ) (r : ℤ) (p : ℕ) (ts : List Term) (v : ℕ) (old new : Term)
+pub added_put_kept : (k : ℤ) (s : ℕ) (r : ℤ) (p : ℕ) (ts : List Term) (v : ℕ) (old new : Term)
     (w : ℤ) (n q : ℕ) (l a j : ℤ)
     → HasLeast (record { form = form_of_terms k s r p ts; weights = n; mass = q }) l a
     → StandsAt ts v old → q + unsigned_abs w ≤ 2 ^ 120
     → new.cost ≡ old.cost → new.value ≡ old.value → new.stamp ≡ p
-    → new.rest ≡ rest_of p old +ℤ w
-    → j +ℤ least_at s old.cost (rest_of p old) old.value ≡ l
-    +ℤ least_at s old.cost new.rest old.value
+    → new.added ≡ added_of p old +ℤ w
+    → j +ℤ least_at s old.cost (added_of p old) old.value ≡ l
+    +ℤ least_at s old.cost new.added old.value
     → HasLeast (record {
       form = form_of_terms k s r p (set ts v new);
       weights = n;
       mass = q + unsigned_abs w;
     }) j a
-rest_put_kept k s r p ts v old new w n q l a j h at small c f st e g =
+added_put_kept k s r p ts v old new w n q l a j h at small c f st e g =
     let b : BoundState = record { form = form_of_terms k s r p ts; weights = n; mass = q } in
     let ec = cost_here ts v old at in
-    let er = rest_here p ts v old at in
+    let er = added_here p ts v old at in
     let ev = value_here ts v old at in
-    let moved : j +ℤ least_at s (get_or (costs ts) v (pos 0)) (get_or (rests p ts) v (pos 0))
+    let moved : j +ℤ least_at s (get_or (costs ts) v (pos 0)) (get_or (additions p ts) v (pos 0))
     (get_or (values ts) v None)
-    ≡ l +ℤ least_at s (get_or (costs ts) v (pos 0)) (get_or (rests p ts) v (pos 0) +ℤ w)
+    ≡ l +ℤ least_at s (get_or (costs ts) v (pos 0)) (get_or (additions p ts) v (pos 0) +ℤ w)
     (get_or (values ts) v None)
     = cc in
     subst (λ (x : CostForm). HasLeast (record { form = x; weights = n; mass = q + unsigned_abs w })
     j a)
-    (sym (rest_put k s r p ts v old new w at c f st e))
+    (sym (added_put k s r p ts v old new w at c f st e))
     (plus_at_kept b l a j w v h (within_width ts v at.within) small moved)
 
 pub value_put_kept : (k : ℤ) (s : ℕ) (r : ℤ) (p : ℕ) (ts : List Term) (v : ℕ) (old new : Term)
     (x : Bool) (n q : ℕ) (l a j i : ℤ)
     → HasLeast (record { form = form_of_terms k s r p ts; weights = n; mass = q }) l a
     → StandsAt ts v old
-    → new.cost ≡ old.cost → new.rest ≡ old.rest → new.stamp ≡ old.stamp → new.value ≡ Some x
-    → j +ℤ least_at s old.cost (rest_of p old) old.value
-    ≡ l +ℤ least_at s old.cost (rest_of p old) (Some x)
+    → new.cost ≡ old.cost → new.added ≡ old.added → new.stamp ≡ old.stamp → new.value ≡ Some x
+    → j +ℤ least_at s old.cost (added_of p old) old.value
+    ≡ l +ℤ least_at s old.cost (added_of p old) (Some x)
     → i +ℤ least_at 1 old.cost (pos 0) old.value ≡ a +ℤ least_at 1 old.cost (pos 0) (Some x)
     → HasLeast (record { form = form_of_terms k s r p (set ts v new); weights = n; mass = q }) j i
 value_put_kept k s r p ts v old new x n q l a j i h at c e st f g d =
     let b : BoundState = record { form = form_of_terms k s r p ts; weights = n; mass = q } in
     let ec = cost_here ts v old at in
-    let er = rest_here p ts v old at in
+    let er = added_here p ts v old at in
     let ev = value_here ts v old at in
-    let moved : j +ℤ least_at s (get_or (costs ts) v (pos 0)) (get_or (rests p ts) v (pos 0))
+    let moved : j +ℤ least_at s (get_or (costs ts) v (pos 0)) (get_or (additions p ts) v (pos 0))
     (get_or (values ts) v None)
-    ≡ l +ℤ least_at s (get_or (costs ts) v (pos 0)) (get_or (rests p ts) v (pos 0)) (Some x)
+    ≡ l +ℤ least_at s (get_or (costs ts) v (pos 0)) (get_or (additions p ts) v (pos 0)) (Some x)
     = cc in
     let alone : i +ℤ least_at 1 (get_or (costs ts) v (pos 0)) (pos 0) (get_or (values ts) v None)
     ≡ a +ℤ least_at 1 (get_or (costs ts) v (pos 0)) (pos 0) (Some x)
@@ -183,7 +183,7 @@ pub cost_put_kept : (k y : ℤ) (s : ℕ) (r : ℤ) (p : ℕ) (ts : List Term) (
     (x : ℤ) (n q m : ℕ) (l a i : ℤ)
     → HasLeast (record { form = form_of_terms k s r p ts; weights = n; mass = q }) l a
     → s ≡ 0 → StandsAt ts v old
-    → new.cost ≡ old.cost +ℤ x → new.rest ≡ old.rest → new.stamp ≡ old.stamp
+    → new.cost ≡ old.cost +ℤ x → new.added ≡ old.added → new.stamp ≡ old.stamp
     → new.value ≡ old.value
     → unsigned_abs x ≤ m → unsigned_abs y ≤ m → n + m < 2 ^ 62
     → i +ℤ least_at 1 old.cost (pos 0) old.value
@@ -207,18 +207,18 @@ cost_put_kept k y s r p ts v old new x n q m l a i h z at c e st f bx by small g
 -- what stands at a place is small, and so are sums of it
 pub here_small : (k : ℤ) (s : ℕ) (r : ℤ) (p : ℕ) (ts : List Term) (v : ℕ) (old : Term) (n q : ℕ)
     → IsBounded (record { form = form_of_terms k s r p ts; weights = n; mass = q })
-    → StandsAt ts v old → AreSmall s old.cost (rest_of p old)
+    → StandsAt ts v old → AreSmall s old.cost (added_of p old)
 here_small k s r p ts v old n q b at =
     let f : BoundState = record { form = form_of_terms k s r p ts; weights = n; mass = q } in
     let lt = within_width ts v at.within in
     let c : unsigned_abs old.cost ≤ n
     = subst (λ x. unsigned_abs x ≤ n) (cost_here ts v old at) (cost_small f v b lt) in
-    let d : unsigned_abs (rest_of p old) ≤ q
-    = subst (λ x. unsigned_abs x ≤ q) (rest_here p ts v old at) (rest_small f v b lt) in
+    let d : unsigned_abs (added_of p old) ≤ q
+    = subst (λ x. unsigned_abs x ≤ q) (added_here p ts v old at) (added_small f v b lt) in
     record {
       times = b.scale;
       cost = omega (arith, c, b.weights);
-      rest = omega (arith, d, b.mass);
+      added = omega (arith, d, b.mass);
     }
 
 pub stands_at : (b : Inside) (s : BoundState) (v : ℕ) (old : Term) → state_in b ≡ s
@@ -228,35 +228,35 @@ stands_at b s v old e lt h =
     let n = length-map b.terms.items (λ t. t.value) in
     record { within = omega (arith, w, n, lt); here = h }
 
-pub kept_small : (b : Inside) (v : ℕ) (old : Term) → IsKept b → StandsAt b.terms.items v old
-    → AreSmall b.scale old.cost (rest_of b.present old)
+pub kept_small : (b : Inside) (v : ℕ) (old : Term) → IsBoundKept b → StandsAt b.terms.items v old
+    → AreSmall b.scale old.cost (added_of b.present old)
 kept_small b v old h at =
-    here_small b.cost_constant b.scale b.rest_constant b.present b.terms.items v old b.weights
+    here_small b.cost_constant b.scale b.added_constant b.present b.terms.items v old b.weights
     b.mass (h.least).bounded at
 
-pub raised_small : (b : Inside) (v : ℕ) (old : Term) (w : ℤ) → IsKept b
+pub raised_small : (b : Inside) (v : ℕ) (old : Term) (w : ℤ) → IsBoundKept b
     → StandsAt b.terms.items v old → b.mass + unsigned_abs w ≤ 2 ^ 120
-    → AreSmall b.scale old.cost (rest_of b.present old +ℤ w)
+    → AreSmall b.scale old.cost (added_of b.present old +ℤ w)
 raised_small b v old w h at small =
     let s = kept_small b v old h at in
     let n = (h.least).bounded in
     let lt = within_width b.terms.items v at.within in
-    let d : unsigned_abs (rest_of b.present old) ≤ b.mass
-    = subst (λ x. unsigned_abs x ≤ b.mass) (rest_here b.present b.terms.items v old at)
-    (rest_small (state_in b) v n lt) in
+    let d : unsigned_abs (added_of b.present old) ≤ b.mass
+    = subst (λ x. unsigned_abs x ≤ b.mass) (added_here b.present b.terms.items v old at)
+    (added_small (state_in b) v n lt) in
     record {
       times = s.times;
       cost = s.cost;
-      rest = omega (arith, plus_small (rest_of b.present old) w, d, small);
+      added = omega (arith, plus_small (added_of b.present old) w, d, small);
     }
 
 -- no coefficient beside the cost counts under a stamp that is yet to come
 fresh : (p : ℕ) (ts : List Term) → AllByRecursion (λ t. t.stamp < p) ts
-    → rests p ts ≡ replicate (length ts) (pos 0)
+    → additions p ts ≡ replicate (length ts) (pos 0)
 fresh p [] h = refl
 fresh p (t ∷ ts) h =
     let ne : (t.stamp == p) ≡ false = ne_eqb t.stamp p (λ e. omega (arith, h.0, e)) in
-    ap (λ b. (if b then t.rest else pos 0) ∷ rests p ts) ne
+    ap (λ b. (if b then t.added else pos 0) ∷ additions p ts) ne
     ∙ ap (λ xs. pos 0 ∷ xs) (fresh p ts h.1)
 
 pub same_items : (ts us : List Term) → values us ≡ values ts → length us ≡ length ts
@@ -269,7 +269,7 @@ pub fresh_stamp : (p : ℕ) (ts us : List Term) → costs us ≡ costs ts → va
 fresh_stamp p ts us c f h k s o r q =
     let n : length us ≡ length (values ts)
     = omega (arith, ap length f, length-map us (λ t. t.value)) in
-    same_form k s (pos 0) (costs us) (costs ts) (rests p us)
+    same_form k s (pos 0) (costs us) (costs ts) (additions p us)
     (replicate (length (values ts)) (pos 0)) (values us) (values ts) c
     (fresh p us (recursion_from_All (λ t. t.stamp < p) us h)
     ∙ ap (λ m. replicate m (pos 0)) n) f
@@ -279,26 +279,26 @@ map_replicate : {X Y : Type 0} (f : X → Y) (n : ℕ) (x : X)
 map_replicate f zero x = refl
 map_replicate f (suc n) x = ap (λ ys. f x ∷ ys) (map_replicate f n x)
 
-rest_none : (p : ℕ) (t : Term) → t.rest ≡ pos 0 → rest_of p t ≡ pos 0
-rest_none p t r = ap (λ x. if t.stamp == p then x else pos 0) r ∙ same (t.stamp == p)
+added_none : (p : ℕ) (t : Term) → t.added ≡ pos 0 → added_of p t ≡ pos 0
+added_none p t r = ap (λ x. if t.stamp == p then x else pos 0) r ∙ same (t.stamp == p)
   where
     same : (b : Bool) → (if b then pos 0 else pos 0) ≡ pos 0
     same true = refl
     same false = refl
 
 -- where nothing stands
-pub nothing_form : (n : ℕ) (t : Term) → t.cost ≡ pos 0 → t.rest ≡ pos 0 → t.value ≡ None
+pub nothing_form : (n : ℕ) (t : Term) → t.cost ≡ pos 0 → t.added ≡ pos 0 → t.value ≡ None
     → form_of_terms (pos 0) 0 (pos 0) 0 (replicate n t) ≡ form_of n []
 nothing_form n t c r f =
     same_form (pos 0) 0 (pos 0) (costs (replicate n t)) (replicate n (pos 0))
-    (rests 0 (replicate n t)) (replicate n (pos 0)) (values (replicate n t)) (replicate n None)
+    (additions 0 (replicate n t)) (replicate n (pos 0)) (values (replicate n t)) (replicate n None)
     (map_replicate (λ u. u.cost) n t ∙ ap (λ x. replicate n x) c)
-    (map_replicate (rest_of 0) n t ∙ ap (λ x. replicate n x) (rest_none 0 t r))
+    (map_replicate (added_of 0) n t ∙ ap (λ x. replicate n x) (added_none 0 t r))
     (map_replicate (λ u. u.value) n t ∙ ap (λ x. replicate n x) f)
 
 -- where nothing stands at the end
 pub widened_form : (k : ℤ) (s : ℕ) (r : ℤ) (p : ℕ) (ts : List Term) (width : ℕ) (t : Term)
-    → t.cost ≡ pos 0 → t.rest ≡ pos 0 → t.value ≡ None
+    → t.cost ≡ pos 0 → t.added ≡ pos 0 → t.value ≡ None
     → form_of_terms k s r p (ts ++ replicate (width - length ts) t)
     ≡ widened width (form_of_terms k s r p ts)
 widened_form k s r p ts width t c e f =
@@ -307,15 +307,16 @@ widened_form k s r p ts width t c e f =
     ap (λ x. width - x) (sym (length-map ts (λ u. u.value))) in
     same_form k s r (costs (ts ++ replicate m t))
     (costs ts ++ replicate (width - length (values ts)) (pos 0))
-    (rests p (ts ++ replicate m t)) (rests p ts ++ replicate (width - length (values ts)) (pos 0))
+    (additions p (ts ++ replicate m t))
+    (additions p ts ++ replicate (width - length (values ts)) (pos 0))
     (values (ts ++ replicate m t)) (values ts ++ replicate (width - length (values ts)) None)
     (map-append (λ u. u.cost) ts (replicate m t)
     ∙ ap (λ xs. costs ts ++ xs) (map_replicate (λ u. u.cost) m t ∙ ap (λ x. replicate m x) c)
     ∙ ap (λ x. costs ts ++ replicate x (pos 0)) n)
-    (map-append (rest_of p) ts (replicate m t)
-    ∙ ap (λ xs. rests p ts ++ xs) (map_replicate (rest_of p) m t
-    ∙ ap (λ x. replicate m x) (rest_none p t e))
-    ∙ ap (λ x. rests p ts ++ replicate x (pos 0)) n)
+    (map-append (added_of p) ts (replicate m t)
+    ∙ ap (λ xs. additions p ts ++ xs) (map_replicate (added_of p) m t
+    ∙ ap (λ x. replicate m x) (added_none p t e))
+    ∙ ap (λ x. additions p ts ++ replicate x (pos 0)) n)
     (map-append (λ u. u.value) ts (replicate m t)
     ∙ ap (λ xs. values ts ++ xs) (map_replicate (λ u. u.value) m t ∙ ap (λ x. replicate m x) f)
     ∙ ap (λ x. values ts ++ replicate x None) n)
@@ -338,7 +339,7 @@ literal_parts w l f = by_sign l.negated
         ap (λ (k : ℤ). plus_at w l.variable (record f { constant = k })) z
 
 pub alone_part : {s : ℕ} {c r : ℤ} → AreSmall s c r → AreSmall 1 c (pos 0)
-alone_part h = record { times = omega arith; cost = h.cost; rest = omega arith }
+alone_part h = record { times = omega arith; cost = h.cost; added = omega arith }
 
 pub fixed_here : (l : Literal) (fs : List (Option Bool)) → get_or fs l.variable None ≡ None
     → fixed_by l fs ≡ set fs l.variable (Some (not l.negated))
@@ -348,7 +349,7 @@ pub none_is : (o : Option Bool) → is_some o ≡ false → o ≡ None
 none_is None e = refl
 none_is (Some b) e = cc
 
-pub kept_cost : (b : Inside) (v : ℕ) (old : Term) → IsKept b → StandsAt b.terms.items v old
+pub kept_cost : (b : Inside) (v : ℕ) (old : Term) → IsBoundKept b → StandsAt b.terms.items v old
     → unsigned_abs old.cost ≤ b.weights
 kept_cost b v old h at =
     subst (λ x. unsigned_abs x ≤ b.weights) (cost_here b.terms.items v old at)

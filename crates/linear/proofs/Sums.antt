@@ -72,12 +72,12 @@ sum_set_cost s cs rs fs v c d e lt =
     rw (set-get_or rs v (pos 0), set-get_or fs v None)
     at (sum_set s cs rs fs v c (get_or rs v (pos 0)) (get_or fs v None) d e lt)
 
-pub sum_set_rest : (s : ℕ) (cs rs : List ℤ) (fs : List (Option Bool)) (v : ℕ) (r : ℤ)
+pub sum_set_added : (s : ℕ) (cs rs : List ℤ) (fs : List (Option Bool)) (v : ℕ) (r : ℤ)
     → length cs ≡ length fs → length rs ≡ length fs → v < length fs
     → least_sum s cs (set rs v r) fs
     +ℤ least_at s (get_or cs v (pos 0)) (get_or rs v (pos 0)) (get_or fs v None)
     ≡ least_sum s cs rs fs +ℤ least_at s (get_or cs v (pos 0)) r (get_or fs v None)
-sum_set_rest s cs rs fs v r d e lt =
+sum_set_added s cs rs fs v r d e lt =
     rw (set-get_or cs v (pos 0), set-get_or fs v None)
     at (sum_set s cs rs fs v (get_or cs v (pos 0)) r (get_or fs v None) d e lt)
 

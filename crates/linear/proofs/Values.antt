@@ -52,10 +52,10 @@ sum_below s n (c ∷ cs) (r ∷ rs) (f ∷ fs) t d e h =
 
 -- the least value is at most the value wherever the variables have these values
 pub least_below : (f : CostForm) (fixed : List (Option Bool)) (t : Assignment)
-    → length (f.cost).coefficients ≡ length fixed → length (f.rest).coefficients ≡ length fixed
+    → length (f.cost).coefficients ≡ length fixed → length (f.added).coefficients ≡ length fixed
     → AgreesWith fixed t → least_where f fixed ≤ℤ form_value f t
 least_below f fixed t d e h =
-    let sum = sum_below f.scale 0 (f.cost).coefficients (f.rest).coefficients fixed t d e (λ v b i.
+    let sum = sum_below f.scale 0 (f.cost).coefficients (f.added).coefficients fixed t d e (λ v b i.
     let k : 0 + v ≡ v = omega arith in
     ap t k ∙ h v b i) in
     let q = distributes f.scale (f.cost).constant (value_from 0 (f.cost).coefficients t) in
@@ -208,7 +208,7 @@ value_widened more f t = ap (λ x. f.constant +ℤ x) (value_more 0 more f.coeff
 pub form_widened : (width : ℕ) (f : CostForm) (t : Assignment)
     → form_value (widened width f) t ≡ form_value f t
 form_widened width f t = λ i. (pos f.scale *ℤ value_widened (width - width_of f) f.cost t i)
-    +ℤ value_widened (width - width_of f) f.rest t i
+    +ℤ value_widened (width - width_of f) f.added t i
 
 pub form_restarted : (scale : ℕ) (f : CostForm) (t : Assignment)
     → form_value (restarted scale f) t ≡ pos scale *ℤ value f.cost t
@@ -231,13 +231,13 @@ widened_wide width f h =
         k,
         h.cost,
       );
-      rest = omega (
+      added = omega (
         arith,
-        length-append (f.rest).coefficients (replicate more (pos 0)),
+        length-append (f.added).coefficients (replicate more (pos 0)),
         e,
         d,
         k,
-        h.rest,
+        h.added,
       );
     }
 
@@ -257,4 +257,4 @@ widened_more width f =
 
 pub restarted_wide : (scale : ℕ) (f : CostForm) → HasOneWidth f → HasOneWidth (restarted scale f)
 restarted_wide scale f h =
-    record { cost = h.cost; rest = length-replicate (width_of f) (pos 0) }
+    record { cost = h.cost; added = length-replicate (width_of f) (pos 0) }

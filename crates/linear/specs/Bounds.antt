@@ -18,8 +18,8 @@ pub record IsBounded (s : BoundState) : Type 0 where
   pub constant : unsigned_abs ((s.form).cost).constant ≤ s.weights
   pub coefficients : sum_by unsigned_abs ((s.form).cost).coefficients ≤ s.weights
   pub weights : s.weights < 2 ^ 62
-  pub rest : unsigned_abs ((s.form).rest).constant
-      + sum_by unsigned_abs ((s.form).rest).coefficients ≤ s.mass
+  pub added : unsigned_abs ((s.form).added).constant
+      + sum_by unsigned_abs ((s.form).added).coefficients ≤ s.mass
   pub mass : s.mass ≤ 2 ^ 120
 
 -- two numbers are its least value, and that of the cost alone

@@ -13,14 +13,14 @@ pub record CostForm : Type 0 where
   -- how many times the cost is taken
   pub scale : ℕ
   -- what is added to that
-  pub rest : Linear
+  pub added : Linear
   -- the variables that have a value, and which
   pub fixed : List (Option Bool)
 
 -- the three lists have one length
 pub record HasOneWidth (f : CostForm) : Type 0 where
   pub cost : length (f.cost).coefficients ≡ length f.fixed
-  pub rest : length (f.rest).coefficients ≡ length f.fixed
+  pub added : length (f.added).coefficients ≡ length f.fixed
 
 -- the weights of these literals, over the variables below a number
 abbrev pub cost_from : Linear → List (ℕ × Literal) → Linear
@@ -35,7 +35,7 @@ abbrev pub form_of : ℕ → List (ℕ × Literal) → CostForm
 form_of width weights = record {
   cost = cost_from (zero_below width) weights;
   scale = 0;
-  rest = zero_below width;
+  added = zero_below width;
   fixed = replicate width None;
 }
 
@@ -54,13 +54,13 @@ widened width f =
     record {
       cost = widened_linear more f.cost;
       scale = f.scale;
-      rest = widened_linear more f.rest;
+      added = widened_linear more f.added;
       fixed = f.fixed ++ replicate more None;
     }
 
 -- `scale` times the cost, and nothing added
 abbrev pub restarted : ℕ → CostForm → CostForm
-restarted scale f = record f { scale = scale; rest = zero_below (width_of f) }
+restarted scale f = record f { scale = scale; added = zero_below (width_of f) }
 
 -- the literal's variable has a value that makes it true, unless it had one
 abbrev pub fixed_by : Literal → List (Option Bool) → List (Option Bool)
@@ -84,15 +84,15 @@ least_sum scale cs rs fs = pos 0
 -- the least value where variables have these values
 abbrev pub least_where : CostForm → List (Option Bool) → ℤ
 least_where f fixed =
-    ((pos f.scale *ℤ (f.cost).constant) +ℤ (f.rest).constant)
-    +ℤ least_sum f.scale (f.cost).coefficients (f.rest).coefficients fixed
+    ((pos f.scale *ℤ (f.cost).constant) +ℤ (f.added).constant)
+    +ℤ least_sum f.scale (f.cost).coefficients (f.added).coefficients fixed
 
 abbrev pub least : CostForm → ℤ
 least f = least_where f f.fixed
 
 -- its value under an assignment
 abbrev pub form_value : CostForm → Assignment → ℤ
-form_value f t = (pos f.scale *ℤ value f.cost t) +ℤ value f.rest t
+form_value f t = (pos f.scale *ℤ value f.cost t) +ℤ value f.added t
 
 -- each variable that has a value has it under the assignment
 abbrev pub AgreesWith : List (Option Bool) → Assignment → Type 0

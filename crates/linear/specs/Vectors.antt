@@ -15,8 +15,8 @@ none = refl
 -- less three times how much the true ones of both exceed 1
 abbrev clause : CostForm
 clause = record two {
-  rest = plus_constant (pos 3)
-      (plus_literals (negsuc 2) (p 1 ∷ p 2 ∷ []) (CostForm.rest two));
+  added = plus_constant (pos 3)
+      (plus_literals (negsuc 2) (p 1 ∷ p 2 ∷ []) (CostForm.added two));
 }
 
 three : least clause ≡ pos 3

@@ -10,8 +10,8 @@ ghost use Rattle.linear.specs.Costs.{form_of, width_of, widened, restarted, fixe
 ghost use Rattle.linear.specs.Costs.{HasOneWidth, least, least_where};
 
 use crate::terms::{
-    NOTHING, Term, coefficient as whole_coefficient, coefficient_part, constant_part, least_at,
-    moved, next_stamp, raised, raised_cost, rest_at, scaled, where_false,
+    NOTHING, Term, added_at, coefficient as whole_coefficient, coefficient_part, constant_part,
+    least_at, moved, next_stamp, raised, raised_cost, scaled, where_false,
 };
 use cnf::types::Lit;
 use std::alloc::{AllocError, Global};
@@ -30,7 +30,7 @@ pub struct CostBound {
     // How many times the cost is taken: below 2^62.
     scale: u64,
     // The constant beside the cost: at most `mass`.
-    rest_constant: i128,
+    added_constant: i128,
     // The stamp of the coefficients beside the cost that count.
     present: u32,
     // The sum of the weights that were added: below 2^62.
@@ -48,11 +48,11 @@ impl Model for CostBound {
 
     ghost Value = { BoundState };
 
-    ghost use Rattle.linear.specs.Kept.{state_in, IsKept};
+    ghost use Rattle.linear.specs.Kept.{state_in, IsBoundKept};
 
     ghost view = { state_in };
 
-    ghost invariant = { IsKept };
+    ghost invariant = { IsBoundKept };
 }
 
 impl CostBound {
@@ -66,7 +66,7 @@ impl CostBound {
             terms: Vec::from_elem(alloc, NOTHING, width)?,
             cost_constant: 0,
             scale: 0,
-            rest_constant: 0,
+            added_constant: 0,
             present: 0,
             weights: 0,
             mass: 0,
@@ -87,14 +87,14 @@ impl CostBound {
     /// the rest. Where the variable has no place it is 0.
     pub fn coefficient(&self, variable: usize) -> i128
         ensures { result ≡ (pos self.now.form.scale *ℤ coefficient self.now.form.cost variable)
-            +ℤ coefficient self.now.form.rest variable }
+            +ℤ coefficient self.now.form.added variable }
     {
         if variable >= self.terms.len() {
             return 0;
         }
         let term = &self.terms[variable];
-        let rest = rest_at(term, self.present);
-        whole_coefficient(self.scale, term.cost, rest)
+        let added = added_at(term, self.present);
+        whole_coefficient(self.scale, term.cost, added)
     }
 
     /// The value of a variable, if it has one.
@@ -183,7 +183,7 @@ impl CostBound {
         self.present = next_stamp(&mut self.terms, self.present);
         self.least = scaled(scale, self.least_cost);
         self.scale = scale;
-        self.rest_constant = 0;
+        self.added_constant = 0;
         self.mass = 0;
     }
 
@@ -191,11 +191,11 @@ impl CostBound {
     pub fn add_constant(&mut self, weight: i128)
         requires { self.old.mass + unsigned_abs weight ≤ 2 ^ 120 }
         ensures form { self.new.form
-            ≡ record self.old.form { rest = plus_constant weight self.old.form.rest } }
+            ≡ record self.old.form { added = plus_constant weight self.old.form.added } }
         ensures weights { self.new.weights ≡ self.old.weights }
         ensures mass { self.new.mass ≡ self.old.mass + unsigned_abs weight }
     {
-        self.rest_constant = raised(self.rest_constant, weight);
+        self.added_constant = raised(self.added_constant, weight);
         self.least = raised(self.least, weight);
         self.mass += weight.unsigned_abs();
     }
@@ -205,7 +205,7 @@ impl CostBound {
         requires variables { All (λ l. l.variable < width_of self.old.form) lits.now }
         requires room { self.old.mass + 2 * unsigned_abs weight * length lits.now ≤ 2 ^ 120 }
         ensures form { self.new.form
-            ≡ record self.old.form { rest = plus_literals weight lits.now self.old.form.rest } }
+            ≡ record self.old.form { added = plus_literals weight lits.now self.old.form.added } }
         ensures weights { self.new.weights ≡ self.old.weights }
         ensures mass { self.new.mass ≤ self.old.mass + 2 * unsigned_abs weight * length lits.now }
     {
@@ -219,7 +219,7 @@ impl CostBound {
         requires variable { lit.variable < width_of self.old.form }
         requires room { self.old.mass + 2 * unsigned_abs weight ≤ 2 ^ 120 }
         ensures form { self.new.form
-            ≡ record self.old.form { rest = plus_literal weight lit self.old.form.rest } }
+            ≡ record self.old.form { added = plus_literal weight lit self.old.form.added } }
         ensures weights { self.new.weights ≡ self.old.weights }
         ensures mass { self.new.mass ≤ self.old.mass + 2 * unsigned_abs weight }
     {
@@ -236,19 +236,19 @@ impl CostBound {
         requires variable { variable < width_of self.old.form }
         requires room { self.old.mass + unsigned_abs weight ≤ 2 ^ 120 }
         ensures form { self.new.form
-            ≡ record self.old.form { rest = plus_at weight variable self.old.form.rest } }
+            ≡ record self.old.form { added = plus_at weight variable self.old.form.added } }
         ensures weights { self.new.weights ≡ self.old.weights }
         ensures mass { self.new.mass ≡ self.old.mass + unsigned_abs weight }
     {
         let old = self.terms[variable];
-        let rest = rest_at(&old, self.present);
+        let added = added_at(&old, self.present);
         let new = Term {
-            rest: raised(rest, weight),
+            added: raised(added, weight),
             stamp: self.present,
             ..old
         };
-        let before = least_at(self.scale, &old, rest);
-        let after = least_at(self.scale, &new, new.rest);
+        let before = least_at(self.scale, &old, added);
+        let after = least_at(self.scale, &new, new.added);
         self.least = moved(self.least, before, after);
         self.mass += weight.unsigned_abs();
         self.terms[variable] = new;
@@ -269,9 +269,9 @@ impl CostBound {
                 value: Some(!lit.is_negated()),
                 ..old
             };
-            let rest = rest_at(&old, self.present);
-            let before = least_at(self.scale, &old, rest);
-            let after = least_at(self.scale, &new, rest);
+            let added = added_at(&old, self.present);
+            let before = least_at(self.scale, &old, added);
+            let after = least_at(self.scale, &new, added);
             self.least = moved(self.least, before, after);
             let before = least_at(1, &old, 0);
             let after = least_at(1, &new, 0);

@@ -3,13 +3,13 @@ ghost use Rattle.std.specs.Prelude.{◌≡◌, ◌+◌, ◌<◌, ◌≤◌, ◌^
 ghost use Rattle.std.specs.Int.RustNames.{unsigned_abs};
 ghost use Rattle.linear.specs.Linear.{least_term, shortfall};
 ghost use Rattle.std.specs.Prelude.{All, if◌then◌else◌};
-ghost use Rattle.linear.specs.Terms.{AreSmall, rest_of, costs, values};
+ghost use Rattle.linear.specs.Terms.{AreSmall, added_of, costs, values};
 
 /// What stands at a variable.
 #[derive(Clone, Copy, Drop)]
 pub struct Term {
     // The coefficient beside the cost, if the stamp is the present one; else that is 0.
-    pub rest: i128,
+    pub added: i128,
     // The coefficient of the cost: its absolute value is below 2^62.
     pub cost: i64,
     // From when the coefficient beside the cost is: at most the present stamp.
@@ -22,26 +22,26 @@ const _: () = prove!(size_of::<Term>() == 32);
 
 /// What is of no account yet: nothing is added, and there is no value.
 pub const NOTHING: Term = Term {
-    rest: 0,
+    added: 0,
     cost: 0,
     stamp: 0,
     value: None,
 };
 
 /// The coefficient beside the cost.
-pub fn rest_at(term: &Term, present: u32) -> i128
-    ensures { result ≡ rest_of present term.now }
+pub fn added_at(term: &Term, present: u32) -> i128
+    ensures { result ≡ added_of present term.now }
 {
-    if term.stamp == present { term.rest } else { 0 }
+    if term.stamp == present { term.added } else { 0 }
 }
 
-/// The coefficient of `scale` times the cost, with `rest` added.
-pub fn coefficient(scale: u64, cost: i64, rest: i128) -> i128
-    requires { AreSmall scale cost rest }
-    ensures value { result ≡ (pos scale *ℤ cost) +ℤ rest }
+/// The coefficient of `scale` times the cost, with `added` on top.
+pub fn coefficient(scale: u64, cost: i64, added: i128) -> i128
+    requires { AreSmall scale cost added }
+    ensures value { result ≡ (pos scale *ℤ cost) +ℤ added }
     ensures bound { unsigned_abs result ≤ 2 ^ 125 }
 {
-    scale as i128 * cost as i128 + rest
+    scale as i128 * cost as i128 + added
 }
 
 /// The least that a coefficient gives, where its variable may have a value.
@@ -85,13 +85,13 @@ pub fn raised(sum: i128, by: i128) -> i128
     sum + by
 }
 
-/// The least that a variable gives: `scale` times its coefficient of the cost, plus `rest`.
-pub fn least_at(scale: u64, term: &Term, rest: i128) -> i128
-    requires { AreSmall scale term.now.cost rest }
-    ensures value { result ≡ least_term ((pos scale *ℤ term.now.cost) +ℤ rest) term.now.value }
+/// The least that a variable gives: `scale` times its coefficient of the cost, plus `added`.
+pub fn least_at(scale: u64, term: &Term, added: i128) -> i128
+    requires { AreSmall scale term.now.cost added }
+    ensures value { result ≡ least_term ((pos scale *ℤ term.now.cost) +ℤ added) term.now.value }
     ensures bound { unsigned_abs result ≤ 2 ^ 125 }
 {
-    least_of(coefficient(scale, term.cost, rest), term.value)
+    least_of(coefficient(scale, term.cost, added), term.value)
 }
 
 /// The coefficient of the cost with `weight` added.
@@ -162,11 +162,11 @@ pub fn scaled(scale: u64, least: i128) -> i128
 /// A least value where a variable's literal, negated or not, becomes false.
 pub fn where_false(least: i128, scale: u64, term: &Term, present: u32, negated: bool) -> i128
     requires least { unsigned_abs least < 2 ^ 126 }
-    requires parts { AreSmall scale term.now.cost (rest_of present term.now) }
-    ensures { let c = (pos scale *ℤ term.now.cost) +ℤ rest_of present term.now in
+    requires parts { AreSmall scale term.now.cost (added_of present term.now) }
+    ensures { let c = (pos scale *ℤ term.now.cost) +ℤ added_of present term.now in
         result +ℤ least_term c term.now.value ≡ least +ℤ least_term c (Some negated) }
 {
-    let coefficient = coefficient(scale, term.cost, rest_at(term, present));
+    let coefficient = coefficient(scale, term.cost, added_at(term, present));
     let before = least_of(coefficient, term.value);
     let after = least_of(coefficient, Some(negated));
     moved(least, before, after)

@@ -216,7 +216,9 @@ fn read_left(
 /// The instance and the result that these texts read as, or the verdict on the first fault of
 /// theirs.
 ///
-/// An AllocError comes only where memory was refused.
+/// # Errors
+///
+/// `AllocError` where memory was refused.
 pub fn read_texts(alloc: Global, text: &[u8], answer: &[u8]) -> Result<Texts, AllocError>
     ensures { IfOk result (λ texts. AreRead text.now answer.now texts) }
 {

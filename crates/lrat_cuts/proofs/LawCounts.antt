@@ -150,7 +150,7 @@ module _ (p : Problem) (i : IsInstance p) (k v : ℕ) (f : CostForm) (ns : List 
         groups = λ t c. all_push (IsLow t) ns (Count inputs made.tree 0)
             (h.groups t (count_back t c)) tt;
         facts = λ t c.
-            let e = value_widened (made.fresh - width_of f) f.rest t in
+            let e = value_widened (made.fresh - width_of f) f.added t in
             let s = sum_by_push (slack t) ns (Count inputs made.tree 0) in
             let z = zero-mul (true_count t inputs - true_count t (outputs_of made.tree)) in
             let b = h.facts t (count_back t c) in

@@ -35,7 +35,7 @@ worth_below : (p : Problem) (k v : ℕ) (f : CostForm) (ns : List Numbered) (t :
 worth_below p k v f ns t c w h x off e =
     let same = falsified_length c f.fixed in
     let low = least_below f (falsified c f.fixed) t ((h.wide).cost ∙ sym same)
-    ((h.wide).rest ∙ sym same) (agrees_falsified c f.fixed t (h.fixed t x) off) in
+    ((h.wide).added ∙ sym same) (agrees_falsified c f.fixed t (h.fixed t x) off) in
     let high = form_at_most p k v f ns t h x in
     worth_at_most f.scale (least_where f (falsified c f.fixed)) w (cost_under p t) e
     (omega (arith, ints, low, high))

@@ -78,13 +78,13 @@ less_clause_keeps p k s w c h on =
       holds = holds_form p k s.variables f g s.numbered h
           (record {
             cost = wider.cost;
-            rest = literals_width minus c wide.rest ∙ wider.rest;
+            added = literals_width minus c wide.added ∙ wider.added;
           })
           (widened_more n f) (λ t. value_widened (n - width_of f) f.cost t)
           (λ t x. agrees_widened n f t (h.fixed t x))
           (λ t x.
-          let e = value_widened (n - width_of f) f.rest t in
-          let d = value_literals minus c wide.rest (width_of wide) t (sym wider.rest) known in
+          let e = value_widened (n - width_of f) f.added t in
+          let d = value_literals minus c wide.added (width_of wide) t (sym wider.added) known in
           let m = times_less w (true_count t c) in
           let some = some_true t c (on t x) in
           let product : w * 1 ≤ w * true_count t c = mul-le-mul (omega arith) some in
@@ -120,19 +120,19 @@ module _ (w : ℕ) where
   item_fixed (Group inputs) f = refl
 
   item_width : (x : Numbered) (f : CostForm)
-      → length ((less_item w x f).rest).coefficients ≡ length (f.rest).coefficients
+      → length ((less_item w x f).added).coefficients ≡ length (f.added).coefficients
   item_width (Count inputs tree m) f =
-      literals_width (pos w) (outputs_of tree) (less w inputs f).rest
-      ∙ literals_width (pos 0 -ℤ pos w) inputs f.rest
-  item_width (Group inputs) f = literals_width (pos w) inputs f.rest
+      literals_width (pos w) (outputs_of tree) (less w inputs f).added
+      ∙ literals_width (pos 0 -ℤ pos w) inputs f.added
+  item_width (Group inputs) f = literals_width (pos w) inputs f.added
 
   -- the fact is what it takes from the form, or there is some left
   item_rest : (t : Assignment) (x : Numbered) (f : CostForm) → HasOneWidth f
       → IsItemBelow (width_of f) x → Means t x → IsLow t x
-      → (value (less_item w x f).rest t +ℤ pos (slack t (cited w x)))
-      ≤ℤ (value f.rest t +ℤ pos (slack t x))
+      → (value (less_item w x f).added t +ℤ pos (slack t (cited w x)))
+      ≤ℤ (value f.added t +ℤ pos (slack t x))
   item_rest t (Group inputs) f wide below means low =
-      let d = value_literals (pos w) inputs f.rest (width_of f) t (sym wide.rest) below in
+      let d = value_literals (pos w) inputs f.added (width_of f) t (sym wide.added) below in
       let product : w * true_count t inputs ≤ w * 1 = mul-le-mul (omega arith) low in
       let one = mul-one w in
       omega (arith, ints, d, product, one)
@@ -141,9 +141,9 @@ module _ (w : ℕ) where
       let b = true_count t (outputs_of tree) in
       let g = less w inputs f in
       let minus = pos 0 -ℤ pos w in
-      let e = value_literals minus inputs f.rest (width_of f) t (sym wide.rest) below.known in
-      let d = value_literals (pos w) (outputs_of tree) g.rest (width_of f) t
-      (sym (literals_width minus inputs f.rest ∙ wide.rest))
+      let e = value_literals minus inputs f.added (width_of f) t (sym wide.added) below.known in
+      let d = value_literals (pos w) (outputs_of tree) g.added (width_of f) t
+      (sym (literals_width minus inputs f.added ∙ wide.added))
       (outputs_below (width_of f) tree below.below) in
       let k = times_less w a in
       let most : b ≤ a = omega (
@@ -192,7 +192,7 @@ module _ (p : Problem) (k v : ℕ) (f : CostForm) (ns : List Numbered) (w j : �
     wide = record {
       cost = ap (λ y. length y.coefficients) (item_cost w x f) ∙ (h.wide).cost
           ∙ sym (ap length (item_fixed w x f));
-      rest = item_width w x f ∙ (h.wide).rest ∙ sym (ap length (item_fixed w x f));
+      added = item_width w x f ∙ (h.wide).added ∙ sym (ap length (item_fixed w x f));
     };
     width = subst (λ y. v < length y) (sym (item_fixed w x f)) h.width;
     items = all_set (IsItemBelow (v + 1)) ns j (cited w x) h.items

@@ -33,12 +33,12 @@ fixed_holds p k v f ns l h on =
     let has = widened_wide (l.variable + 1) f h.wide in
     let same = fixed_length l wide.fixed in
     holds_form p k v f (record wide { fixed = fixed_by l wide.fixed }) ns h
-    (record { cost = has.cost ∙ sym same; rest = has.rest ∙ sym same })
+    (record { cost = has.cost ∙ sym same; added = has.added ∙ sym same })
     (omega (arith, widened_more (l.variable + 1) f, same))
     (λ t. value_widened ((l.variable + 1) - width_of f) f.cost t)
     (λ t c. agrees_fixed l wide.fixed t (agrees_widened (l.variable + 1) f t (h.fixed t c))
     (on t c))
-    (λ t c. let e = value_widened ((l.variable + 1) - width_of f) f.rest t in
+    (λ t c. let e = value_widened ((l.variable + 1) - width_of f) f.added t in
     omega (arith, ints, e))
 
 -- a clause that is true wherever it matters

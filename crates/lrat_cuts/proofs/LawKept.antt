@@ -20,7 +20,7 @@ use Rattle.lrat_cuts.specs.Cuts.{on_forms, put, put_all, taken_worth}
 use Rattle.lrat_cuts.proofs.LawLines.{otherwise}
 use Rattle.lrat_cuts.proofs.LawResults.{err_ok, ok_same}
 
-pub record IsKept (P : CutsState → Type 0) : Type 0 where
+pub record IsInvariant (P : CutsState → Type 0) : Type 0 where
   pub put : (id : ℕ) (c : List Literal) (s : CutsState) → s.last < id → P s → P (put id c s)
   pub deleted : (ids : List ℕ) (es : Listed) (s : CutsState) → deleted_from s.live ids ≡ Some es
       → P s → P (record s { live = es })
@@ -28,7 +28,7 @@ pub record IsKept (P : CutsState → Type 0) : Type 0 where
   pub worth : (n : ℕ) (s : CutsState) → P s → P (record s { worth = min s.worth n })
   pub proved : (n : ℕ) (s : CutsState) → P s → P (record s { proved = n })
 
-module _ (P : CutsState → Type 0) (k : IsKept P) (cost : Option ℕ) where
+module _ (P : CutsState → Type 0) (k : IsInvariant P) (cost : Option ℕ) where
   all_put : (cs : List (List Literal)) (s : CutsState) → P s → P (put_all cs s)
   all_put [] s h = h
   all_put (c ∷ cs) s h =

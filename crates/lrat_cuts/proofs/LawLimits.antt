@@ -18,12 +18,12 @@ use Rattle.lrat_machine.specs.Rup.{deleted_from}
 use Rattle.forms.specs.Forms.{cut_line, forms_of}
 use Rattle.lrat_cuts.specs.Cuts.{CutsState, cuts_start, judged_cut, judged_line, judged_lines}
 use Rattle.lrat_cuts.specs.Cuts.{judged_word, put, put_all, taken_worth}
-use Rattle.lrat_cuts.proofs.LawKept.{IsKept, lines_kept}
+use Rattle.lrat_cuts.proofs.LawKept.{IsInvariant, lines_kept}
 use Rattle.lrat_cuts.proofs.LawLines.{otherwise}
 use Rattle.lrat_cuts.proofs.LawResults.{err_ok, ok_same}
 
 -- cuts are worth no more than before
-worth_kept : (most : ℕ) → IsKept (λ s. s.worth ≤ most)
+worth_kept : (most : ℕ) → IsInvariant (λ s. s.worth ≤ most)
 worth_kept most = record {
   put = λ id c s above h. h;
   deleted = λ ids es s e h. h;
@@ -49,7 +49,7 @@ ids_left (i ∷ is) es left last e h =
           (λ x. (0 < x.0) × (x.0 ≤ last)) es h)
     ] refl
 
-ids_kept : IsKept HaveIds
+ids_kept : IsInvariant HaveIds
 ids_kept = record {
   put = λ id c s above h. All-append (λ (x : ℕ × List Literal). (0 < x.0) × (x.0 ≤ id)) s.live
       ((id, c) ∷ [])

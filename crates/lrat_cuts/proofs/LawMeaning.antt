@@ -71,7 +71,7 @@ pub record FormHolds (p : Problem) (k v : ℕ) (f : CostForm) (ns : List Numbere
   pub fixed : (t : Assignment) → IsCheap p k ns t → AgreesWith f.fixed t
   pub groups : (t : Assignment) → IsCheap p k ns t → AllByRecursion (IsLow t) ns
   pub facts : (t : Assignment) → IsCheap p k ns t
-      → (value f.rest t +ℤ pos (sum_by (slack t) ns)) ≤ℤ pos 0
+      → (value f.added t +ℤ pos (sum_by (slack t) ns)) ≤ℤ pos 0
 
 -- where fewer solutions are cheap
 pub cheap_more : (p : Problem) (k m : ℕ) (ns : List Numbered) (t : Assignment) → k ≤ m
@@ -98,7 +98,7 @@ pub holds_form : (p : Problem) (k v : ℕ) (f g : CostForm) (ns : List Numbered)
     → FormHolds p k v f ns → HasOneWidth g → width_of f ≤ width_of g
     → ((t : Assignment) → value g.cost t ≡ value f.cost t)
     → ((t : Assignment) → IsCheap p k ns t → AgreesWith g.fixed t)
-    → ((t : Assignment) → IsCheap p k ns t → value g.rest t ≤ℤ value f.rest t)
+    → ((t : Assignment) → IsCheap p k ns t → value g.added t ≤ℤ value f.added t)
     → FormHolds p k v g ns
 holds_form p k v f g ns h wide width cost fixed rest = record {
   choice = h.choice;

@@ -145,7 +145,7 @@ module _ (p : Problem) (i : IsInstance p) (k v : ℕ) (f : CostForm) (ns : List 
       )
 
   facts : (t : Assignment) → IsCheap p k now t
-      → (value (plus (pos m) (own ∷ []) wide).rest t +ℤ pos (sum_by (slack t) now)) ≤ℤ pos 0
+      → (value (plus (pos m) (own ∷ []) wide).added t +ℤ pos (sum_by (slack t) now)) ≤ℤ pos 0
   facts t c =
       let n = next.fresh in
       let wider = widened_wide n f h.wide in
@@ -162,8 +162,8 @@ module _ (p : Problem) (i : IsInstance p) (k v : ℕ) (f : CostForm) (ns : List 
         outputs,
         new_item.leaves t,
       ) in
-      let e = value_widened (n - width_of f) f.rest t in
-      let d = value_literals (pos m) (own ∷ []) wide.rest (width_of wide) t (sym wider.rest)
+      let e = value_widened (n - width_of f) f.added t in
+      let d = value_literals (pos m) (own ∷ []) wide.added (width_of wide) t (sym wider.added)
       (omega (arith, low, from), tt) in
       let within = slice_get_within ns j old here in
       let there : get_or ns j old ≡ old = get_or_from_slice_get ns j old old here in
@@ -187,7 +187,7 @@ module _ (p : Problem) (i : IsInstance p) (k v : ℕ) (f : CostForm) (ns : List 
         relaxed = omega (arith, h.relaxed, from);
         wide = record {
           cost = wider.cost;
-          rest = literals_width (pos m) (own ∷ []) wide.rest ∙ wider.rest;
+          added = literals_width (pos m) (own ∷ []) wide.added ∙ wider.added;
         };
         width = omega (arith, from, widened_width n f);
         items = subst (λ x. AllByRecursion (IsItemBelow x) now) (sym same)

@@ -35,7 +35,7 @@ module _ (p : Problem) (i : IsInstance p) where
         relaxed = omega arith;
         wide = record {
           cost = weights_width weights (zero_below (last + 1)) ∙ zeros ∙ sym places;
-          rest = zeros ∙ sym places;
+          added = zeros ∙ sym places;
         };
         width = omega (arith, places);
         items = tt;

@@ -13,51 +13,53 @@ use Rattle.cnf.proofs.Laws as laws
 use Rattle.cnf.proofs.Laws.{Layout, rises_least}
 use Rattle.lrat_live.specs.Listed.{Listed, ids_of, listed_at, without_id}
 use Rattle.lrat_live.specs.Chains.{place_of}
-use Rattle.lrat_live.specs.Table.{Cell, keys_of, literals_of, clauses_in, AllLive, IsLaid}
+use Rattle.lrat_live.specs.Table.{EntrySpan, keys_of, literals_in, clauses_in, AllLive, IsLaid}
 use Rattle.lrat_live.specs.Table.{IsAboveLast}
 use Rattle.lrat_live.proofs.Chains.{newest_some, newest_first, newest_nowhere, newest_passes}
 use Rattle.lrat_live.proofs.Chains.{newest-le, cases_zero}
 
--- cells over flat literals, by the laws of pieces that are laid one after another
-abbrev cells : Layout Cell Literal (ℕ × List Literal)
-cells = record {
+-- spans over flat literals, by the laws of pieces that are laid one after another
+abbrev spans : Layout EntrySpan Literal (ℕ × List Literal)
+spans = record {
   start = λ c. c.start;
   length = λ c. c.length;
   live = λ c. c.live;
   listed = λ c l. (c.id, l);
 }
 
-pub laid_within : (from to : ℕ) (cs : List Cell) (i : ℕ) (d : Cell) → IsLaid from cs to
+pub laid_within : (from to : ℕ) (cs : List EntrySpan) (i : ℕ) (d : EntrySpan) → IsLaid from cs to
     → i < length cs → (get_or cs i d).start + (get_or cs i d).length ≤ to
-laid_within = laws.laid_within cells
+laid_within = laws.laid_within spans
 
-pub laid_push : (from to : ℕ) (cs : List Cell) (c : Cell) → IsLaid from cs to → c.start ≡ to
+pub laid_push : (from to : ℕ) (cs : List EntrySpan) (c : EntrySpan) → IsLaid from cs to
+    → c.start ≡ to
     → IsLaid from (cs ++ c ∷ []) (to + c.length)
-laid_push = laws.laid_push cells
+laid_push = laws.laid_push spans
 
-pub laid_set : (from to : ℕ) (cs : List Cell) (i : ℕ) (c d : Cell) → IsLaid from cs to
+pub laid_set : (from to : ℕ) (cs : List EntrySpan) (i : ℕ) (c d : EntrySpan) → IsLaid from cs to
     → c.start ≡ (get_or cs i d).start → c.length ≡ (get_or cs i d).length
     → IsLaid from (set cs i c) to
-laid_set = laws.laid_set cells
+laid_set = laws.laid_set spans
 
-pub clauses_live : (ls : List Literal) (c : Cell) (cs : List Cell) → c.live ≡ true
-    → clauses_in ls (c ∷ cs) ≡ (c.id, literals_of ls c) ∷ clauses_in ls cs
-clauses_live = laws.pieces_live cells
+pub clauses_live : (ls : List Literal) (c : EntrySpan) (cs : List EntrySpan) → c.live ≡ true
+    → clauses_in ls (c ∷ cs) ≡ (c.id, literals_in ls c) ∷ clauses_in ls cs
+clauses_live = laws.pieces_live spans
 
-pub clauses_dead : (ls : List Literal) (c : Cell) (cs : List Cell) → c.live ≡ false
+pub clauses_dead : (ls : List Literal) (c : EntrySpan) (cs : List EntrySpan) → c.live ≡ false
     → clauses_in ls (c ∷ cs) ≡ clauses_in ls cs
-clauses_dead = laws.pieces_dead cells
+clauses_dead = laws.pieces_dead spans
 
-pub clauses-append : (ls : List Literal) (xs ys : List Cell)
+pub clauses-append : (ls : List Literal) (xs ys : List EntrySpan)
     → clauses_in ls (xs ++ ys) ≡ clauses_in ls xs ++ clauses_in ls ys
-clauses-append = laws.pieces-append cells
+clauses-append = laws.pieces-append spans
 
-pub clauses_push : (ls more : List Literal) (cs : List Cell) (c : Cell) → IsLaid 0 cs (length ls)
+pub clauses_push : (ls more : List Literal) (cs : List EntrySpan) (c : EntrySpan)
+    → IsLaid 0 cs (length ls)
     → c.start ≡ length ls → c.length ≡ length more → c.live ≡ true
     → clauses_in (ls ++ more) (cs ++ c ∷ []) ≡ clauses_in ls cs ++ (c.id, more) ∷ []
-clauses_push = laws.pieces_push cells
+clauses_push = laws.pieces_push spans
 
-pub clauses-le : (ls : List Literal) (cs : List Cell) → length (clauses_in ls cs) ≤ length cs
+pub clauses-le : (ls : List Literal) (cs : List EntrySpan) → length (clauses_in ls cs) ≤ length cs
 clauses-le ls [] = omega arith
 clauses-le ls (c ∷ cs) =
     elim (cases_Bool c.live) [
@@ -66,31 +68,31 @@ clauses-le ls (c ∷ cs) =
     ]
 
 -- entries and literals are moved together, as far as i
-abbrev pub IsCompacting : List Literal → List Cell → ℕ → ℕ → ℕ → Listed → Type 0
-IsCompacting = laws.IsCompacting cells
+abbrev pub IsCompacting : List Literal → List EntrySpan → ℕ → ℕ → ℕ → Listed → Type 0
+IsCompacting = laws.IsCompacting spans
 
-pub compacting_all : (ls : List Literal) (cs : List Cell) (kept end i : ℕ) (value : Listed)
+pub compacting_all : (ls : List Literal) (cs : List EntrySpan) (kept end i : ℕ) (value : Listed)
     → IsCompacting ls cs kept end i value → length cs ≤ i
     → (end ≤ length ls) × IsLaid 0 (take kept cs) (length (take end ls))
     × (clauses_in (take end ls) (take kept cs) ≡ value)
-compacting_all = laws.compacting_all cells
+compacting_all = laws.compacting_all spans
 
-module _ (ls : List Literal) (cs : List Cell) (kept end i : ℕ) (value : Listed) (d : Cell)
+module _ (ls : List Literal) (cs : List EntrySpan) (kept end i : ℕ) (value : Listed) (d : EntrySpan)
     (s : IsCompacting ls cs kept end i value) (h : i < length cs) where
-  abbrev c : Cell
+  abbrev c : EntrySpan
   c = get_or cs i d
 
   pub moved_within : (end ≤ c.start) × (c.start + c.length ≤ length ls)
-  moved_within = laws.moved_within cells ls cs kept end i value d s h
+  moved_within = laws.moved_within spans ls cs kept end i value d s h
 
   pub compacting_dead : c.live ≡ false → IsCompacting ls cs kept end (i + 1) value
-  compacting_dead = laws.compacting_dead cells ls cs kept end i value d s h
+  compacting_dead = laws.compacting_dead spans ls cs kept end i value d s h
 
-  pub compacting_live : (z : Cell) → c.live ≡ true → z.id ≡ c.id → z.start ≡ end
+  pub compacting_live : (z : EntrySpan) → c.live ≡ true → z.id ≡ c.id → z.start ≡ end
       → z.length ≡ c.length → z.live ≡ true → IsCompacting (paste ls end (drop c.start ls) c.length)
       (set cs kept z) (kept + 1) (end + c.length) (i + 1) value
   compacting_live z live id start long lives =
-      laws.compacting_live cells ls cs kept end i value d s h z live start long lives
+      laws.compacting_live spans ls cs kept end i value d s h z live start long lives
       (λ l. ap (λ n. (n, l)) id)
 
 -- what is listed under an id
@@ -119,8 +121,8 @@ without_none i (e ∷ es) h =
           ∙ ap (λ x. e ∷ x) (without_none i es (sym (listed_other i e es f) ∙ h))
     ]
 
--- no cell has the id
-pub listed_nowhere : (ls : List Literal) (cs : List Cell) (i : ℕ) → place_of i (keys_of cs) ≡ 0
+-- no span has the id
+pub listed_nowhere : (ls : List Literal) (cs : List EntrySpan) (i : ℕ) → place_of i (keys_of cs) ≡ 0
     → listed_at (clauses_in ls cs) i ≡ None
 listed_nowhere ls [] i h = refl
 listed_nowhere ls (c ∷ cs) i h =
@@ -130,7 +132,7 @@ listed_nowhere ls (c ∷ cs) i h =
         | inl t ↦ absurd (omega (arith, newest_first (λ k. k == i) c.id (keys_of cs) e t))
         | inr f ↦ elim (cases_Bool c.live) [
           | inl l ↦ ap (λ es. listed_at es i) (clauses_live ls c cs l)
-              ∙ listed_other i (c.id, literals_of ls c) (clauses_in ls cs) f
+              ∙ listed_other i (c.id, literals_in ls c) (clauses_in ls cs) f
               ∙ listed_nowhere ls cs i e
           | inr l ↦ ap (λ es. listed_at es i) (clauses_dead ls c cs l) ∙ listed_nowhere ls cs i e
         ]
@@ -148,7 +150,8 @@ rises_push least (x ∷ y ∷ ks) k r h l =
     omega (arith, z, rises_least (x + 1) (y ∷ ks) (length ks) r.1 (omega arith)) in
     (r.0, rises_push (x + 1) (y ∷ ks) k r.1 up (λ p e. l (suc p) (omega arith)))
 
-pub rises_clauses : (ls : List Literal) (least : ℕ) (cs : List Cell) → RisesFrom least (keys_of cs)
+pub rises_clauses : (ls : List Literal) (least : ℕ) (cs : List EntrySpan)
+    → RisesFrom least (keys_of cs)
     → RisesFrom least (ids_of (clauses_in ls cs))
 rises_clauses ls least [] r = tt
 rises_clauses ls least (c ∷ cs) r =
@@ -162,7 +165,7 @@ rises_clauses ls least (c ∷ cs) r =
           (rises_clauses ls (c.id + 1) cs r.1))
     ]
 
-pub live_ids : (ls : List Literal) (cs : List Cell) → AllLive cs
+pub live_ids : (ls : List Literal) (cs : List EntrySpan) → AllLive cs
     → ids_of (clauses_in ls cs) ≡ keys_of cs
 live_ids ls [] h = refl
 live_ids ls (c ∷ cs) h = ap ids_of (clauses_live ls c cs h.0)
@@ -192,7 +195,8 @@ place_rising least key (x ∷ ks) (suc p) r h e =
     newest_some (λ k. k == key) x ks p (omega (arith, next)) ∙ omega arith
 
 -- the entry of an id, found or deleted
-later_key : (c : Cell) (cs : List Cell) (i p least : ℕ) → RisesFrom least (keys_of (c ∷ cs))
+later_key : (c : EntrySpan) (cs : List EntrySpan) (i p least : ℕ)
+    → RisesFrom least (keys_of (c ∷ cs))
     → place_of i (keys_of cs) ≡ p + 1 → (c.id == i) ≡ false
 later_key c cs i p least r e =
     let there : slice_index (keys_of cs) p ≡ i =
@@ -202,7 +206,7 @@ later_key c cs i p least r e =
     rises_least (c.id + 1) (keys_of cs) p r.1 in' in
     ne_eqb c.id i (λ u. absurd (omega arith))
 
-place_first : (c : Cell) (cs : List Cell) (i : ℕ) → place_of i (keys_of (c ∷ cs)) ≡ 0 + 1
+place_first : (c : EntrySpan) (cs : List EntrySpan) (i : ℕ) → place_of i (keys_of (c ∷ cs)) ≡ 0 + 1
     → ((c.id == i) ≡ true) × (place_of i (keys_of cs) ≡ 0)
 place_first c cs i e =
     elim (cases_zero (place_of i (keys_of cs))) [
@@ -213,7 +217,8 @@ place_first c cs i e =
       ]
     ]
 
-place_later : (c : Cell) (cs : List Cell) (i p : ℕ) → place_of i (keys_of (c ∷ cs)) ≡ suc p + 1
+place_later : (c : EntrySpan) (cs : List EntrySpan) (i p : ℕ)
+    → place_of i (keys_of (c ∷ cs)) ≡ suc p + 1
     → place_of i (keys_of cs) ≡ p + 1
 place_later c cs i p e =
     elim (cases_zero (place_of i (keys_of cs))) [
@@ -224,25 +229,25 @@ place_later c cs i p e =
       ]
     ]
 
-pub listed_live : (ls : List Literal) (least : ℕ) (cs : List Cell) (i p : ℕ) (d : Cell)
+pub listed_live : (ls : List Literal) (least : ℕ) (cs : List EntrySpan) (i p : ℕ) (d : EntrySpan)
     → RisesFrom least (keys_of cs) → place_of i (keys_of cs) ≡ p + 1 → (get_or cs p d).live ≡ true
-    → listed_at (clauses_in ls cs) i ≡ Some (literals_of ls (get_or cs p d))
+    → listed_at (clauses_in ls cs) i ≡ Some (literals_in ls (get_or cs p d))
 listed_live ls least [] i p d r e l = absurd (omega arith)
 listed_live ls least (c ∷ cs) i zero d r e l =
     let h = place_first c cs i e in
     ap (λ es. listed_at es i) (clauses_live ls c cs l)
-    ∙ listed_here i (c.id, literals_of ls c) (clauses_in ls cs) h.0
+    ∙ listed_here i (c.id, literals_in ls c) (clauses_in ls cs) h.0
 listed_live ls least (c ∷ cs) i (suc p) d r e l =
     let g = place_later c cs i p e in
     let f = later_key c cs i p least r g in
     let next = listed_live ls (c.id + 1) cs i p d r.1 g l in
     elim (cases_Bool c.live) [
       | inl h ↦ ap (λ es. listed_at es i) (clauses_live ls c cs h)
-          ∙ listed_other i (c.id, literals_of ls c) (clauses_in ls cs) f ∙ next
+          ∙ listed_other i (c.id, literals_in ls c) (clauses_in ls cs) f ∙ next
       | inr h ↦ ap (λ es. listed_at es i) (clauses_dead ls c cs h) ∙ next
     ]
 
-pub listed_dead : (ls : List Literal) (least : ℕ) (cs : List Cell) (i p : ℕ) (d : Cell)
+pub listed_dead : (ls : List Literal) (least : ℕ) (cs : List EntrySpan) (i p : ℕ) (d : EntrySpan)
     → RisesFrom least (keys_of cs) → place_of i (keys_of cs) ≡ p + 1 → (get_or cs p d).live ≡ false
     → listed_at (clauses_in ls cs) i ≡ None
 listed_dead ls least [] i p d r e l = absurd (omega arith)
@@ -255,12 +260,13 @@ listed_dead ls least (c ∷ cs) i (suc p) d r e l =
     let next = listed_dead ls (c.id + 1) cs i p d r.1 g l in
     elim (cases_Bool c.live) [
       | inl h ↦ ap (λ es. listed_at es i) (clauses_live ls c cs h)
-          ∙ listed_other i (c.id, literals_of ls c) (clauses_in ls cs) f ∙ next
+          ∙ listed_other i (c.id, literals_in ls c) (clauses_in ls cs) f ∙ next
       | inr h ↦ ap (λ es. listed_at es i) (clauses_dead ls c cs h) ∙ next
     ]
 
 -- the entry of an id becomes dead
-pub clauses_deleted : (ls : List Literal) (least : ℕ) (cs : List Cell) (i p : ℕ) (z : Cell)
+pub clauses_deleted : (ls : List Literal) (least : ℕ) (cs : List EntrySpan) (i p : ℕ)
+    (z : EntrySpan)
     → RisesFrom least (keys_of cs) → place_of i (keys_of cs) ≡ p + 1 → z.live ≡ false
     → clauses_in ls (set cs p z) ≡ without_id i (clauses_in ls cs)
 clauses_deleted ls least [] i p z r e l = absurd (omega arith)
@@ -269,7 +275,7 @@ clauses_deleted ls least (c ∷ cs) i zero z r e l =
     let rest = without_none i (clauses_in ls cs) (listed_nowhere ls cs i h.1) in
     clauses_dead ls z cs l ∙ sym (elim (cases_Bool c.live) [
       | inl v ↦ ap (without_id i) (clauses_live ls c cs v)
-          ∙ without_here i (c.id, literals_of ls c) (clauses_in ls cs) h.0 ∙ rest
+          ∙ without_here i (c.id, literals_in ls c) (clauses_in ls cs) h.0 ∙ rest
       | inr v ↦ ap (without_id i) (clauses_dead ls c cs v) ∙ rest
     ])
 clauses_deleted ls least (c ∷ cs) i (suc p) z r e l =
@@ -277,9 +283,9 @@ clauses_deleted ls least (c ∷ cs) i (suc p) z r e l =
     let f = later_key c cs i p least r g in
     let next = clauses_deleted ls (c.id + 1) cs i p z r.1 g l in
     elim (cases_Bool c.live) [
-      | inl v ↦ clauses_live ls c (set cs p z) v ∙ ap (λ es. (c.id, literals_of ls c) ∷ es) next
+      | inl v ↦ clauses_live ls c (set cs p z) v ∙ ap (λ es. (c.id, literals_in ls c) ∷ es) next
           ∙ sym (ap (without_id i) (clauses_live ls c cs v)
-          ∙ without_other i (c.id, literals_of ls c) (clauses_in ls cs) f)
+          ∙ without_other i (c.id, literals_in ls c) (clauses_in ls cs) f)
       | inr v ↦ clauses_dead ls c (set cs p z) v ∙ next
           ∙ sym (ap (without_id i) (clauses_dead ls c cs v))
     ]

@@ -16,13 +16,14 @@ use Rattle.cnf.specs.Numbers.{one_if}
 use Rattle.cnf.specs.Literal.{Literal, literal_eq, same_bool, index_of}
 use Rattle.cnf.specs.Clause.{contains_literal}
 use Rattle.cnf.proofs.Laws.{literal_eq-true}
-use Rattle.lrat_live.specs.Counts.{times_in, times, times_at, is_next, take_all, AreCounts, Takes}
+use Rattle.lrat_live.specs.Counts.{times_in, times, times_at, is_next, take_all, AreCounts}
+use Rattle.lrat_live.specs.Counts.{AreTaken}
 use Rattle.lrat_live.specs.Counts.{AreRaised, AreLowered}
 use Rattle.lrat_live.specs.Listed.{Listed, ids_of, ids_listed, listed_at, same_ids, without_id}
 use Rattle.lrat_live.proofs.Listed.{Rises}
 use Rattle.cnf.proofs.Laws.{literal_eq-refl, index_same}
 use Rattle.lrat_live.proofs.Clauses.{clauses_live, clauses_dead, clauses-append}
-use Rattle.lrat_live.specs.Table.{cell_of, cells_of, clauses_in}
+use Rattle.lrat_live.specs.Table.{entry_span, entry_spans, clauses_in}
 use Rattle.lrat_live.specs.declared.entries.AddedEntry.{AddedEntry}
 
 -- numbers
@@ -438,7 +439,8 @@ positive (e ∷ es) h =
 
 -- what is taken in part
 takes_after : (l : Literal) (j : ℕ) (c : List Literal) (es : Listed) (left before : ℕ)
-    (ids : List ℕ) → j ≤ before → Takes l ((j, c) ∷ es) left before ids → Takes l es left before ids
+    (ids : List ℕ) → j ≤ before → AreTaken l ((j, c) ∷ es) left before ids
+    → AreTaken l es left before ids
 takes_after l j c es left before [] h t = t
 takes_after l j c es left before (i ∷ is) h t =
     let p = next_parts before i t.0 left t.1 in
@@ -450,8 +452,8 @@ takes_after l j c es left before (i ∷ is) h t =
     )
 
 takes_none : (l : Literal) (j : ℕ) (c : List Literal) (es : Listed) (left before : ℕ)
-    (ids : List ℕ) → contains_literal l c ≡ false → Takes l ((j, c) ∷ es) left before ids
-    → Takes l es left before ids
+    (ids : List ℕ) → contains_literal l c ≡ false → AreTaken l ((j, c) ∷ es) left before ids
+    → AreTaken l es left before ids
 takes_none l j c es left before [] none t = t
 takes_none l j c es left before (i ∷ is) none t =
     let p = next_parts before i t.0 left t.1 in (
@@ -469,14 +471,14 @@ takes_none l j c es left before (i ∷ is) none t =
 
 -- from a lower id on
 takes_from : (l : Literal) (es : Listed) (left before j i : ℕ) (is : List ℕ) → j < i
-    → Takes l es left before (i ∷ is) → Takes l es left j (i ∷ is)
+    → AreTaken l es left before (i ∷ is) → AreTaken l es left j (i ∷ is)
 takes_from l es left before j i is h t =
     let p = next_parts before i t.0 left t.1 in
     (t.0, next_from j i t.0 left h p.1 p.2, t.2, t.3)
 
 pub takes_le : (l : Literal) (before left : ℕ) (es : Listed) (ids : List ℕ)
     → AllByRecursion (λ y. before < y) (ids_of es) → Rises (ids_of es)
-    → Takes l es left before ids → left ≤ times l es
+    → AreTaken l es left before ids → left ≤ times l es
 takes_le l before left es [] above r t = omega (arith, t)
 takes_le l before left [] (i ∷ is) above r t =
     let p = next_parts before i t.0 left t.1 in absurd (omega (arith, p.1, t.2))
@@ -485,8 +487,8 @@ takes_le l before left ((j, c) ∷ es) (i ∷ is) above r t =
     elim (cases_eq i j) [
       | inl same ↦
           let n : t.0 ≤ times_in l c = subst (λ k. t.0 ≤ k) (times_here l j c es i same) t.2 in
-          let rest : Takes l es (left - t.0) j is =
-          subst (λ k. Takes l es (left - t.0) k is) same
+          let rest : AreTaken l es (left - t.0) j is =
+          subst (λ k. AreTaken l es (left - t.0) k is) same
           (takes_after l j c es (left - t.0) i is (omega (arith, same)) t.3) in
           let h = takes_le l j (left - t.0) es is r.0 r.1 rest in
           omega (arith, h, n, p.2)
@@ -497,7 +499,7 @@ takes_le l before left ((j, c) ∷ es) (i ∷ is) above r t =
             absurd (omega (arith, p.1, z, t.2))
         | inr ge ↦
             let past : j < i = omega arith in
-            let again : Takes l es left j (i ∷ is) =
+            let again : AreTaken l es left j (i ∷ is) =
             takes_after l j c es left j (i ∷ is) (omega arith)
             (takes_from l ((j, c) ∷ es) left before j i is past t) in
             let h = takes_le l j left es (i ∷ is) r.0 r.1 again in
@@ -507,7 +509,7 @@ takes_le l before left ((j, c) ∷ es) (i ∷ is) above r t =
 
 pub takes_all : (l : Literal) (before : ℕ) (es : Listed) (ids : List ℕ)
     → AllByRecursion (λ y. before < y) (ids_of es) → Rises (ids_of es)
-    → Takes l es (times l es) before ids → same_ids ids (ids_listed l es) ≡ true
+    → AreTaken l es (times l es) before ids → same_ids ids (ids_listed l es) ≡ true
 takes_all l before [] [] above r t = refl
 takes_all l before [] (i ∷ is) above r t =
     let p = next_parts before i t.0 0 t.1 in absurd (omega (arith, p.1, p.2))
@@ -518,7 +520,7 @@ takes_all l before ((j, c) ∷ es) ids above r t =
           let total : times l ((j, c) ∷ es) ≡ times l es = omega (arith, zero_in) in
           ap (same_ids ids) (listed_no l j c es none)
           ∙ takes_all l before es ids above.1 r.1
-          (subst (λ n. Takes l es n before ids) total
+          (subst (λ n. AreTaken l es n before ids) total
           (takes_none l j c es (times l ((j, c) ∷ es)) before ids none t))
       | inl has ↦ ap (same_ids ids) (listed_yes l j c es has)
           ∙ named l before j c es ids above r has
@@ -528,8 +530,8 @@ takes_all l before ((j, c) ∷ es) ids above r t =
     named : (l : Literal) (before j : ℕ) (c : List Literal) (es : Listed) (ids : List ℕ)
         → AllByRecursion (λ y. before < y) (j ∷ ids_of es) → Rises (j ∷ ids_of es)
         → contains_literal l c ≡ true
-        → ((is : List ℕ) → Takes l es (times l es) j is → same_ids is (ids_listed l es) ≡ true)
-        → Takes l ((j, c) ∷ es) (times_in l c + times l es) before ids
+        → ((is : List ℕ) → AreTaken l es (times l es) j is → same_ids is (ids_listed l es) ≡ true)
+        → AreTaken l ((j, c) ∷ es) (times_in l c + times l es) before ids
         → same_ids ids (j ∷ ids_listed l es) ≡ true
     named l before j c es [] above r has rest_all t =
         let some = times_some l c has in absurd (omega (arith, some, t))
@@ -539,15 +541,15 @@ takes_all l before ((j, c) ∷ es) ids above r t =
         elim (cases_eq i j) [
           | inl same ↦
               let n : t.0 ≤ times_in l c = subst (λ k. t.0 ≤ k) (times_here l j c es i same) t.2 in
-              let rest : Takes l es (times_in l c + times l es - t.0) j is =
-              subst (λ k. Takes l es (times_in l c + times l es - t.0) k is) same
+              let rest : AreTaken l es (times_in l c + times l es - t.0) j is =
+              subst (λ k. AreTaken l es (times_in l c + times l es - t.0) k is) same
               (takes_after l j c es (times_in l c + times l es - t.0) i is (omega (arith, same))
               t.3) in
               let h = takes_le l j (times_in l c + times l es - t.0) es is r.0 r.1 rest in
               let left : times_in l c + times l es - t.0 ≡ times l es =
               omega (arith, h, n, p.2) in
               and_from _ _ (eq-eqb i j same)
-              (rest_all is (subst (λ k. Takes l es k j is) left rest))
+              (rest_all is (subst (λ k. AreTaken l es k j is) left rest))
           | inr other ↦ elim (cases_lt i j) [
             | inl lt ↦
                 let z : times_at l ((j, c) ∷ es) i ≡ 0 = times_there l j c es i other
@@ -555,7 +557,7 @@ takes_all l before ((j, c) ∷ es) ids above r t =
                 absurd (omega (arith, p.1, z, t.2))
             | inr ge ↦
                 let past : j < i = omega arith in
-                let again : Takes l es (times_in l c + times l es) j (i ∷ is) =
+                let again : AreTaken l es (times_in l c + times l es) j (i ∷ is) =
                 takes_after l j c es (times_in l c + times l es) j (i ∷ is) (omega arith)
                 (takes_from l ((j, c) ∷ es) (times_in l c + times l es) before j i is past t) in
                 let h = takes_le l j (times_in l c + times l es) es (i ∷ is) r.0 r.1 again in
@@ -564,40 +566,40 @@ takes_all l before ((j, c) ∷ es) ids above r t =
         ]
 
 pub takes_start : (l : Literal) (es : Listed) → All (λ e. 0 < e.0) es → Rises (ids_of es)
-    → (ids : List ℕ) → Takes l es (times l es) 0 ids → same_ids ids (ids_listed l es) ≡ true
+    → (ids : List ℕ) → AreTaken l es (times l es) 0 ids → same_ids ids (ids_listed l es) ≡ true
 takes_start l es from_one r ids t = takes_all l 0 es ids (positive es from_one) r t
 
 -- the clauses of the first entries
 pub counts_none : (counts : ℕ → ℕ) → ((p : ℕ) → counts p ≡ 0) → AreCounts counts []
 counts_none counts none = λ l p. none (index_of l)
 
-more_cells : (es : List AddedEntry) (i : ℕ) (d : AddedEntry) → i < length es
-    → cells_of (take (i + 1) es) ≡ cells_of (take i es) ++ cell_of (get_or es i d) ∷ []
-more_cells es i d h = ap cells_of (take_more es i d h)
-    ∙ map_push cell_of (take i es) (get_or es i d)
+more_spans : (es : List AddedEntry) (i : ℕ) (d : AddedEntry) → i < length es
+    → entry_spans (take (i + 1) es) ≡ entry_spans (take i es) ++ entry_span (get_or es i d) ∷ []
+more_spans es i d h = ap entry_spans (take_more es i d h)
+    ∙ map_push entry_span (take i es) (get_or es i d)
 
 pub more_dead : (ls : List Literal) (es : List AddedEntry) (i : ℕ) (d : AddedEntry) → i < length es
-    → (get_or es i d).live ≡ false → clauses_in ls (cells_of (take (i + 1) es)) ≡ clauses_in ls
-    (cells_of (take i es))
+    → (get_or es i d).live ≡ false → clauses_in ls (entry_spans (take (i + 1) es)) ≡ clauses_in ls
+    (entry_spans (take i es))
 more_dead ls es i d h dead =
-    ap (clauses_in ls) (more_cells es i d h)
-    ∙ clauses-append ls (cells_of (take i es)) (cell_of (get_or es i d) ∷ [])
-    ∙ ap (λ cs. clauses_in ls (cells_of (take i es)) ++ cs)
-    (clauses_dead ls (cell_of (get_or es i d)) [] dead)
-    ∙ append-nil (clauses_in ls (cells_of (take i es)))
+    ap (clauses_in ls) (more_spans es i d h)
+    ∙ clauses-append ls (entry_spans (take i es)) (entry_span (get_or es i d) ∷ [])
+    ∙ ap (λ cs. clauses_in ls (entry_spans (take i es)) ++ cs)
+    (clauses_dead ls (entry_span (get_or es i d)) [] dead)
+    ∙ append-nil (clauses_in ls (entry_spans (take i es)))
 
 pub more_live : (ls : List Literal) (es : List AddedEntry) (i : ℕ) (d : AddedEntry) → i < length es
     → (get_or es i d).live ≡ true
-    → clauses_in ls (cells_of (take (i + 1) es)) ≡ clauses_in ls (cells_of (take i es))
+    → clauses_in ls (entry_spans (take (i + 1) es)) ≡ clauses_in ls (entry_spans (take i es))
     ++ (
       (get_or es i d).id,
       slice_range ls (get_or es i d).start ((get_or es i d).start + (get_or es i d).length),
     ) ∷ []
 more_live ls es i d h live =
-    ap (clauses_in ls) (more_cells es i d h)
-    ∙ clauses-append ls (cells_of (take i es)) (cell_of (get_or es i d) ∷ [])
-    ∙ ap (λ cs. clauses_in ls (cells_of (take i es)) ++ cs)
-    (clauses_live ls (cell_of (get_or es i d)) [] live)
+    ap (clauses_in ls) (more_spans es i d h)
+    ∙ clauses-append ls (entry_spans (take i es)) (entry_span (get_or es i d) ∷ [])
+    ∙ ap (λ cs. clauses_in ls (entry_spans (take i es)) ++ cs)
+    (clauses_live ls (entry_span (get_or es i d)) [] live)
 
 -- the candidates of a line
 pub agrees_start : (l : Literal) (es : Listed) → All (λ e. 0 < e.0) es → Rises (ids_of es)

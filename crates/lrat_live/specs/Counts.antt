@@ -51,7 +51,8 @@ abbrev pub times_at : Literal → List (ℕ × List Literal) → ℕ → ℕ
 times_at l es i = times_of l (listed_at es i)
 
 -- as take_all, where each clause has the literal in at least as many places as are taken
-abbrev pub Takes : Literal → List (ℕ × List Literal) → ℕ → ℕ → List ℕ → Type 0
-Takes l es left before [] = left ≡ 0
-Takes l es left before (i ∷ is) =
-    (n : ℕ) × (is_next before i n left ≡ true) × (n ≤ times_at l es i) × Takes l es (left - n) i is
+abbrev pub AreTaken : Literal → List (ℕ × List Literal) → ℕ → ℕ → List ℕ → Type 0
+AreTaken l es left before [] = left ≡ 0
+AreTaken l es left before (i ∷ is) =
+    (n : ℕ) × (is_next before i n left ≡ true) × (n ≤ times_at l es i)
+    × AreTaken l es (left - n) i is

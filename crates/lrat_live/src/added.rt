@@ -44,9 +44,9 @@ impl Model for Added {
 
     ghost Value = { List (ℕ × List Literal) };
 
-    ghost use Rattle.lrat_live.specs.Table.{cells_of, clauses_in, IsTable};
+    ghost use Rattle.lrat_live.specs.Table.{entry_spans, clauses_in, IsTable};
 
-    ghost view = { λ s. clauses_in s.lits.items (cells_of s.entries.items) };
+    ghost view = { λ s. clauses_in s.lits.items (entry_spans s.entries.items) };
 
     ghost invariant = { λ s. IsTable s.lits.items s.entries.items s.heads.items };
 }

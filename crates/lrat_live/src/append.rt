@@ -1,6 +1,6 @@
 // One more clause behind those of a table.
 ghost use Rattle.std.specs.Prelude.{◌≡◌, ◌∷◌, [], ◌++◌, OnOk, OnErr};
-ghost use Rattle.lrat_live.specs.Table.{cells_of, keys_of, clauses_in, IsTable, IsGrown};
+ghost use Rattle.lrat_live.specs.Table.{entry_spans, keys_of, clauses_in, IsTable, IsGrown};
 ghost use Rattle.lrat_live.specs.Table.{IsAboveLast};
 
 use crate::entries::{AddedEntry, bucket, grow};
@@ -17,14 +17,16 @@ pub(crate) fn append(
     clause: &[Lit],
 ) -> Result<(), AllocError>
     requires table { IsTable lits.old.items entries.old.items heads.old.items }
-    requires above { IsAboveLast id (keys_of (cells_of entries.old.items)) }
+    requires above { IsAboveLast id (keys_of (entry_spans entries.old.items)) }
     ensures table { IsTable lits.new.items entries.new.items heads.new.items }
-    ensures ok { OnOk result (clauses_in lits.new.items (cells_of entries.new.items)
-        ≡ clauses_in lits.old.items (cells_of entries.old.items) ++ (id, clause.now) ∷ []) }
-    ensures kept { OnOk result (IsGrown lits.old.items (cells_of entries.old.items) lits.new.items
-        (cells_of entries.new.items)) }
+    ensures ok { OnOk result (clauses_in lits.new.items (entry_spans entries.new.items)
+        ≡ clauses_in lits.old.items (entry_spans entries.old.items) ++ (id, clause.now) ∷ []) }
+    ensures kept { OnOk result
+        (IsGrown lits.old.items (entry_spans entries.old.items) lits.new.items
+        (entry_spans entries.new.items)) }
     ensures err_literals { OnErr result (lits.new.items ≡ lits.old.items) }
-    ensures err_entries { OnErr result (cells_of entries.new.items ≡ cells_of entries.old.items) }
+    ensures err_entries { OnErr result
+        (entry_spans entries.new.items ≡ entry_spans entries.old.items) }
 {
     let start = lits.len();
     if entries.len() >= MOST_KEPT || clause.len() > MOST_KEPT - start {

@@ -5,7 +5,7 @@ ghost use Rattle.cnf.specs.Literal.{Literal, index_of};
 ghost use Rattle.lrat_live.specs.Counts.{times_in, is_next, AreCounts, AreRaised};
 ghost use Rattle.lrat_live.specs.Counts.{AreLowered};
 ghost use Rattle.lrat_live.specs.Pages.{count_in};
-ghost use Rattle.lrat_live.specs.Table.{cells_of, clauses_in, IsLaid};
+ghost use Rattle.lrat_live.specs.Table.{entry_spans, clauses_in, IsLaid};
 
 use crate::entries::AddedEntry;
 use crate::pages::Counts;
@@ -83,9 +83,9 @@ pub(crate) fn count_entries(
     lits: &[Lit],
     entries: &[AddedEntry],
 ) -> Result<(), AllocError>
-    requires { IsLaid 0 (cells_of entries.now) (length lits.now) }
+    requires { IsLaid 0 (entry_spans entries.now) (length lits.now) }
     ensures { OnOk result ((es : List (ℕ × List Literal)) → AreCounts (count_in counts.old) es
-        → AreCounts (count_in counts.new) (es ++ clauses_in lits.now (cells_of entries.now))) }
+        → AreCounts (count_in counts.new) (es ++ clauses_in lits.now (entry_spans entries.now))) }
 {
     for entry in entries {
         if !entry.live {

@@ -9,7 +9,7 @@ ghost use Rattle.std.specs.Prelude.{◌≡◌, ◌+◌, ◌-◌, ◌<◌, ◌≤
 ghost use Rattle.std.specs.Prelude.{IsTrue, ◌↔◌, IfSome};
 ghost use Rattle.cnf.specs.Numbers.{RisesFrom};
 ghost use Rattle.lrat_live.specs.Chains.{folded, bucket_of, place_of, IsChained};
-ghost use Rattle.lrat_live.specs.Table.{cells_of, keys_of, nexts_of, IsAboveLast};
+ghost use Rattle.lrat_live.specs.Table.{entry_spans, keys_of, nexts_of, IsAboveLast};
 ghost use Rattle.lrat_live.specs.declared.spans.TheConstants.{MOST_KEPT};
 
 use std::alloc::AllocError;
@@ -51,8 +51,8 @@ pub(crate) fn bucket(id: u64, buckets: usize) -> usize
 /// The place of an id, where no id between it and the last one is missing.
 #[inline]
 fn find_near(entries: &[AddedEntry], id: u64) -> Option<usize>
-    requires { RisesFrom 0 (keys_of (cells_of entries.now)) }
-    ensures { IfSome result (λ p. place_of id (keys_of (cells_of entries.now)) ≡ p + 1) }
+    requires { RisesFrom 0 (keys_of (entry_spans entries.now)) }
+    ensures { IfSome result (λ p. place_of id (keys_of (entry_spans entries.now)) ≡ p + 1) }
 {
     let last = entries.last()?;
     let back = last.id.wrapping_sub(id);
@@ -70,12 +70,12 @@ fn find_near(entries: &[AddedEntry], id: u64) -> Option<usize>
 /// The place of an id, from 0.
 #[inline]
 pub(crate) fn find(heads: &[u32], entries: &[AddedEntry], id: u64) -> Option<usize>
-    requires rising { RisesFrom 0 (keys_of (cells_of entries.now)) }
-    requires chained { IsChained (length heads.now) heads.now (keys_of (cells_of entries.now))
+    requires rising { RisesFrom 0 (keys_of (entry_spans entries.now)) }
+    requires chained { IsChained (length heads.now) heads.now (keys_of (entry_spans entries.now))
         (nexts_of entries.now) }
     requires room { length entries.now ≤ length heads.now }
-    ensures { MatchOption result (place_of id (keys_of (cells_of entries.now)) ≡ 0)
-        (λ p. place_of id (keys_of (cells_of entries.now)) ≡ p + 1) }
+    ensures { MatchOption result (place_of id (keys_of (entry_spans entries.now)) ≡ 0)
+        (λ p. place_of id (keys_of (entry_spans entries.now)) ≡ p + 1) }
 {
     if let Some(place) = find_near(entries, id) {
         return Some(place);
@@ -96,7 +96,7 @@ pub(crate) fn find(heads: &[u32], entries: &[AddedEntry], id: u64) -> Option<usi
 
 /// Whether an id is above those of all entries, dead ones too.
 pub(crate) fn is_above(entries: &[AddedEntry], id: u64) -> bool
-    ensures { IsTrue result ↔ IsAboveLast id (keys_of (cells_of entries.now)) }
+    ensures { IsTrue result ↔ IsAboveLast id (keys_of (entry_spans entries.now)) }
 {
     match entries.last() {
         Some(entry) => entry.id < id,
@@ -108,9 +108,9 @@ pub(crate) fn is_above(entries: &[AddedEntry], id: u64) -> bool
 pub(crate) fn link(heads: &mut [u32], entries: &mut [AddedEntry])
     requires room { length entries.old ≤ length heads.old }
     requires few { length entries.old ≤ MOST_KEPT }
-    ensures chained { IsChained (length heads.new) heads.new (keys_of (cells_of entries.new))
+    ensures chained { IsChained (length heads.new) heads.new (keys_of (entry_spans entries.new))
         (nexts_of entries.new) }
-    ensures cells { cells_of entries.new ≡ cells_of entries.old }
+    ensures spans { entry_spans entries.new ≡ entry_spans entries.old }
 {
     heads.fill(0);
     let buckets = heads.len();
@@ -130,14 +130,14 @@ pub(crate) fn grow(heads: &mut Vec<u32>, entries: &mut [AddedEntry]) -> Result<(
     requires room { length entries.old ≤ length heads.old.items }
     requires few { length entries.old ≤ MOST_KEPT }
     requires chained { IsChained (length heads.old.items) heads.old.items
-        (keys_of (cells_of entries.old))
+        (keys_of (entry_spans entries.old))
         (nexts_of entries.old) }
     ensures room { OnOk result (length entries.new < length heads.new.items) }
     ensures kept_room { length entries.new ≤ length heads.new.items }
     ensures chained { IsChained (length heads.new.items) heads.new.items
-        (keys_of (cells_of entries.new))
+        (keys_of (entry_spans entries.new))
         (nexts_of entries.new) }
-    ensures cells { cells_of entries.new ≡ cells_of entries.old }
+    ensures spans { entry_spans entries.new ≡ entry_spans entries.old }
 {
     if entries.len() < heads.len() {
         return Ok(());

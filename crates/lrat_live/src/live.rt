@@ -4,7 +4,7 @@ ghost use Rattle.std.specs.Prelude.{IfOk, IsTrue};
 ghost use Rattle.std.specs.Prelude.{IsSome, OnOk, OnErr};
 ghost use Rattle.std.specs.Option.{option_copied};
 ghost use Rattle.cnf.specs.Clause.{contains_literal};
-ghost use Rattle.lrat_live.specs.Counts.{times_at, take_all, AreCounts, Takes};
+ghost use Rattle.lrat_live.specs.Counts.{times_at, take_all, AreCounts, AreTaken};
 ghost use Rattle.lrat_live.specs.Listed.{listed_at, listed_from, without_id, ids_listed, same_ids};
 ghost use Rattle.lrat_live.specs.Listed.{IsRising};
 ghost use Rattle.lrat_live.specs.Near.{all_of};
@@ -50,6 +50,15 @@ impl Model for LiveClauses {
 
     ghost invariant = { λ s. IsRising (all_of s.near s.far)
         × (s.is_counted ≡ true → AreCounts (count_in s.counts) (all_of s.near s.far)) };
+}
+
+/// How often a literal stands in the live clauses.
+#[derive(Drop)]
+struct Occurrences {
+    /// The literal.
+    lit: Lit,
+    /// In how many places it stands, below 2^32.
+    total: usize,
 }
 
 /// The clause under an id, near or far.
@@ -126,21 +135,20 @@ fn take_shown(
     near: &Near,
     far: &Added,
     places: &mut KnownPlaces,
-    lit: Lit,
-    total: usize,
+    wanted: &Occurrences,
     ids: &[u64],
 ) -> Result<bool, AllocError>
     requires { IsRising (all_of near.now far.now) }
     ensures { IfOk result (λ all. all ≡ true
-        → Takes lit (all_of near.now far.now) total 0 ids.now) }
+        → AreTaken wanted.now.lit (all_of near.now far.now) wanted.now.total 0 ids.now) }
 {
     let mut before = 0;
-    let mut left = total;
+    let mut left = wanted.total;
     for id in ids {
         let Some(clause) = lookup(near, far, *id) else {
             return Ok(false);
         };
-        let times = places.times(*id, lit, clause)?;
+        let times = places.times(*id, wanted.lit, clause)?;
         if !is_next(before, *id, times, left) {
             return Ok(false);
         }
@@ -226,7 +234,8 @@ impl LiveClauses {
         count_all(self.is_counted, &mut self.counts, &self.near, &self.far)?;
         self.is_counted = true;
         let total = count_of(&self.counts, lit);
-        if take_shown(&self.near, &self.far, &mut self.places, lit, total, ids)? {
+        let wanted = Occurrences { lit, total };
+        if take_shown(&self.near, &self.far, &mut self.places, &wanted, ids)? {
             return Ok(true);
         }
         Ok(self.take_all(lit, total, ids))

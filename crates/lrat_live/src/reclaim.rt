@@ -2,7 +2,7 @@
 // together, in place.
 ghost use Rattle.std.specs.Prelude.{◌≡◌, ◌+◌, ◌≤◌, drop, length};
 ghost use lib.Seq.{paste};
-ghost use Rattle.lrat_live.specs.Table.{cells_of, clauses_in, IsLaid, IsTable, AllLive};
+ghost use Rattle.lrat_live.specs.Table.{entry_spans, clauses_in, IsLaid, IsTable, AllLive};
 ghost use Rattle.lrat_live.specs.declared.spans.TheConstants.{MOST_KEPT};
 
 use crate::entries::{AddedEntry, link};
@@ -10,12 +10,12 @@ use cnf::types::Lit;
 
 /// Drops the dead entries and their literals.
 pub(crate) fn compact(entries: &mut Vec<AddedEntry>, lits: &mut Vec<Lit>)
-    requires laid { IsLaid 0 (cells_of entries.old.items) (length lits.old.items) }
+    requires laid { IsLaid 0 (entry_spans entries.old.items) (length lits.old.items) }
     requires few { length lits.old.items ≤ MOST_KEPT }
-    ensures laid { IsLaid 0 (cells_of entries.new.items) (length lits.new.items) }
-    ensures live { AllLive (cells_of entries.new.items) }
-    ensures clauses { clauses_in lits.new.items (cells_of entries.new.items)
-        ≡ clauses_in lits.old.items (cells_of entries.old.items) }
+    ensures laid { IsLaid 0 (entry_spans entries.new.items) (length lits.new.items) }
+    ensures live { AllLive (entry_spans entries.new.items) }
+    ensures clauses { clauses_in lits.new.items (entry_spans entries.new.items)
+        ≡ clauses_in lits.old.items (entry_spans entries.old.items) }
     ensures fewer_entries { length entries.new.items ≤ length entries.old.items }
     ensures fewer_literals { length lits.new.items ≤ length lits.old.items }
 {
@@ -59,9 +59,9 @@ pub(crate) fn move_down(lits: &mut Vec<Lit>, start: usize, count: usize, to: usi
 pub(crate) fn reclaim(lits: &mut Vec<Lit>, entries: &mut Vec<AddedEntry>, heads: &mut Vec<u32>)
     requires { IsTable lits.old.items entries.old.items heads.old.items }
     ensures table { IsTable lits.new.items entries.new.items heads.new.items }
-    ensures live { AllLive (cells_of entries.new.items) }
-    ensures clauses { clauses_in lits.new.items (cells_of entries.new.items)
-        ≡ clauses_in lits.old.items (cells_of entries.old.items) }
+    ensures live { AllLive (entry_spans entries.new.items) }
+    ensures clauses { clauses_in lits.new.items (entry_spans entries.new.items)
+        ≡ clauses_in lits.old.items (entry_spans entries.old.items) }
 {
     compact(entries, lits);
     heads.truncate((2 * entries.len()).next_power_of_two());

@@ -12,14 +12,14 @@ use Rattle.text.specs.Text.{IsNoFeed, token_lines, tokens_of}
 use Rattle.text.proofs.Laws.{flat_map-append, line_tokens-first, passed-more, passed-nil}
 use Rattle.bound.specs.Bound.{dimacs_clause}
 use Rattle.lrat_cuts.specs.Machine.{judged_after}
-use Rattle.lrat_plain.specs.Steps.{FaultOf, GoesOn, made_after, lines_after}
+use Rattle.lrat_plain.specs.Steps.{FaultOf, WritesSteps, made_after, lines_after}
 use Rattle.lrat_plain.specs.Runs.{FaultAfter, FaultWithin, RunsOn, RunsWhole}
 use Rattle.lrat_plain.specs.declared.faults.PlainFault.{PlainFault}
 use Rattle.lrat_plain.specs.declared.plain.Steps.{Steps}
 use Rattle.lrat_plain.specs.declared.streams.Run.{Run}
 
 -- no line
-pub goes_nowhere : (s : Steps) (a b : Option (List ℕ)) → GoesOn s s [] a a b b
+pub goes_nowhere : (s : Steps) (a b : Option (List ℕ)) → WritesSteps s s [] a a b b
 goes_nowhere s a b = record {
   made = [];
   plain = [];
@@ -37,7 +37,7 @@ goes_nowhere s a b = record {
 
 -- lines after lines
 pub goes_further : (x y z : Steps) (l m : List (List (List ℕ))) (a b c d e f : Option (List ℕ))
-    → GoesOn x y l a b d e → GoesOn y z m b c e f → GoesOn x z (l ++ m) a c d f
+    → WritesSteps x y l a b d e → WritesSteps y z m b c e f → WritesSteps x z (l ++ m) a c d f
 goes_further x y z l m a b c d e f p q = record {
   made = p.made ++ q.made;
   plain = p.plain ++ q.plain;
@@ -120,7 +120,7 @@ module _ (kept end : List ℕ) (k : IsNoFeed kept) (n : IsNoFeed end) where
 
 module _ (x y : Run) (end : List ℕ) (n : IsNoFeed end) (k : IsNoFeed x.rest) where
   pub line_runs : (a b d e : Option (List ℕ)) → y.rest ≡ []
-      → GoesOn x.steps y.steps (tokens_of (line x.rest end k n) ∷ []) a b d e
+      → WritesSteps x.steps y.steps (tokens_of (line x.rest end k n) ∷ []) a b d e
       → RunsOn x y (end ++ 10 ∷ []) a b d e
   line_runs a b d e empty g = record {
     lines = tokens_of (line x.rest end k n) ∷ [];
@@ -150,7 +150,7 @@ kept_runs x y bytes a b n k same kept = record {
         ∙ ap (λ w. token_lines (w ++ more)) (sym kept);
     no_feed = subst IsNoFeed (sym kept) (All-append (λ c. (c == 10) ≡ false) x.rest bytes k n);
   };
-  goes = subst (λ s. GoesOn x.steps s [] a a b b) (sym same) (goes_nowhere x.steps a b);
+  goes = subst (λ s. WritesSteps x.steps s [] a a b b) (sym same) (goes_nowhere x.steps a b);
 }
 
 -- a part of the piece was taken
@@ -232,13 +232,13 @@ module _ (x y : Run) (had left a b d e : Option (List ℕ)) (p : HasRead x y had
         ∙ ap (λ w. token_lines (x.rest ++ w)) (append-nil p.bytes)
 
     pub runs_all : (z : Run) (c f : Option (List ℕ))
-        → GoesOn y.steps z.steps (token_lines y.rest) b c e f
+        → WritesSteps y.steps z.steps (token_lines y.rest) b c e f
         → RunsWhole x z had now a c d f
     runs_all z c f q = record {
       bytes = p.bytes;
       read = read_all;
       whole = end;
-      goes = subst (λ l. GoesOn x.steps z.steps l a c d f) lines_all
+      goes = subst (λ l. WritesSteps x.steps z.steps l a c d f) lines_all
           (goes_further x.steps y.steps z.steps p.runs.lines (token_lines y.rest) a b c d e f
           p.runs.goes q);
     }

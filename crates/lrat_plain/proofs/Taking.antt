@@ -19,7 +19,7 @@ use Rattle.lrat_cuts.specs.Machine.{MachineState, judged_after}
 use Rattle.lrat_plain.specs.Names.{Names, added, forgotten, named_all, renumbered}
 use Rattle.lrat_plain.specs.Plain.{ending, lead, lines_by, made_by, names_after}
 use Rattle.lrat_plain.specs.Plain.{plain_text}
-use Rattle.lrat_plain.specs.Steps.{GoesOn, IsSteady, Judges, made_after, lines_after}
+use Rattle.lrat_plain.specs.Steps.{WritesSteps, IsSteady, Judges, made_after, lines_after}
 use Rattle.lrat_plain.specs.declared.plain.Steps.{Steps}
 use Rattle.lrat_plain.proofs.Cases.{addition_lines, addition_made, addition_names, addition_small}
 use Rattle.lrat_plain.proofs.Cases.{addition_state, deletion_last, deletion_lines, deletion_made}
@@ -62,7 +62,7 @@ module _ (old mid : Steps) (ts : List (List ℕ)) (j : Judges old.machine ts mid
       → (a b d e : Option (List ℕ))
       → PassesOn a mid.formula (flat_map dimacs_clause made) b new.formula
       → PassesOn d mid.certificate (plain_text plain) e new.certificate
-      → GoesOn old new (ts ∷ []) a b d e
+      → WritesSteps old new (ts ∷ []) a b d e
   goes made plain makes says names over a b d e p q = record {
     made = made;
     plain = plain;
@@ -93,7 +93,7 @@ module _ (old mid : Steps) (ts : List (List ℕ)) (j : Judges old.machine ts mid
   -- no token
   pub blank_goes : ts ≡ [] → new.names ≡ mid.names → new.formula ≡ mid.formula
       → new.certificate ≡ mid.certificate → (a d : Option (List ℕ))
-      → GoesOn old new (ts ∷ []) a a d d
+      → WritesSteps old new (ts ∷ []) a a d d
   blank_goes none names formula certificate a d =
       let same : new.names ≡ old.names = names ∙ names_kept in
       goes [] [] (ap (λ us. made_by us before after) none)
@@ -124,7 +124,7 @@ module _ (old mid : Steps) (ts : List (List ℕ)) (j : Judges old.machine ts mid
       pub addition_goes : new.names ≡ mid.names → new.formula ≡ mid.formula
           → (d e : Option (List ℕ)) → PassesOn d mid.certificate (spaced (line_tokens said)) e
           new.certificate
-          → GoesOn old new (ts ∷ []) a a d e
+          → WritesSteps old new (ts ∷ []) a a d e
       addition_goes names formula d e q =
           let same : new.names ≡ old.names = names ∙ names_kept in
           let lines : lines_by old.names ts before after ≡ said ∷ [] =
@@ -165,7 +165,7 @@ module _ (old mid : Steps) (ts : List (List ℕ)) (j : Judges old.machine ts mid
       pub deletion_goes : new.names ≡ forgotten ids mid.names → new.formula ≡ mid.formula
           → (d e : Option (List ℕ))
           → PassesOn d mid.certificate (spaced (line_tokens deletes)) e new.certificate
-          → GoesOn old new (ts ∷ []) a a d e
+          → WritesSteps old new (ts ∷ []) a a d e
       deletion_goes names formula d e q =
           let same : new.names ≡ forgotten ids old.names = names
           ∙ ap (forgotten ids) names_kept in
@@ -220,7 +220,7 @@ module _ (old mid : Steps) (ts : List (List ℕ)) (j : Judges old.machine ts mid
       pub word_goes : (b d e : Option (List ℕ))
           → PassesOn a mid.formula (flat_map dimacs_clause made) b new.formula
           → PassesOn d mid.certificate (plain_text (ending new.names new.last after.ended)) e
-          new.certificate → GoesOn old new (ts ∷ []) a b d e
+          new.certificate → WritesSteps old new (ts ∷ []) a b d e
       word_goes b d e p q =
           let lines : lines_by old.names ts before after
           ≡ ending new.names new.last after.ended =

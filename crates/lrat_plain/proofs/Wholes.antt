@@ -16,7 +16,7 @@ use Rattle.lrat_cuts.specs.Verdict.{judged_text}
 use Rattle.lrat_cuts.proofs.Laws.{put_all-last}
 use Rattle.lrat_plain.specs.Names.{Names, names_start}
 use Rattle.lrat_plain.specs.Plain.{lines_in, made_text, plain_formula, plain_lines, plain_text}
-use Rattle.lrat_plain.specs.Steps.{GoesOn, made_after, lines_after}
+use Rattle.lrat_plain.specs.Steps.{WritesSteps, made_after, lines_after}
 use Rattle.lrat_plain.specs.Runs.{AreSizes, FaultWithin, IsFirstFault, IsWritten, RunsWhole}
 use Rattle.lrat_plain.specs.declared.faults.PlainFault.{PlainFault}
 use Rattle.lrat_plain.specs.declared.streams.Run.{Run}
@@ -49,8 +49,8 @@ module _ (cost given all : ℕ) (p : Problem) (r new : Run) (had left a b d e : 
   abbrev lines : List (List (List ℕ))
   lines = token_lines w.bytes
 
-  goes : GoesOn r.steps new.steps lines a b d e
-  goes = subst (λ k. GoesOn r.steps new.steps (token_lines (k ++ w.bytes)) a b d e) rest w.goes
+  goes : WritesSteps r.steps new.steps lines a b d e
+  goes = subst (λ k. WritesSteps r.steps new.steps (token_lines (k ++ w.bytes)) a b d e) rest w.goes
 
   judged_is : judged_text (Some cost) p w.bytes ≡ Ok ((new.steps).machine).state
   judged_is =

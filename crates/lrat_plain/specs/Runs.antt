@@ -10,7 +10,7 @@ use Rattle.lrat_cuts.specs.Machine.{MachineState, judged_after}
 use Rattle.lrat_cuts.specs.Verdict.{judged_text}
 use Rattle.lrat_plain.specs.Plain.{made_text, plain_formula, plain_lines, plain_text}
 use Rattle.lrat_plain.specs.Names.{names_start}
-use Rattle.lrat_plain.specs.Steps.{GoesOn, IsSteady}
+use Rattle.lrat_plain.specs.Steps.{WritesSteps, IsSteady}
 use Rattle.lrat_plain.specs.declared.faults.PlainFault.{PlainFault}
 use Rattle.lrat_plain.specs.declared.faults.PlainFault.TheVariants.{Line}
 use Rattle.lrat_plain.specs.declared.streams.Run.{Run}
@@ -28,7 +28,7 @@ pub record RunsOn (old new : Run) (bytes : List ℕ) (had left before after : Op
     Type 0 where
   pub lines : List (List (List ℕ))
   pub reads : Reads old.rest bytes lines new.rest
-  pub goes : GoesOn old.steps new.steps lines had left before after
+  pub goes : WritesSteps old.steps new.steps lines had left before after
 
 -- where the fault names a line, it is the first fault of a text that goes on with these bytes
 abbrev pub FaultAfter : Run → List ℕ → PlainFault → Type 0
@@ -43,7 +43,7 @@ pub record RunsWhole (old new : Run) (had left out out_now other other_now : Opt
   pub bytes : List ℕ
   pub read : Consumes had left bytes
   pub whole : IsAtEnd left
-  pub goes : GoesOn old.steps new.steps (token_lines (old.rest ++ bytes)) out out_now other
+  pub goes : WritesSteps old.steps new.steps (token_lines (old.rest ++ bytes)) out out_now other
       other_now
 
 -- where the fault names a line, it is the first fault of the text that the reader gives, of which

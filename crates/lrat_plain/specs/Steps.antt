@@ -41,7 +41,7 @@ abbrev pub lines_after : Names → MachineState → List (List (List ℕ)) → L
 lines_after n m more = lines_in m.cost n m.state more
 
 -- by right lines, from one to the other: what they make, and their plain lines
-pub record Takes (old new : Steps) (lines : List (List (List ℕ))) (made : List (List Literal))
+pub record TakesSteps (old new : Steps) (lines : List (List (List ℕ))) (made : List (List Literal))
     (plain : List ProofLine) : Type 0 where
   pub judged : (more : List (List (List ℕ)))
       → judged_after old.machine (lines ++ more) ≡ judged_after new.machine more
@@ -54,10 +54,10 @@ pub record Takes (old new : Steps) (lines : List (List (List ℕ))) (made : List
   pub count : (new.names).made ≡ (old.names).made + length made
 
 -- and their texts were put: writers had, and have
-pub record GoesOn (old new : Steps) (lines : List (List (List ℕ)))
+pub record WritesSteps (old new : Steps) (lines : List (List (List ℕ)))
     (had left : Option (List ℕ)) (before after : Option (List ℕ)) : Type 0 where
   pub made : List (List Literal)
   pub plain : List ProofLine
-  pub takes : Takes old new lines made plain
+  pub takes : TakesSteps old new lines made plain
   pub formula : PassesOn had old.formula (flat_map dimacs_clause made) left new.formula
   pub certificate : PassesOn before old.certificate (plain_text plain) after new.certificate

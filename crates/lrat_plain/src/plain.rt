@@ -12,7 +12,7 @@ ghost use Rattle.lrat_cuts.specs.Cuts.{cuts_start};
 ghost use Rattle.lrat_plain.specs.Faults.{IsNoLine};
 ghost use Rattle.lrat_plain.specs.Names.{added, forgotten, named_all, names_start, renumbered};
 ghost use Rattle.lrat_plain.specs.Plain.{ending, lead, plain_text};
-ghost use Rattle.lrat_plain.specs.Steps.{FaultOf, GoesOn, IsSteady, Judges};
+ghost use Rattle.lrat_plain.specs.Steps.{FaultOf, WritesSteps, IsSteady, Judges};
 
 use crate::faults::PlainFault;
 use crate::names::Names;
@@ -101,7 +101,7 @@ impl Steps {
         certificate: &mut C,
     ) -> Result<(), PlainFault>
         requires { IsSteady self.old }
-        ensures goes { OnOk result (GoesOn self.old self.new (tokens_of line.now ∷ [])
+        ensures goes { OnOk result (WritesSteps self.old self.new (tokens_of line.now ∷ [])
             (F.contents formula.old) (F.contents formula.new)
             (C.contents certificate.old) (C.contents certificate.new)) }
         ensures steady { OnOk result (IsSteady self.new) }

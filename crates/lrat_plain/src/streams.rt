@@ -15,7 +15,7 @@ ghost use Rattle.lrat_plain.specs.Faults.{IsNoLine};
 ghost use Rattle.lrat_plain.specs.Runs.{AreSizes, FaultAfter, FaultWithin, IsBegun};
 ghost use Rattle.lrat_plain.specs.Runs.{IsFirstFault};
 ghost use Rattle.lrat_plain.specs.Runs.{IsWritten, RunsOn, RunsWhole};
-ghost use Rattle.lrat_plain.specs.Steps.{FaultOf, GoesOn, IsSteady};
+ghost use Rattle.lrat_plain.specs.Steps.{FaultOf, WritesSteps, IsSteady};
 
 use crate::faults::PlainFault;
 use crate::plain::Steps;
@@ -229,7 +229,7 @@ impl Run {
     ) -> Result<(), PlainFault>
         requires steady { IsSteady self.old.steps }
         requires kept { IsNoFeed self.old.rest }
-        ensures goes { OnOk result (GoesOn self.old.steps self.new.steps
+        ensures goes { OnOk result (WritesSteps self.old.steps self.new.steps
             (token_lines self.old.rest) (F.contents formula.old) (F.contents formula.new)
             (C.contents certificate.old) (C.contents certificate.new)) }
         ensures fault { IfErr result

@@ -12,7 +12,7 @@ use Rattle.text.specs.Text.{tokens_of}
 use Rattle.lrat_read.specs.Form.{block_of, signed_of}
 use Rattle.lrat_read.specs.Numbers.{IsNumberAt}
 use Rattle.lrat_read.specs.Plain.{before_feed, IsPlainDigits, IsPastSpace, ArePlainLits}
-use Rattle.lrat_read.specs.Plain.{ArePlainHints, IsKept}
+use Rattle.lrat_read.specs.Plain.{ArePlainHints, IsKeptBefore}
 use Rattle.lrat_read.specs.declared.numbers.Digits.{Digits}
 use Rattle.lrat_read.specs.declared.numbers.NumberAt.TheVariants.{Number}
 use Rattle.lrat_read.proofs.Tokens.{Signed, Rest, block_zero}
@@ -30,7 +30,7 @@ zero_ends line at s n end plain none h =
     ap block_of h.1 ∙ block_zero h.0 (tokens_of (drop end line)) zero_read
 
 pub kept_set : {X : Type 0} (old now : List X) (from count : ℕ) (x : X) → from ≤ count
-    → IsKept old now from → IsKept old (slice_set now count x) from
+    → IsKeptBefore old now from → IsKeptBefore old (slice_set now count x) from
 kept_set old now from count x h k =
     (take-set-le from now count x h ∙ k.0, length-set now count x ∙ k.1)
 

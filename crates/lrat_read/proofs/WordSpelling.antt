@@ -15,7 +15,7 @@ use Rattle.text.specs.Text.{literal_text}
 use Rattle.lrat_read.specs.Form.{signed_of, unsigned_of, block_of}
 use Rattle.lrat_read.specs.Words.{NamedFact, WordLine, CountLine, MoreLine, GroupLine, FormLine}
 use Rattle.lrat_read.specs.Words.{CutLine, BoundLine, ended_facts, ended_ids, ended_literals}
-use Rattle.lrat_read.specs.Words.{ended_number, literals_of, word_line_of}
+use Rattle.lrat_read.specs.Words.{ended_number, clause_block_of, word_line_of}
 use Rattle.lrat_read.specs.WordTokens.{IsNamed, HasWordNumbers, fact_tokens, word_tokens}
 use Rattle.lrat_read.proofs.FactLaws.{facts_ahead, one_ahead}
 use Rattle.lrat_read.proofs.IdLaws.{ids_ahead, one_id_ahead}
@@ -35,7 +35,7 @@ number_read : (n : ℕ) → n < 2 ^ 62 → ended_number (decimal n ∷ end) ≡ 
 number_read n small = let u = unsigned_from n small in rw u refl
 
 literals_read : (c : List Literal) (rest : List (List ℕ)) → AllByRecursion (λ l. IsId l.variable) c
-    → literals_of (map literal_text c ++ (codes "0" ∷ rest)) ≡ Some (c, rest)
+    → clause_block_of (map literal_text c ++ (codes "0" ∷ rest)) ≡ Some (c, rest)
 literals_read c rest h =
     let b = block_from (map signed_literal c) rest (ids_signed_literals c h) in
     let e : block_of (map literal_text c ++ (codes "0" ∷ rest))

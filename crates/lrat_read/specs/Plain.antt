@@ -68,18 +68,18 @@ abbrev pub HasRoomFrom : {X : Type 0} → List ℕ → List X → ℕ → Type 0
 HasRoomFrom bytes buffer from =
     (from ≤ length buffer) × (length bytes < 2 * (length buffer - from) + 2)
 
-abbrev pub HasRoom : List ℕ → List Literal → List (Bool × ℕ) → Used → Type 0
-HasRoom bytes lits hints used =
+abbrev pub HasLineRoom : List ℕ → List Literal → List (Bool × ℕ) → Used → Type 0
+HasLineRoom bytes lits hints used =
     HasRoomFrom bytes lits used.lits × HasRoomFrom bytes hints used.hints
 
 -- the buffer is as it was before this place, and as long
-abbrev pub IsKept : {X : Type 0} → List X → List X → ℕ → Type 0
-IsKept old new from = (take from new ≡ take from old) × (length new ≡ length old)
+abbrev pub IsKeptBefore : {X : Type 0} → List X → List X → ℕ → Type 0
+IsKeptBefore old new from = (take from new ≡ take from old) × (length new ≡ length old)
 
-abbrev pub AreKept : List Literal → List (Bool × ℕ) → List Literal → List (Bool × ℕ) → Used
+abbrev pub AreKeptBefore : List Literal → List (Bool × ℕ) → List Literal → List (Bool × ℕ) → Used
     → Type 0
-AreKept lits hints new_lits new_hints used =
-    IsKept lits new_lits used.lits × IsKept hints new_hints used.hints
+AreKeptBefore lits hints new_lits new_hints used =
+    IsKeptBefore lits new_lits used.lits × IsKeptBefore hints new_hints used.hints
 
 -- the line of a span
 abbrev pub line_in : List Literal → List (Bool × ℕ) → LineSpan → ReadLine

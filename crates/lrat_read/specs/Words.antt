@@ -44,8 +44,8 @@ word_of t =
     else None
 
 -- literals up to the first 0, and what follows that
-abbrev pub literals_of : List (List ℕ) → Option (List Literal × List (List ℕ))
-literals_of ts = by (block_of ts)
+abbrev pub clause_block_of : List (List ℕ) → Option (List Literal × List (List ℕ))
+clause_block_of ts = by (block_of ts)
   where
     by : Option (List (Bool × ℕ) × List (List ℕ)) → Option (List Literal × List (List ℕ))
     by None = None
@@ -53,7 +53,7 @@ literals_of ts = by (block_of ts)
 
 -- literals, and after them a 0, which is the last token
 abbrev pub ended_literals : List (List ℕ) → Option (List Literal)
-ended_literals ts = by (literals_of ts)
+ended_literals ts = by (clause_block_of ts)
   where
     by : Option (List Literal × List (List ℕ)) → Option (List Literal)
     by None = None
@@ -138,7 +138,7 @@ after_word More ts = by (ended_number ts)
     by None = None
     by (Some zero) = None
     by (Some (suc j)) = Some (MoreLine (suc j))
-after_word Group ts = by (literals_of ts)
+after_word Group ts = by (clause_block_of ts)
   where
     with : List Literal → Option (List ℕ) → Option WordLine
     with ls None = None

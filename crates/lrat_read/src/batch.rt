@@ -2,7 +2,7 @@
 ghost use Rattle.std.specs.Prelude.{◌≡◌, ◌+◌, ◌-◌, ◌*◌, ◌∷◌, [], ◌<◌, ◌≤◌, length, take, drop};
 ghost use Rattle.std.specs.Prelude.{IfOk, IfSome, IsTrue};
 ghost use Rattle.lrat_read.specs.Batch.{AreRead, IsNextRead};
-ghost use Rattle.lrat_read.specs.Plain.{AreKept, AreSpansWithin, lines_in};
+ghost use Rattle.lrat_read.specs.Plain.{AreKeptBefore, AreSpansWithin, lines_in};
 
 use crate::line::{LineView, ReadLine};
 use crate::plain::{LineSpan, Used, plain_line};
@@ -86,7 +86,7 @@ fn next_line(
     requires within { at ≤ length text.now }
     requires lits { used.lits ≤ length lits.old }
     requires hints { used.hints ≤ length hints.old }
-    ensures kept { AreKept lits.old hints.old lits.new hints.new used }
+    ensures kept { AreKeptBefore lits.old hints.old lits.new hints.new used }
     ensures read { IfSome result (λ n. IsNextRead text.now at lits.new hints.new used n) }
 {
     let rest = &text[at..];

@@ -17,7 +17,7 @@ ghost use Rattle.cnf.specs.Literal.{Literal};
 ghost use Rattle.lrat_read.specs.Numbers.{IsNumberAt};
 ghost use Rattle.lrat_read.specs.Plain.{EndsInFeed, before_feed, IsPlainDigits, IsPlainNumber};
 ghost use Rattle.lrat_read.specs.Plain.{IsPastSpace, ArePlainLits, ArePlainHints, HasRoomFrom};
-ghost use Rattle.lrat_read.specs.Plain.{HasRoom, IsKept, AreKept, IsPlainLine};
+ghost use Rattle.lrat_read.specs.Plain.{HasLineRoom, IsKeptBefore, AreKeptBefore, IsPlainLine};
 ghost use Rattle.lrat_read.specs.declared.numbers.NumberAt.TheVariants.{Number};
 
 use crate::numbers::Digits;
@@ -73,6 +73,15 @@ struct PlainLits {
     end: usize,
     // The place in the buffer behind the last literal.
     count: usize,
+}
+
+/// The number that leads a line.
+#[derive(Clone, Copy, Drop)]
+struct Lead {
+    /// Its value, below 2^62.
+    id: u64,
+    /// Where the rest of the line begins: the place behind the number and the space there.
+    end: usize,
 }
 
 /// The number of few digits that stands here.
@@ -153,7 +162,7 @@ fn plain_lits(lits: &mut [Lit], from: usize, line: &[u8], at: usize) -> Option<P
     requires within { at < length line.now }
     requires feed { EndsInFeed line.now }
     requires room { HasRoomFrom line.now lits.old from }
-    ensures kept { IsKept lits.old lits.new from }
+    ensures kept { IsKeptBefore lits.old lits.new from }
     ensures read { IfSome result (λ e. ArePlainLits line.now at lits.new from e) }
 {
     let mut place = at;
@@ -187,7 +196,7 @@ fn plain_hints(
     requires within { at < length line.now }
     requires feed { EndsInFeed line.now }
     requires room { HasRoomFrom line.now hints.old from }
-    ensures kept { IsKept hints.old hints.new from }
+    ensures kept { IsKeptBefore hints.old hints.new from }
     ensures read { IfSome result
         (λ count. ArePlainHints line.now at is_deletion hints.new from count) }
 {
@@ -216,21 +225,20 @@ fn plain_addition(
     hints: &mut [SignedId],
     used: Used,
     line: &[u8],
-    id: u64,
-    at: usize,
+    lead: Lead,
 ) -> Option<LineSpan>
-    requires within { at < length line.now }
+    requires within { lead.end < length line.now }
     requires feed { EndsInFeed line.now }
-    requires room { HasRoom line.now lits.old hints.old used }
-    requires number { IsNumberAt (before_feed line.now) 0 (Number false id at) }
-    ensures kept { AreKept lits.old hints.old lits.new hints.new used }
+    requires room { HasLineRoom line.now lits.old hints.old used }
+    requires number { IsNumberAt (before_feed line.now) 0 (Number false lead.id lead.end) }
+    ensures kept { AreKeptBefore lits.old hints.old lits.new hints.new used }
     ensures read { IfSome result (λ s. IsPlainLine line.now lits.new hints.new used s) }
 {
-    let clause = plain_lits(lits, used.lits, line, at)?;
+    let clause = plain_lits(lits, used.lits, line, lead.end)?;
     let hints_end = plain_hints(hints, used.hints, line, clause.end, false)?;
     Some(LineSpan {
         form: Form::Addition,
-        id,
+        id: lead.id,
         lits_start: used.lits,
         lits_end: clause.count,
         hints_start: used.hints,
@@ -240,27 +248,21 @@ fn plain_addition(
 
 /// Reads what follows the leading number of a deletion: the letter, and the ids.
 #[inline(always)]
-fn plain_deletion(
-    hints: &mut [SignedId],
-    used: Used,
-    line: &[u8],
-    id: u64,
-    at: usize,
-) -> Option<LineSpan>
-    requires within { at + 1 < length line.now }
+fn plain_deletion(hints: &mut [SignedId], used: Used, line: &[u8], lead: Lead) -> Option<LineSpan>
+    requires within { lead.end + 1 < length line.now }
     requires feed { EndsInFeed line.now }
     requires room { HasRoomFrom line.now hints.old used.hints }
-    requires number { IsNumberAt (before_feed line.now) 0 (Number false id at) }
-    requires letter { slice_index line.now at ≡ 100 }
-    ensures kept { IsKept hints.old hints.new used.hints }
+    requires number { IsNumberAt (before_feed line.now) 0 (Number false lead.id lead.end) }
+    requires letter { slice_index line.now lead.end ≡ 100 }
+    ensures kept { IsKeptBefore hints.old hints.new used.hints }
     ensures read { IfSome result (λ s. (lits : List Literal) → used.lits ≤ length lits
         → IsPlainLine line.now lits hints.new used s) }
 {
-    let ids = past_space(line, at + 1)?;
+    let ids = past_space(line, lead.end + 1)?;
     let hints_end = plain_hints(hints, used.hints, line, ids, true)?;
     Some(LineSpan {
         form: Form::Deletion,
-        id,
+        id: lead.id,
         lits_start: used.lits,
         lits_end: used.lits,
         hints_start: used.hints,
@@ -279,15 +281,19 @@ pub fn plain_line(
 ) -> Option<LineSpan>
     requires within { 0 < length line.now }
     requires feed { EndsInFeed line.now }
-    requires room { HasRoom line.now lits.old hints.old used }
-    ensures kept { AreKept lits.old hints.old lits.new hints.new used }
+    requires room { HasLineRoom line.now lits.old hints.old used }
+    ensures kept { AreKeptBefore lits.old hints.old lits.new hints.new used }
     ensures read { IfSome result (λ s. IsPlainLine line.now lits.new hints.new used s) }
 {
-    let lead = plain_digits(line, 0)?;
-    let at = past_space(line, lead.end)?;
-    if line[at] == b'd' {
-        plain_deletion(hints, used, line, lead.value, at)
+    let number = plain_digits(line, 0)?;
+    let end = past_space(line, number.end)?;
+    let lead = Lead {
+        id: number.value,
+        end,
+    };
+    if line[end] == b'd' {
+        plain_deletion(hints, used, line, lead)
     } else {
-        plain_addition(lits, hints, used, line, lead.value, at)
+        plain_addition(lits, hints, used, line, lead)
     }
 }

@@ -48,8 +48,8 @@ fn token_end(line: &[u8], start: usize) -> usize
     end
 }
 
-/// Which word a token is.
-fn known_word(token: &[u8]) -> Option<Word>
+/// Which word a token is, if it is one.
+pub fn known_word(token: &[u8]) -> Option<Word>
     ensures { result ≡ word_of token.now }
 {
     if token == b"cut".as_slice() {

@@ -8,7 +8,7 @@ use Rattle.lrat_result.specs.declared.report.ReportFault.TheVariants.{Form, Memo
 use Rattle.lrat_result.specs.declared.report.Reading.{Reading}
 use Rattle.lrat_result.specs.declared.report.Reading.TheVariants.{Costs, Bits, End}
 use Rattle.lrat_result.specs.Result.{report_of}
-use Rattle.lrat_result.specs.Report.{reported, resumed, IsNextStage, GoesOn, IsReadReport}
+use Rattle.lrat_result.specs.Report.{reported, resumed, IsNextStage, ReportsWith, IsReadReport}
 
 record Next (text : List ℕ) (stage : Reading) (number : ℕ) (line : List ℕ)
     (rest : List (ℕ × List ℕ))
@@ -34,15 +34,17 @@ next_at text stage n (l ∷ ls) number line rest e r =
           ∙ ap (λ k. resumed stage number (tokens_of k ∷ map tokens_of ls)) same_line;
     }
 
-next_of : (text : List ℕ) (stage : Reading) (left : List (ℕ × List ℕ)) → GoesOn text stage left
+next_of : (text : List ℕ) (stage : Reading) (left : List (ℕ × List ℕ)) → ReportsWith text stage left
     → (number : ℕ) (line : List ℕ) (rest : List (ℕ × List ℕ)) → left ≡ (number, line) ∷ rest
     → Next text stage number line rest
 next_of text stage left g number line rest e =
     next_at text stage g.number g.lines number line rest (sym g.numbered ∙ e) g.report
 
-pub goes_on : (text : List ℕ) (stage : Reading) (left : List (ℕ × List ℕ)) → GoesOn text stage left
+pub goes_on : (text : List ℕ) (stage : Reading) (left : List (ℕ × List ℕ))
+    → ReportsWith text stage left
     → (number : ℕ) (line : List ℕ) (rest : List (ℕ × List ℕ)) → left ≡ (number, line) ∷ rest
-    → (next : Reading) → IsNextStage stage number (tokens_of line) (Ok next) → GoesOn text next rest
+    → (next : Reading) → IsNextStage stage number (tokens_of line) (Ok next)
+    → ReportsWith text next rest
 goes_on text stage left g number line rest e next s =
     let n = next_of text stage left g number line rest e in
     record {
@@ -53,7 +55,8 @@ goes_on text stage left g number line rest e next s =
           ∙ s (map tokens_of n.others);
     }
 
-pub stops : (text : List ℕ) (stage : Reading) (left : List (ℕ × List ℕ)) → GoesOn text stage left
+pub stops : (text : List ℕ) (stage : Reading) (left : List (ℕ × List ℕ))
+    → ReportsWith text stage left
     → (number : ℕ) (line : List ℕ) (rest : List (ℕ × List ℕ)) → left ≡ (number, line) ∷ rest
     → (f : ReportFault) → IsNextStage stage number (tokens_of line) (Err f)
     → IsReadReport text (Err f)
@@ -67,14 +70,15 @@ ends_at : (text : List ℕ) (stage : Reading) (n : ℕ) (ls : List (List ℕ)) �
 ends_at text stage n [] e r = r
 ends_at text stage n (l ∷ ls) e r = absurd (cc)
 
-pub ended_at : (text : List ℕ) (stage : Reading) (left : List (ℕ × List ℕ)) → GoesOn text stage left
+pub ended_at : (text : List ℕ) (stage : Reading) (left : List (ℕ × List ℕ))
+    → ReportsWith text stage left
     → left ≡ [] → (report : ReadReport) → stage ≡ End report → report_of text ≡ Ok (reported report)
 ended_at text stage left g e report is =
     ends_at text stage g.number g.lines (sym g.numbered ∙ e) g.report
     ∙ ap (λ s. resumed s g.number []) is
 
 pub unended_at : (text : List ℕ) (stage : Reading) (left : List (ℕ × List ℕ))
-    → GoesOn text stage left
+    → ReportsWith text stage left
     → left ≡ [] → ((report : ReadReport) → stage ≡ End report → ⊥) → report_of text ≡ Err 0
 unended_at text (Costs last) left g e n =
     ends_at text (Costs last) g.number g.lines (sym g.numbered ∙ e) g.report

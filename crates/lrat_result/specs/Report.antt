@@ -69,7 +69,7 @@ IsNextStage stage n ts (Err (Form m)) =
 IsNextStage stage n ts (Err Memory) = ⊤
 
 -- where these numbered lines are left, the stage gives the report of the text
-pub record GoesOn (text : List ℕ) (stage : Reading) (left : List (ℕ × List ℕ)) : Type 0 where
+pub record ReportsWith (text : List ℕ) (stage : Reading) (left : List (ℕ × List ℕ)) : Type 0 where
   pub number : ℕ
   pub lines : List (List ℕ)
   pub numbered : left ≡ enumerate_from number lines

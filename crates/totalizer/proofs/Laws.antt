@@ -10,7 +10,7 @@ pub use Rattle.totalizer.proofs.Meaning.{stages_leaves, stages_mean_back, stages
 pub use Rattle.totalizer.proofs.Meaning.{totalizer_true}
 pub use Rattle.totalizer.proofs.Outputs.{count_steps, outputs_at_most, outputs_next, outputs_value}
 pub use Rattle.totalizer.proofs.Outputs.{totalizer_leaves, tree_of_leaves}
-pub use Rattle.totalizer.proofs.Staging.{Takes, size_positive, stage_takes}
+pub use Rattle.totalizer.proofs.Staging.{TakesFresh, size_positive, stage_takes}
 pub use Rattle.totalizer.proofs.Unary.{outputs_unary}
 pub use Rattle.totalizer.proofs.Variables.{outputs_below, stage_apart, stage_below, stage_shape}
 pub use Rattle.totalizer.proofs.Variables.{stages_apart, stages_below, stages_few, stages_from}

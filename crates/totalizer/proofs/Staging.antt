@@ -42,20 +42,20 @@ stage_small h v (Leaf l) g = refl
 stage_small h v (Node a b own) g = rw (lt-leb h (size_of a + size_of b) g) refl
 
 -- new variables are taken, and fewer than there are leaves
-pub record Takes (v : ℕ) (t : Tree) (s : Staged) : Type 0 where
+pub record TakesFresh (v : ℕ) (t : Tree) (s : Staged) : Type 0 where
   pub from : v ≤ s.fresh
   pub few : s.fresh + 1 ≤ v + size_of t
   pub same_size : size_of s.tree ≡ size_of t
 
-pub stage_takes : (h v : ℕ) (t : Tree) → Takes v t (stage h v t)
+pub stage_takes : (h v : ℕ) (t : Tree) → TakesFresh v t (stage h v t)
 stage_takes h v (Leaf l) = record { from = omega arith; few = omega arith; same_size = refl }
 stage_takes h v (Node a b own) =
     by (nat_le h (size_of a + size_of b)) refl (stage_takes h v a)
     (stage_takes h (stage h v a).fresh b)
   where
-    by : (x : Bool) → nat_le h (size_of a + size_of b) ≡ x → Takes v a (stage h v a)
-        → Takes (stage h v a).fresh b (right_stage h v a b)
-        → Takes v (Node a b own) (stage h v (Node a b own))
+    by : (x : Bool) → nat_le h (size_of a + size_of b) ≡ x → TakesFresh v a (stage h v a)
+        → TakesFresh (stage h v a).fresh b (right_stage h v a b)
+        → TakesFresh v (Node a b own) (stage h v (Node a b own))
     by true e left right = rw e record {
       from = omega arith;
       few = omega arith;

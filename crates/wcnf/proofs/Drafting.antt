@@ -9,7 +9,7 @@ use Rattle.std.proofs.lemmas.List.{append-nil, length_push}
 use Rattle.cnf.specs.Literal.{Literal, literal_eq}
 use Rattle.cnf.specs.Clause.{contains_literal, without_literal, distinct, greatest_variable}
 use Rattle.cnf.specs.Problem.{Problem, SoftClause}
-use Rattle.wcnf.specs.Wcnf.{Header, Row, Ignored, Hard, Soft, hard_of, soft_of, literals_of}
+use Rattle.wcnf.specs.Wcnf.{Header, Row, Ignored, Hard, Soft, hard_of, soft_of, row_literals}
 use Rattle.wcnf.specs.Wcnf.{problem_of, headed_problem}
 use Rattle.wcnf.specs.Heads.{SoFar}
 use Rattle.wcnf.specs.Drafts.{Gathered, emptied, with_literal, gather, Drafted, nothing_drafted}
@@ -193,7 +193,7 @@ abbrev joined : Drafted → List Row → Problem
 joined d rs =
     record {
       variables = variables_of d.header
-          (max d.variables (greatest_variable (flat_map literals_of rs)));
+          (max d.variables (greatest_variable (flat_map row_literals rs)));
       hard = d.hard ++ hard_of rs;
       soft = d.soft ++ soft_of rs;
     }
@@ -207,9 +207,9 @@ with_rows-are d [] =
 with_rows-are d (Ignored ∷ rs) = with_rows-are d rs
 with_rows-are d (Hard c ∷ rs) =
     let v : max (max d.variables (greatest_variable c))
-    (greatest_variable (flat_map literals_of rs)) ≡ max d.variables
-    (greatest_variable (c ++ flat_map literals_of rs)) =
-    omega (arith, greatest-append c (flat_map literals_of rs)) in
+    (greatest_variable (flat_map row_literals rs)) ≡ max d.variables
+    (greatest_variable (c ++ flat_map row_literals rs)) =
+    omega (arith, greatest-append c (flat_map row_literals rs)) in
     let h = append_assoc d.hard (distinct c ∷ []) (hard_of rs) in
     with_rows-are (drafted_with d (Hard c)) rs
     ∙ (λ i. record {
@@ -219,9 +219,9 @@ with_rows-are d (Hard c ∷ rs) =
     })
 with_rows-are d (Soft w c ∷ rs) =
     let v : max (max d.variables (greatest_variable c))
-    (greatest_variable (flat_map literals_of rs)) ≡ max d.variables
-    (greatest_variable (c ++ flat_map literals_of rs)) =
-    omega (arith, greatest-append c (flat_map literals_of rs)) in
+    (greatest_variable (flat_map row_literals rs)) ≡ max d.variables
+    (greatest_variable (c ++ flat_map row_literals rs)) =
+    omega (arith, greatest-append c (flat_map row_literals rs)) in
     let k : SoftClause = record { weight = w; clause = distinct c } in
     let s = append_assoc d.soft (k ∷ []) (soft_of rs) in
     with_rows-are (drafted_with d (Soft w c)) rs
@@ -238,8 +238,8 @@ header-with_rows d (r ∷ rs) = header-with_rows (drafted_with d r) rs ∙ heade
 pub drafted-joined : (rs : List Row)
     → problem_drafted (with_rows nothing_drafted rs) ≡ problem_of rs
 drafted-joined rs =
-    let v : max 0 (greatest_variable (flat_map literals_of rs)) ≡ greatest_variable
-    (flat_map literals_of rs) = omega arith in
+    let v : max 0 (greatest_variable (flat_map row_literals rs)) ≡ greatest_variable
+    (flat_map row_literals rs) = omega arith in
     with_rows-are nothing_drafted rs
     ∙ (λ i. record { variables = v i; hard = hard_of rs; soft = soft_of rs })
 

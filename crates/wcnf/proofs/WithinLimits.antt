@@ -14,7 +14,7 @@ use Rattle.cnf.specs.Clause.{greatest_variable}
 use Rattle.cnf.specs.Problem.{Problem, SoftClause}
 use Rattle.cnf.specs.Instance.{IsClauseWithin, IsInstance}
 use Rattle.cnf.proofs.Laws.{repeat_distinct}
-use Rattle.wcnf.specs.Wcnf.{Row, Ignored, Hard, Soft, hard_of, soft_of, literals_of, weight_of}
+use Rattle.wcnf.specs.Wcnf.{Row, Ignored, Hard, Soft, hard_of, soft_of, row_literals, weight_of}
 use Rattle.wcnf.specs.Wcnf.{IsWithinLimits, Reads}
 use Rattle.wcnf.proofs.Drafting.{greatest-append}
 
@@ -72,29 +72,29 @@ clause_within v c a h = (
 abbrev SoftWithin : ℕ → SoftClause → Type 0
 SoftWithin v s = IsClauseWithin v s.clause
 
-hard_within : (v : ℕ) (rs : List Row) → All IsVariable (flat_map literals_of rs)
-    → greatest_variable (flat_map literals_of rs) ≤ v → All (IsClauseWithin v) (hard_of rs)
+hard_within : (v : ℕ) (rs : List Row) → All IsVariable (flat_map row_literals rs)
+    → greatest_variable (flat_map row_literals rs) ≤ v → All (IsClauseWithin v) (hard_of rs)
 hard_within v [] a h = All-nil (IsClauseWithin v)
 hard_within v (Ignored ∷ rs) a h = hard_within v rs a h
 hard_within v (Hard c ∷ rs) a h =
-    let m = All-parts c (flat_map literals_of rs) a in
-    let g = greatest-append c (flat_map literals_of rs) in
+    let m = All-parts c (flat_map row_literals rs) a in
+    let g = greatest-append c (flat_map row_literals rs) in
     All-cons (IsClauseWithin v) (distinct c) (hard_of rs) (clause_within v c m.0 (omega (arith, g)))
     (hard_within v rs m.1 (omega (arith, g)))
 hard_within v (Soft w c ∷ rs) a h =
-    let m = All-parts c (flat_map literals_of rs) a in
-    hard_within v rs m.1 (omega (arith, greatest-append c (flat_map literals_of rs)))
+    let m = All-parts c (flat_map row_literals rs) a in
+    hard_within v rs m.1 (omega (arith, greatest-append c (flat_map row_literals rs)))
 
-soft_within : (v : ℕ) (rs : List Row) → All IsVariable (flat_map literals_of rs)
-    → greatest_variable (flat_map literals_of rs) ≤ v → All (SoftWithin v) (soft_of rs)
+soft_within : (v : ℕ) (rs : List Row) → All IsVariable (flat_map row_literals rs)
+    → greatest_variable (flat_map row_literals rs) ≤ v → All (SoftWithin v) (soft_of rs)
 soft_within v [] a h = All-nil (SoftWithin v)
 soft_within v (Ignored ∷ rs) a h = soft_within v rs a h
 soft_within v (Hard c ∷ rs) a h =
-    let m = All-parts c (flat_map literals_of rs) a in
-    soft_within v rs m.1 (omega (arith, greatest-append c (flat_map literals_of rs)))
+    let m = All-parts c (flat_map row_literals rs) a in
+    soft_within v rs m.1 (omega (arith, greatest-append c (flat_map row_literals rs)))
 soft_within v (Soft w c ∷ rs) a h =
-    let m = All-parts c (flat_map literals_of rs) a in
-    let g = greatest-append c (flat_map literals_of rs) in
+    let m = All-parts c (flat_map row_literals rs) a in
+    let g = greatest-append c (flat_map row_literals rs) in
     let s : SoftClause = record { weight = w; clause = distinct c } in
     All-cons (SoftWithin v) s (soft_of rs) (clause_within v c m.0 (omega (arith, g)))
     (soft_within v rs m.1 (omega (arith, g)))
@@ -108,7 +108,7 @@ abbrev kept_literals : List Row → ℕ
 kept_literals rs =
     sum_by length (hard_of rs) + sum_by (λ (s : SoftClause). length s.clause) (soft_of rs)
 
-literals_within : (rs : List Row) → kept_literals rs ≤ length (flat_map literals_of rs)
+literals_within : (rs : List Row) → kept_literals rs ≤ length (flat_map row_literals rs)
 literals_within [] = omega arith
 literals_within (Ignored ∷ rs) = literals_within rs
 literals_within (Hard c ∷ rs) =
@@ -116,7 +116,7 @@ literals_within (Hard c ∷ rs) =
       arith,
       literals_within rs,
       length-distinct c,
-      length-append c (flat_map literals_of rs),
+      length-append c (flat_map row_literals rs),
       sum_by-cons length (distinct c) (hard_of rs),
     )
 literals_within (Soft w c ∷ rs) =
@@ -125,7 +125,7 @@ literals_within (Soft w c ∷ rs) =
       arith,
       literals_within rs,
       length-distinct c,
-      length-append c (flat_map literals_of rs),
+      length-append c (flat_map row_literals rs),
       sum_by-cons (λ (x : SoftClause). length x.clause) s (soft_of rs),
     )
 
@@ -156,7 +156,7 @@ greatest_at_most v (l ∷ c) a =
     )
 
 rows_instance : (v : ℕ) (rs : List Row) → v ≤ 2 ^ 22
-    → greatest_variable (flat_map literals_of rs) ≤ v → IsWithinLimits rs
+    → greatest_variable (flat_map row_literals rs) ≤ v → IsWithinLimits rs
     → IsInstance (record { variables = v; hard = hard_of rs; soft = soft_of rs })
 rows_instance v rs m g w = record {
   variables = m;
@@ -171,10 +171,10 @@ rows_instance v rs m g w = record {
 
 pub reads_instance : (text : List ℕ) (p : Problem) → Reads text p → IsInstance p
 reads_instance text p (inl (rs, a, w, e)) =
-    let v = greatest_variable (flat_map literals_of rs) in
+    let v = greatest_variable (flat_map row_literals rs) in
     subst IsInstance (sym e)
-    (rows_instance v rs (greatest_within (flat_map literals_of rs) w.variables) (omega arith) w)
+    (rows_instance v rs (greatest_within (flat_map row_literals rs) w.variables) (omega arith) w)
 reads_instance text p (inr (h, rs, a, w, s, e)) =
     subst IsInstance (sym e)
     (rows_instance h.variables rs s.most_variables
-    (greatest_at_most h.variables (flat_map literals_of rs) s.variables) w)
+    (greatest_at_most h.variables (flat_map row_literals rs) s.variables) w)

@@ -1,5 +1,5 @@
 // Whether the literals of a clause are of different variables that are there.
-ghost use Rattle.std.specs.Prelude.{◌≡◌, ◌*◌, ◌<◌, ◌≤◌, true, false, length, OnOk};
+ghost use Rattle.std.specs.Prelude.{◌≡◌, ◌*◌, ◌<◌, ◌≤◌, ◌⊎◌, true, false, length, OnOk};
 ghost use Rattle.cnf.specs.Literal.{negation};
 ghost use Rattle.cnf.specs.Marks.{mark_of, HasPlace};
 ghost use Rattle.cnf.specs.declared.limits.TheConstants.{VARIABLE_LIMIT};
@@ -31,6 +31,7 @@ pub fn are_apart(marks: &mut Marks, variables: u32, lits: &[Lit]) -> bool
     requires room { 2 * variables ≤ length marks.old }
     ensures new { result ≡ true → IsNewClause lits.now }
     ensures within { result ≡ true → IsWithin variables lits.now }
+    ensures no { result ≡ false → IsNewClause lits.now → IsWithin variables lits.now → ⊥ }
 {
     marks.clear();
     for lit in lits {
@@ -50,6 +51,8 @@ fn is_met(marks: &Marks, lit: Lit) -> bool
     requires { HasPlace (length marks.now) lit }
     ensures own { result ≡ false → mark_of marks.now lit ≡ false }
     ensures negated { result ≡ false → mark_of marks.now (negation lit) ≡ false }
+    ensures met { result ≡ true → (mark_of marks.now lit ≡ true)
+        ⊎ (mark_of marks.now (negation lit) ≡ true) }
 {
     marks.is_marked(lit) || marks.is_marked(lit.negation())
 }

@@ -17,7 +17,7 @@ use crate::watch::SearchWatch;
 use cdcl_order::watch::heed;
 use cdcl_search::input::Input;
 use cdcl_search::learning::learn;
-use cdcl_search::noting::{note_level, refute};
+use cdcl_search::noting::{note_level, write_empty};
 use cdcl_search::search::Search;
 use clauses::store::CRef;
 use cnf::marks::Marks;
@@ -126,7 +126,7 @@ impl<'q, 'i, 's, 'b, 'm, S: Sink> Course<'q, 'i, 's, 'b, 'm, S> {
             (W.waived watch.old) (W.waived watch.new) }
     {
         if self.search.engine.depth() == 0 {
-            refute(self.search, self.input, self.sink, conflict)?;
+            write_empty(self.search, self.input, self.sink, conflict)?;
             return Ok(Some(GuidedEnd::Refuted));
         }
         if self.budget.left() == 0 {

@@ -4,7 +4,7 @@ ghost use Rattle.cnf.specs.declared.limits.TheConstants.{NUMBER_LIMIT};
 ghost use Rattle.forms.specs.Forms.{form_line, at_number, begun, clause_size, fact_size};
 ghost use Rattle.forms.specs.Forms.{less_clause, less_fact, less_facts, less_numbered};
 ghost use Rattle.forms.specs.Forms.{numbered_size};
-ghost use Rattle.forms.specs.Answers.{HasFormFault, HasRoom, HasSizeFault, IsFact, IsTaken};
+ghost use Rattle.forms.specs.Answers.{HasFormFault, HasFactRoom, HasSizeFault, IsFact, IsTaken};
 
 use super::Forms;
 use crate::citing::{subtract_clause, subtract_item};
@@ -89,7 +89,7 @@ impl Forms {
         facts: &[NamedFact],
     ) -> Result<(), AllocError>
         requires facts { All IsFact facts.now }
-        requires room { HasRoom (T.at table.now) self.old facts.now }
+        requires room { HasFactRoom (T.at table.now) self.old facts.now }
         ensures { OnOk result (self.new ≡ less_facts (T.at table.now) self.old facts.now) }
     {
         for fact in facts {

@@ -263,7 +263,7 @@ impl Engine {
         if self.trail.is_true(other) {
             return Look::True(other);
         }
-        match self.beside(store, falsified, entry, other, rest) {
+        match self.beside(store, entry, other, rest) {
             Some(lit) => Look::Watch(other, lit),
             None if self.trail.is_false(other) => Look::False,
             None => Look::Unit(other),
@@ -271,18 +271,11 @@ impl Engine {
     }
 
     /// A literal that is not false, beside the two that a clause watches. The store is not asked
-    /// for a clause of up to three. Only the contract reads `falsified`.
-    fn beside(
-        &self,
-        store: &Store,
-        falsified: Lit,
-        entry: WatchEntry,
-        other: Lit,
-        rest: Rest,
-    ) -> Option<Lit>
-        requires watched { IsWatched store.now.slots self.now falsified entry }
-        requires other { IsWatchedBy (attachment_in self.now.watches.table entry.reference)
-            falsified other }
+    /// for a clause of up to three.
+    fn beside(&self, store: &Store, entry: WatchEntry, other: Lit, rest: Rest) -> Option<Lit>
+        requires watched { (falsified : Literal)
+            × IsWatched store.now.slots self.now falsified entry
+            × IsWatchedBy (attachment_in self.now.watches.table entry.reference) falsified other }
         requires rest { rest ≡ rest_in (attachment_in self.now.watches.table entry.reference) }
         ensures { MatchOption result (LeavesOne store.now.slots self.now entry.reference other)
             (λ l. (l ≢ other) × MayBeWatched store.now.slots self.now entry.reference l) }

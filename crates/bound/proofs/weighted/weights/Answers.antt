@@ -20,7 +20,7 @@ push_weight-requires c =
     let ss = c.soft-soft-items.result.now in
     let s = c.soft-item.result in
     let all : All (λ x. IsClauseWithin vars x.clause) ss =
-    rw (c.soft-soft-items.ensures) c.limits.ensures.soft_clauses in
+    rw (c.soft-soft-items.ensures) c.vars.ensures.limits.soft_clauses in
     let w = soft_within vars ss c.loop-soft.soft-index s all c.loop-soft-test.true c.soft-item.is in
     places_within vars (length c.loop-soft.marks) s.clause
     (omega (arith, c.loop-soft.invariant.marks)) w
@@ -54,10 +54,10 @@ loop-soft-preserved c =
 
 pub returns-clause-within : goal.returns-clause-within
 returns-clause-within c =
-    limits_variables c.args.instance.now c.limits.ensures c.loop-soft.weights.items
+    limits_variables c.args.instance.now c.vars.ensures.limits c.loop-soft.weights.items
     (grind (arith, common_steps))
 
 pub returns-clause-sum : goal.returns-clause-sum
 returns-clause-sum c =
-    limits_sum c.args.instance.now c.limits.ensures c.loop-soft.weights.items
+    limits_sum c.args.instance.now c.vars.ensures.limits c.loop-soft.weights.items
     (grind (arith, common_steps))

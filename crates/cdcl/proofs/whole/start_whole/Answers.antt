@@ -34,7 +34,7 @@ left : (c : In_ok-stack)
     → IsLeft c.into_clauses-clauses.result c.keep_whole.new.store.slots c.in_ok-stack.stack []
 left c =
     whole_left c.args.formula c.into_clauses-clauses.result c.keep_whole.new.store.slots
-    c.in_ok-stack.stack (c.args.formula.variables + c.args.room) c.limits.ensures
+    c.in_ok-stack.stack (c.args.formula.variables + c.args.room) c.vars-variables.ensures.limits
     c.into_clauses-clauses.ensures (omega arith) (whole c)
 
 same : (c : In_ok-stack)
@@ -77,7 +77,7 @@ returns-clause-input c =
     ap (λ (k : StackState). k.variables) c.in_ok-search.ensures.names ∙ (whole at).variables_are in
     let long : length p.frozen.items ≡ c.args.formula.variables =
     c.in_ok-frozen.ensures ∙ c.vars-variables.ensures.vars in
-    whole_input c.args.formula p c.into_clauses-clauses.result c.limits.ensures
+    whole_input c.args.formula p c.into_clauses-clauses.result c.vars-variables.ensures.limits
     c.into_clauses-clauses.ensures long c.in_ok-given.ensures.ok refl (omega (arith, wide, long))
     (omega (arith, wide, long, c.requires))
 

@@ -1,7 +1,7 @@
 -- One more output.
 use Rattle.std.proofs.Common.{◌-◌, subst, sym}
 use Rattle.forms.specs.Forms.{next_stage}
-use Rattle.forms.specs.Within.{IsCount, IsWithin, CanGrow}
+use Rattle.forms.specs.Within.{IsCount, IsStampedWithin, CanGrow}
 use Rattle.forms.proofs.NextOutput.{count_grows}
 use Rattle.forms.proofs.growing.grow_item.Goals as goal
 
@@ -9,7 +9,7 @@ pub returns-in_ok-widen-in-Count-clause-within : goal.returns-in_ok-widen-in-Cou
 returns-in_ok-widen-in-Count-clause-within c = λ terms h.
     let count = c.in-Count.count in
     let v = c.args.fresh in
-    let is = subst (IsWithin (v - 1) terms) c.in-Count.is h in
+    let is = subst (IsStampedWithin (v - 1) terms) c.in-Count.is h in
     let can = subst CanGrow c.in-Count.is c.requires.more in
     subst (λ n. IsCount (n - 1) terms count.inputs.items c.add_stage.new.self count.multiplier)
     (sym c.in_ok-next-in-Count.ensures.fresh)

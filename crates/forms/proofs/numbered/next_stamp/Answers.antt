@@ -3,7 +3,7 @@ use Rattle.std.proofs.Common.{◌∙◌, length-set, ap, arith, subst, sym}
 use Rattle.std.proofs.lemmas.List.Elements.{All-set, recursion_from_All}
 use Rattle.forms.specs.Forms.{without_multiplier}
 use Rattle.forms.specs.Stamped.{IsStamped, numbered_at}
-use Rattle.forms.specs.Within.{IsWithin}
+use Rattle.forms.specs.Within.{IsStampedWithin}
 use Rattle.forms.proofs.Stamps.{later, forgotten}
 use Rattle.forms.proofs.numbered.next_stamp.Goals as goal
 
@@ -27,9 +27,9 @@ loop-place-preserved c =
       within =
           λ v t all.
           let before = inv.within v t all in
-          All-set (IsWithin v t) c.loop-place.numbered.items i c.forget.new.item
+          All-set (IsStampedWithin v t) c.loop-place.numbered.items i c.forget.new.item
           (c.forget.ensures.within v t
-          (subst (IsWithin v t) (sym c.index_mut.ensures.value)
+          (subst (IsStampedWithin v t) (sym c.index_mut.ensures.value)
           (before i old (omega (arith, inv.long)))))
           before;
     }

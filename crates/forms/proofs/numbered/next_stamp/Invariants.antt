@@ -3,7 +3,7 @@ use Rattle.std.proofs.Common.{◌≡◌, ℕ, length, take, drop}
 use Rattle.std.specs.Prelude.{All}
 use Rattle.forms.specs.Forms.{cleared}
 use Rattle.forms.specs.Stamped.{AreStamped, numbered_in}
-use Rattle.forms.specs.Within.{IsWithin}
+use Rattle.forms.specs.Within.{IsStampedWithin}
 use Rattle.forms.proofs.numbered.next_stamp.Given as goal
 
 abbrev pub invariant-loop-place : goal.invariant-loop-place
@@ -13,6 +13,6 @@ invariant-loop-place l = record {
       ≡ cleared (numbered_in l.present (take l.place l.initial.numbered.items));
   others : drop l.place l.numbered.items ≡ drop l.place l.initial.numbered.items;
   stamped : AreStamped 1 (take l.place l.numbered.items);
-  within : (variables terms : ℕ) → All (IsWithin variables terms) l.initial.numbered.items
-      → All (IsWithin variables terms) l.numbered.items;
+  within : (variables terms : ℕ) → All (IsStampedWithin variables terms) l.initial.numbered.items
+      → All (IsStampedWithin variables terms) l.numbered.items;
 }

@@ -9,7 +9,7 @@ pub loop-term-preserved : goal.loop-term-preserved
 loop-term-preserved c =
     let ts = c.loop-term.terms in
     let i = c.loop-term.term-index in
-    let d : Term = record { rest = pos 0; cost = pos 0; stamp = 0; value = None } in
+    let d : Term = record { added = pos 0; cost = pos 0; stamp = 0; value = None } in
     let t = record (get_or ts i d) { stamp = 0 } in
     let lt : i < length ts = omega arith in
     record {

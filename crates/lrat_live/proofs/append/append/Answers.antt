@@ -2,7 +2,7 @@ use Rattle.std.proofs.Common.{◌≡◌, ◌+◌, ◌<◌, ◌≤◌, ap, arith,
 use Rattle.std.proofs.lemmas.List.{get_or_default, take_at}
 use Rattle.std.specs.Prelude.{slice_index}
 use Rattle.lrat_live.specs.Chains.{IsChained, bucket_of}
-use Rattle.lrat_live.specs.Table.{cells_of, keys_of, nexts_of}
+use Rattle.lrat_live.specs.Table.{entry_spans, keys_of, nexts_of}
 use Rattle.lrat_live.specs.declared.entries.AddedEntry.{AddedEntry}
 use Rattle.lrat_live.specs.declared.spans.TheConstants.{MOST_KEPT}
 use Rattle.lrat_live.proofs.Tables.{table_push, table_clauses}
@@ -14,10 +14,10 @@ grown_is c = c.in_ok-reserve.ensures.items
     ∙ take_at c.grow.new.entries (drop (length c.grow.new.entries) c.args.entries.now.items)
     c.args.entries.now.len (omega arith)
 
-grown_cells : (c : In_ok-reserve)
-    → cells_of c.reserve.new.self.items ≡ cells_of c.args.entries.now.items
-grown_cells c = ap cells_of (grown_is c) ∙ c.in_ok-grow.ensures.cells
-    ∙ ap cells_of c.deref_mut.ensures.value
+grown_spans : (c : In_ok-reserve)
+    → entry_spans c.reserve.new.self.items ≡ entry_spans c.args.entries.now.items
+grown_spans c = ap entry_spans (grown_is c) ∙ c.in_ok-grow.ensures.spans
+    ∙ ap entry_spans c.deref_mut.ensures.value
 
 pub returns-clause-table : goal.returns-clause-table
 returns-clause-table c =
@@ -35,7 +35,7 @@ returns-clause-table c =
       next = c.index.result.now;
       live = true;
     } in
-    let chained : IsChained (length hs) hs (keys_of (cells_of grown)) (nexts_of grown) =
+    let chained : IsChained (length hs) hs (keys_of (entry_spans grown)) (nexts_of grown) =
     rw (grown_is at) c.in_ok-grow.ensures.chained in
     let start : c.len-start.result ≡ length ls = omega (arith, c.args.lits.now.ok.0) in
     let buckets : c.len-2.result ≡ length hs = omega (arith, c.grow.new.heads.ok.0) in
@@ -52,7 +52,7 @@ returns-clause-table c =
     omega (arith, c.in_ok-push.ensures.len, c.reserve.new.self.ok.0) in
     rw (c.in_ok-push.ensures.items, c.in_ok-extend_from_slice.ensures.items)
     (table_push ls c.args.clause.now es grown c.args.heads.now.items hs e c.requires.table
-    (grown_cells at) start refl refl c.bucket-bucket.result c.len-3.result c.requires.above
+    (grown_spans at) start refl refl c.bucket-bucket.result c.len-3.result c.requires.above
     chained room is within next place few fewer)
 
 pub returns-clause-ok : goal.returns-clause-ok
@@ -73,4 +73,4 @@ returns-clause-ok c =
     let start : c.len-start.result ≡ length ls = omega (arith, c.args.lits.now.ok.0) in
     rw (c.in_ok-push.ensures.items, c.in_ok-extend_from_slice.ensures.items)
     (table_clauses ls c.args.clause.now es grown c.args.heads.now.items hs e c.requires.table
-    (grown_cells at) start refl refl)
+    (grown_spans at) start refl refl)

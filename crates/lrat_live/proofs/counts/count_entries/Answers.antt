@@ -4,7 +4,7 @@ use Rattle.std.proofs.lemmas.Bool.{not-true, not-false}
 use Rattle.std.proofs.lemmas.List.{take_all, append-nil, append_assoc}
 use Rattle.std.specs.Prelude.{slice_range}
 use Rattle.lrat_live.specs.Counts.{AreCounts}
-use Rattle.lrat_live.specs.Table.{cells_of, clauses_in}
+use Rattle.lrat_live.specs.Table.{entry_spans, clauses_in}
 use Rattle.lrat_live.specs.declared.entries.AddedEntry.{AddedEntry}
 use Rattle.lrat_live.specs.Pages.{count_in}
 use Rattle.lrat_live.proofs.CountLaws.{counts_push, more_dead, more_live}
@@ -41,7 +41,7 @@ loop-entry-preserved c =
     let x = get_or xs i none in
     let now = count_in c.raise.new.counts in
     let live : (get_or xs i none).live ≡ true = first_of (cc, search (rules, not-false)) in
-    let before = clauses_in c.args.lits.now (cells_of (take i xs)) in
+    let before = clauses_in c.args.lits.now (entry_spans (take i xs)) in
     let part = slice_range c.args.lits.now x.start (x.start + x.length) in
     λ es a. subst (λ cs. AreCounts now (es ++ cs))
     (sym (more_live c.args.lits.now xs i none c.loop-entry-test.true live))
@@ -52,6 +52,6 @@ loop-entry-preserved c =
 pub returns : goal.returns
 returns c =
     λ es a. subst (λ xs. AreCounts (count_in c.loop-entry.counts)
-    (es ++ clauses_in c.args.lits.now (cells_of xs)))
+    (es ++ clauses_in c.args.lits.now (entry_spans xs)))
     (take_all c.loop-entry.entry-index c.args.entries.now c.loop-entry-test.false)
     (c.loop-entry.invariant es a)

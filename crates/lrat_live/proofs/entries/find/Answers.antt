@@ -1,13 +1,13 @@
 use Rattle.std.proofs.Common.{length, ◌<◌}
 use Rattle.lrat_live.specs.Chains.{bucket_of}
-use Rattle.lrat_live.specs.Table.{cells_of, keys_of, nexts_of}
+use Rattle.lrat_live.specs.Table.{entry_spans, keys_of, nexts_of}
 use Rattle.lrat_live.proofs.Chains.{walk_start}
 use Rattle.lrat_live.proofs.Table.{place_within, id_found, next_falls, next_on_walk}
 use Rattle.lrat_live.proofs.entries.find.Goals as goal
 
 pub loop-place-init : goal.loop-place-init
 loop-place-init c =
-    let keys = keys_of (cells_of c.args.entries.now) in
+    let keys = keys_of (entry_spans c.args.entries.now) in
     let m = length c.args.heads.now in
     let b : bucket_of m c.args.id < m = rw (← c.bucket.ensures.value) c.bucket.ensures.within in
     rw c.bucket.ensures.value

@@ -1,10 +1,10 @@
 use Rattle.std.proofs.Common.{◌≡◌, ◌+◌, ◌<◌, ◌∙◌, ℕ, false, get_or, length, length-set, set, arith}
 use Rattle.std.proofs.Common.{refl, subst, sym}
 use Rattle.lrat_live.specs.Chains.{IsChained, bucket_of}
-use Rattle.lrat_live.specs.Table.{cells_of, keys_of, nexts_of}
+use Rattle.lrat_live.specs.Table.{entry_spans, keys_of, nexts_of}
 use Rattle.std.proofs.Common.{take}
 use Rattle.lrat_live.specs.declared.entries.AddedEntry.{AddedEntry}
-use Rattle.lrat_live.proofs.Table.{cells-set_same, link_more}
+use Rattle.lrat_live.proofs.Table.{spans-set_same, link_more}
 use Rattle.lrat_live.proofs.entries.link.Goals as goal
 
 pub loop-i-preserved : goal.loop-i-preserved
@@ -28,8 +28,9 @@ loop-i-preserved c =
     c.loop-i.invariant.chained in
     record {
       buckets = same ∙ sym kept;
-      cells = cells-set_same es i d e refl (omega arith) ∙ c.loop-i.invariant.cells;
+      spans = spans-set_same es i d e refl (omega arith) ∙ c.loop-i.invariant.spans;
       chained =
           subst (λ n. IsChained n (set hs c.bucket-bucket.result (i + 1))
-          (take (i + 1) (keys_of (cells_of (set es i e)))) (nexts_of (set es i e))) (sym kept) more;
+          (take (i + 1) (keys_of (entry_spans (set es i e)))) (nexts_of (set es i e))) (sym kept)
+          more;
     }

@@ -1,7 +1,7 @@
 use Rattle.std.proofs.Common.{◌+◌, ◌<◌, ◌≤◌, ◌^◌, arith, ◌∙◌, length, refl, rules, length-set}
 use Rattle.std.proofs.lemmas.Bool.{not-true, not-false}
 use Rattle.std.proofs.lemmas.List.{take-map, length-map}
-use Rattle.lrat_live.specs.Table.{cell_of, cells_of}
+use Rattle.lrat_live.specs.Table.{entry_span, entry_spans}
 use Rattle.lrat_live.proofs.Clauses.{compacting_all}
 use Rattle.lrat_live.proofs.Moves.{entry_moves_down, dead_entry, live_entry}
 use Rattle.lrat_live.proofs.reclaim.compact.Goals as goal
@@ -59,28 +59,28 @@ loop-i-preserved c =
 pub returns-clause-laid : goal.returns-clause-laid
 returns-clause-laid c =
     let all =
-    compacting_all c.loop-i.lits.items (cells_of c.loop-i.entries.items) c.loop-i.kept
+    compacting_all c.loop-i.lits.items (entry_spans c.loop-i.entries.items) c.loop-i.kept
     c.loop-i.end c.loop-i.i _ c.loop-i.invariant.moving
-    (omega (arith, c.loop-i.entries.ok.0, length-map c.loop-i.entries.items cell_of)) in
+    (omega (arith, c.loop-i.entries.ok.0, length-map c.loop-i.entries.items entry_span)) in
     rw (
       c.truncate.ensures.items,
       c.truncate-2.ensures.items,
-      ← take-map cell_of c.loop-i.kept c.loop-i.entries.items,
+      ← take-map entry_span c.loop-i.kept c.loop-i.entries.items,
     ) all.1
 
 pub returns-clause-live : goal.returns-clause-live
 returns-clause-live c =
-    rw (c.truncate.ensures.items, ← take-map cell_of c.loop-i.kept c.loop-i.entries.items)
+    rw (c.truncate.ensures.items, ← take-map entry_span c.loop-i.kept c.loop-i.entries.items)
     c.loop-i.invariant.moving.live
 
 pub returns-clause-clauses : goal.returns-clause-clauses
 returns-clause-clauses c =
     let all =
-    compacting_all c.loop-i.lits.items (cells_of c.loop-i.entries.items) c.loop-i.kept
+    compacting_all c.loop-i.lits.items (entry_spans c.loop-i.entries.items) c.loop-i.kept
     c.loop-i.end c.loop-i.i _ c.loop-i.invariant.moving
-    (omega (arith, c.loop-i.entries.ok.0, length-map c.loop-i.entries.items cell_of)) in
+    (omega (arith, c.loop-i.entries.ok.0, length-map c.loop-i.entries.items entry_span)) in
     rw (
       c.truncate.ensures.items,
       c.truncate-2.ensures.items,
-      ← take-map cell_of c.loop-i.kept c.loop-i.entries.items,
+      ← take-map entry_span c.loop-i.kept c.loop-i.entries.items,
     ) all.2

@@ -1,6 +1,6 @@
 use Rattle.std.proofs.Common.{◌≡◌, ◌≤◌, ◌++◌, ap, arith, drop, length, take, ◌∙◌}
 use Rattle.std.proofs.lemmas.List.{take_at}
-use Rattle.lrat_live.specs.Table.{cells_of}
+use Rattle.lrat_live.specs.Table.{entry_spans}
 use Rattle.lrat_live.proofs.Tables.{table_reclaimed}
 use Rattle.lrat_live.proofs.reclaim.reclaim.Goals as goal
 
@@ -28,5 +28,5 @@ returns-clause-table c =
     rw (all, heads) (table_reclaimed c.args.lits.now.items c.compact.new.lits.items
     c.args.entries.now.items c.compact.new.entries.items es c.args.heads.now.items hs c.requires
     c.compact.ensures.laid c.compact.ensures.live c.compact.ensures.clauses
-    c.compact.ensures.fewer_entries c.compact.ensures.fewer_literals (c.link.ensures.cells
-    ∙ ap cells_of c.deref_mut-2.ensures.value) (omega arith) room c.link.ensures.chained)
+    c.compact.ensures.fewer_entries c.compact.ensures.fewer_literals (c.link.ensures.spans
+    ∙ ap entry_spans c.deref_mut-2.ensures.value) (omega arith) room c.link.ensures.chained)

@@ -13,7 +13,7 @@ pub returns-clause-read : goal.returns-clause-read
 returns-clause-read c =
     let line = c.args.line.now in
     let bf = before_feed line in
-    let at = c.args.at in
+    let at = c.args.lead.end in
     let ids : ℕ = c.in_ok-ids.ids in
     let past = c.in_ok-ids.ensures in
     let read = c.in_ok-hints_end.ensures.read in
@@ -33,7 +33,7 @@ returns-clause-read c =
     number.1 ∙ ap (λ bs. number.0 ∷ tokens_of bs) (one ∙ ap (λ bs. 100 ∷ bs) two) in
     λ lits h. record {
       read =
-          ap line_of words ∙ deletes_block number.0 (tokens_of (drop ids bf)) c.args.id _
+          ap line_of words ∙ deletes_block number.0 (tokens_of (drop ids bf)) c.args.lead.id _
           number.2 read.block (read.undashed refl);
       last = read.last;
       lits_start = omega arith;

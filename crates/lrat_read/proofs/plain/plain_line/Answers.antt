@@ -6,13 +6,15 @@ use Rattle.lrat_read.proofs.plain.plain_line.Goals as goal
 pub plain_deletion-requires-clause-number : goal.plain_deletion-requires-clause-number
 plain_deletion-requires-clause-number c =
     let line = c.args.line.now in
-    let lead = c.in_ok-lead.lead in
-    plain_number line 0 false lead c.in_ok-at.at
-    (sym (plain_undashed line 0 lead c.in_ok-lead.ensures)) c.in_ok-lead.ensures c.in_ok-at.ensures
+    let number = c.in_ok-number.number in
+    plain_number line 0 false number c.in_ok-end.end
+    (sym (plain_undashed line 0 number c.in_ok-number.ensures)) c.in_ok-number.ensures
+    c.in_ok-end.ensures
 
 pub plain_addition-requires-clause-number : goal.plain_addition-requires-clause-number
 plain_addition-requires-clause-number c =
     let line = c.args.line.now in
-    let lead = c.in_ok-lead.lead in
-    plain_number line 0 false lead c.in_ok-at.at
-    (sym (plain_undashed line 0 lead c.in_ok-lead.ensures)) c.in_ok-lead.ensures c.in_ok-at.ensures
+    let number = c.in_ok-number.number in
+    plain_number line 0 false number c.in_ok-end.end
+    (sym (plain_undashed line 0 number c.in_ok-number.ensures)) c.in_ok-number.ensures
+    c.in_ok-end.ensures

@@ -6,7 +6,7 @@ use Rattle.std.proofs.lemmas.List.Elements.{All-push}
 use Rattle.cnf.specs.Literal.{Literal, index_of}
 use Rattle.cnf.specs.Clause.{greatest_variable, has_repeat, is_tautology}
 use Rattle.cnf.specs.Marks.{IsMarked, HasPlace}
-use Rattle.cdcl.proofs.Apart.{step}
+use Rattle.cdcl.proofs.Apart.{met, past, step}
 use Rattle.cdcl.proofs.guided.apart.are_apart.Goals as goal
 
 pub loop-lit-preserved : goal.loop-lit-preserved
@@ -64,3 +64,16 @@ returns-clause-within c = λ apart.
       subst (All (λ (k : Literal). 0 < k.variable)) (take_all i lits past) inv.from_one,
       inv.low (omega (arith, at_drop_all greatest_variable lits i past)),
     )
+
+pub returns-then-variable-variables-clause-no : goal.returns-then-variable-variables-clause-no
+returns-then-variable-variables-clause-no c = λ is new within.
+    let above : c.args.variables < c.lit-item.result.variable = omega arith in
+    past c.args.lits.now c.loop-lit.lit-index c.args.variables c.lit-item.result
+    c.loop-lit-test.true c.lit-item.is above within.1
+
+pub returns-then-is_met-clause-no : goal.returns-then-is_met-clause-no
+returns-then-is_met-clause-no c = λ is new within.
+    let some : 0 < c.lit-item.result.variable = omega arith in
+    met c.loop-lit.marks c.args.lits.now c.loop-lit.lit-index c.lit-item.result
+    c.loop-lit-test.true c.lit-item.is some c.loop-lit.invariant.marked
+    (c.is_met.ensures.met c.if-is_met.true) new

@@ -6,7 +6,7 @@ use Rattle.forms.specs.declared.numbered.Numbered.TheVariants.{Group as StampedG
 use Rattle.forms.specs.Forms.{are_known}
 use Rattle.forms.specs.Kept.{forms_in}
 use Rattle.forms.specs.Stamped.{IsStamped}
-use Rattle.forms.specs.Within.{IsWithin}
+use Rattle.forms.specs.Within.{IsStampedWithin}
 use Rattle.forms.proofs.Knowing.{each_within, known}
 use Rattle.forms.proofs.state.Forms.group.Goals as goal
 
@@ -21,7 +21,7 @@ invariant_of-self-2 g c =
     let h : are_known (forms_in f) lits ≡ true =
     ap (λ x. are_known x lits) same ∙ sym c.if-not-are_known.ensures.known in
     let all = each_within f.variables lits (known (forms_in f) lits h).below in
-    let within : IsWithin f.variables f.terms item = (
+    let within : IsStampedWithin f.variables f.terms item = (
       omega (arith, c.if-lits-lt2.false, ap length c.in_ok-lits.ensures.items),
       subst (All (λ l. l.variable ≤ f.variables)) (sym c.in_ok-lits.ensures.items) all,
     ) in
@@ -33,10 +33,10 @@ invariant_of-self-2 g c =
       terms = old.terms;
       mass = old.mass;
       within =
-          subst (All (IsWithin f.variables f.terms)) (sym c.in_ok-push.ensures.items)
-          (All-from_recursion (IsWithin f.variables f.terms) (items ++ item ∷ [])
-          (all_push (IsWithin f.variables f.terms) items item
-          (recursion_from_All (IsWithin f.variables f.terms) items old.within) within));
+          subst (All (IsStampedWithin f.variables f.terms)) (sym c.in_ok-push.ensures.items)
+          (All-from_recursion (IsStampedWithin f.variables f.terms) (items ++ item ∷ [])
+          (all_push (IsStampedWithin f.variables f.terms) items item
+          (recursion_from_All (IsStampedWithin f.variables f.terms) items old.within) within));
       stamped =
           subst (All (IsStamped f.present)) (sym c.in_ok-push.ensures.items)
           (All-from_recursion (IsStamped f.present) (items ++ item ∷ [])

@@ -7,7 +7,7 @@ use Rattle.linear.specs.Costs.{width_of}
 use Rattle.forms.specs.Forms.{more_line, plus}
 use Rattle.forms.specs.Kept.{forms_in, most_mass}
 use Rattle.forms.specs.Stamped.{IsStamped, numbered_in}
-use Rattle.forms.specs.Within.{IsWithin}
+use Rattle.forms.specs.Within.{IsStampedWithin}
 use Rattle.forms.proofs.NextOutput.{chosen_after, chosen_grows, chosen_line, chosen_multiplier}
 use Rattle.forms.proofs.NextOutput.{chosen_place, chosen_stamped, chosen_within, refused}
 use Rattle.forms.proofs.MassLaws.{mass_room, output_mass}
@@ -189,7 +189,7 @@ invariant_of-self c =
           (sym c.len.ensures)
           (omega (arith, mass, c.add_output.ensures.mass, c.in-Ok.ensures.mass));
       within =
-          All-set (IsWithin (v - 1) f.terms) f.numbered.items (c.args.number - 1)
+          All-set (IsStampedWithin (v - 1) f.terms) f.numbered.items (c.args.number - 1)
           c.grow_item.new.item
           (c.in-Ok.ensures.within f.terms
           (wider_one f.variables (f.variables + 1 - 1) f.terms n (omega arith)

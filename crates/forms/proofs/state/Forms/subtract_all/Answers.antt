@@ -1,7 +1,7 @@
 use Rattle.std.proofs.Common.{◌≡◌, ◌+◌, ◌∷◌, ◌∙◌, sym, ap, drop, get_or, subst}
 use Rattle.std.proofs.lemmas.List.{at_drop_more}
 use Rattle.forms.specs.Forms.{less_fact, less_facts}
-use Rattle.forms.specs.Answers.{HasRoom}
+use Rattle.forms.specs.Answers.{HasFactRoom}
 use Rattle.forms.proofs.FactSizes.{no_fact}
 use Rattle.forms.proofs.FormLines.{room_first}
 use Rattle.forms.proofs.state.Forms.subtract_all.Goals as goal
@@ -16,10 +16,10 @@ loop-fact-preserved g c =
     let rest = drop (i + 1) fs in
     let e : drop i fs ≡ f ∷ rest = at_drop_more (λ x. x) fs i no_fact c.loop-fact-test.true in
     let now : c.subtract.new.self ≡ less_fact at s f = c.in_ok-subtract.ensures in
-    let room = (room_first at s f rest (subst (HasRoom at s) e c.loop-fact.invariant.room)).1 in
+    let room = (room_first at s f rest (subst (HasFactRoom at s) e c.loop-fact.invariant.room)).1 in
     record {
       whole =
           ap (λ x. less_facts at x rest) now ∙ ap (less_facts at s) (sym e)
           ∙ c.loop-fact.invariant.whole;
-      room = subst (λ x. HasRoom at x rest) (sym now) room;
+      room = subst (λ x. HasFactRoom at x rest) (sym now) room;
     }

@@ -8,7 +8,7 @@ use Rattle.forms.specs.declared.faults.TheConstants.{MOST_TERMS}
 use Rattle.forms.specs.Forms.{at_number, cited, less_numbered, numbered_size}
 use Rattle.forms.specs.Kept.{forms_in, most_mass}
 use Rattle.forms.specs.Stamped.{IsStamped, numbered_at, numbered_in}
-use Rattle.forms.specs.Within.{IsWithin}
+use Rattle.forms.specs.Within.{IsStampedWithin}
 use Rattle.forms.proofs.MassLaws.{more_mass, mass_room}
 use Rattle.forms.proofs.Stamps.{found, less_is}
 use Rattle.forms.proofs.Widths.{item_width}
@@ -64,12 +64,13 @@ invariant_of-self c =
     subst (λ o. IfSome o (λ m. f.terms + numbered_size m ≤ MOST_TERMS)) e
     (subst (λ s. IfSome (at_number s.numbered c.args.number)
     (λ m. s.terms + numbered_size m ≤ MOST_TERMS)) (sym c.self.view_is) c.requires.room) in
-    let was : IsWithin f.variables f.terms c.index_mut-item.result.now =
-    subst (IsWithin f.variables f.terms) (sym c.index_mut-item.ensures.value)
+    let was : IsStampedWithin f.variables f.terms c.index_mut-item.result.now =
+    subst (IsStampedWithin f.variables f.terms) (sym c.index_mut-item.ensures.value)
     (old.within place c.index_mut-item.result.now
     (omega (arith, c.len.ensures, c.if-number-len.false))) in
     let some = size_some f.variables f.terms f.present c.index_mut-item.result.now was in
-    let now : IsWithin f.variables (f.terms + c.numbered_size.result) c.subtract_item.new.item =
+    let now : IsStampedWithin f.variables (f.terms + c.numbered_size.result)
+    c.subtract_item.new.item =
     within_one f.variables (f.terms + 1) (f.terms + c.numbered_size.result)
     c.subtract_item.new.item (omega (arith, some, size))
     (c.subtract_item.ensures.within f.variables f.terms was) in
@@ -93,7 +94,7 @@ invariant_of-self c =
                 (3 * 2 ^ 62 * numbered_size n) old.mass (omega arith),
           ));
       within =
-          All-set (IsWithin f.variables (f.terms + c.numbered_size.result)) items place
+          All-set (IsStampedWithin f.variables (f.terms + c.numbered_size.result)) items place
           c.subtract_item.new.item now
           (within_more f.variables f.terms (f.terms + c.numbered_size.result) items (omega arith)
           old.within);

@@ -3,7 +3,7 @@ use Rattle.std.proofs.Common.{◌≡◌}
 use Rattle.lrat_log.specs.Steps.{learned_count}
 use Rattle.cdcl_order.specs.Budgets.{WaivesAs}
 use Rattle.improve.specs.Bounds.{IsOver}
-use Rattle.improve.specs.Standing.{starting_with, GoesOn}
+use Rattle.improve.specs.Standing.{starting_with, MovesStanding}
 use Rattle.improve.specs.Watch.{AreShown}
 use Rattle.improve.proofs.search.descending.descend.Given as goal
 
@@ -12,7 +12,8 @@ invariant-bounds g l = record {
   over : IsOver l.instance (l.descent).bounds;
   profile : ((l.descent).bounds).profile ≡ ((l.fn.descent).bounds).profile;
   hard : (l.descent).hard ≡ (l.fn.descent).hard;
-  goes_on : GoesOn l.instance (g.T.Progress.state l.fn.progress) (g.T.Progress.state l.progress)
+  goes_on : MovesStanding l.instance (g.T.Progress.state l.fn.progress)
+      (g.T.Progress.state l.progress)
       l.fn.budget l.budget (starting_with (l.fn.descent).best)
       (record { best = (l.descent).best; earlier = ((l.descent).bounds).costs.items })
       0 (learned_count (((l.descent).bounds).solver).sink);

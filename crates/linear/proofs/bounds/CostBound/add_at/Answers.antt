@@ -7,32 +7,32 @@ use mir.Syntax.{w128}
 use mir.Val.{SFits}
 use Rattle.linear.specs.declared.terms.Term.{Term}
 use Rattle.linear.specs.Linear.{plus_at}
-use Rattle.linear.specs.Terms.{rest_of}
+use Rattle.linear.specs.Terms.{added_of}
 use Rattle.linear.specs.Bounds.{BoundState}
 use Rattle.linear.proofs.Sums.{least_at}
 use Rattle.linear.specs.Kept.{state_in}
 use Rattle.linear.proofs.Moves.{whole_small}
-use Rattle.linear.proofs.Places.{stands_at, kept_small, raised_small, rest_put, rest_put_kept}
+use Rattle.linear.proofs.Places.{stands_at, kept_small, raised_small, added_put, added_put_kept}
 use Rattle.linear.proofs.bounds.CostBound.add_at.Goals as goal
 
 pub raised-requires-clause-sum : goal.raised-requires-clause-sum
 raised-requires-clause-sum c =
     let b = c.self.inside in
     let old = c.index.result.now in
-    let f : SFits w128 c.rest_at-rest.result = search rules in
+    let f : SFits w128 c.added_at-added.result = search rules in
     let at = stands_at b c.args.self.now c.args.variable old c.self.view_is c.requires.variable
     c.index.ensures in
     let h = kept_small b c.args.variable old c.self.invariant at in
-    rw (to_z-of_z w128 c.rest_at-rest.result f, c.rest_at-rest.ensures) (omega (arith, h.rest))
+    rw (to_z-of_z w128 c.added_at-added.result f, c.added_at-added.ensures) (omega (arith, h.added))
 
 pub least_at-before-requires : goal.least_at-before-requires
 least_at-before-requires c =
     let b = c.self.inside in
     let old = c.index.result.now in
-    let f : SFits w128 c.rest_at-rest.result = search rules in
+    let f : SFits w128 c.added_at-added.result = search rules in
     let at = stands_at b c.args.self.now c.args.variable old c.self.view_is c.requires.variable
     c.index.ensures in
-    rw (to_z-of_z w128 c.rest_at-rest.result f, c.rest_at-rest.ensures)
+    rw (to_z-of_z w128 c.added_at-added.result f, c.added_at-added.ensures)
     (kept_small b c.args.variable old c.self.invariant at)
 
 pub least_at-after-requires : goal.least_at-after-requires
@@ -40,7 +40,7 @@ least_at-after-requires c =
     let b = c.self.inside in
     let old = c.index.result.now in
     let w = c.args.weight in
-    let f : SFits w128 c.rest_at-rest.result = search rules in
+    let f : SFits w128 c.added_at-added.result = search rules in
     let g : SFits w128 c.raised.result = search rules in
     let i : SFits w64 old.cost = search rules in
     let k : SFits w128 w = search rules in
@@ -49,8 +49,8 @@ least_at-after-requires c =
     let m : b.mass + unsigned_abs w ≤ 2 ^ 120 =
     omega (arith, c.requires.room, ap (λ s. s.mass) c.self.view_is) in
     let e = simp to_z-of_z at c.raised.ensures.value in
-    let r : c.raised.result ≡ rest_of b.present old +ℤ w =
-    e ∙ ap (λ x. x +ℤ w) c.rest_at-rest.ensures in
+    let r : c.raised.result ≡ added_of b.present old +ℤ w =
+    e ∙ ap (λ x. x +ℤ w) c.added_at-added.ensures in
     simp to_z-of_z (rw r (raised_small b c.args.variable old w c.self.invariant at m))
 
 pub moved-self-inside-requires-clause-sum : goal.moved-self-inside-requires-clause-sum
@@ -66,7 +66,7 @@ invariant_of-self c =
     let old = c.index.result.now in
     let w = c.args.weight in
     let v = c.args.variable in
-    let f : SFits w128 c.rest_at-rest.result = search rules in
+    let f : SFits w128 c.added_at-added.result = search rules in
     let g : SFits w128 c.raised.result = search rules in
     let i : SFits w64 old.cost = search rules in
     let k : SFits w128 w = search rules in
@@ -75,26 +75,26 @@ invariant_of-self c =
     let m : b.mass + unsigned_abs w ≤ 2 ^ 120 =
     omega (arith, c.requires.room, ap (λ s. s.mass) c.self.view_is) in
     let e = simp to_z-of_z at c.raised.ensures.value in
-    let r : c.raised.result ≡ rest_of b.present old +ℤ w =
-    e ∙ ap (λ x. x +ℤ w) c.rest_at-rest.ensures in
+    let r : c.raised.result ≡ added_of b.present old +ℤ w =
+    e ∙ ap (λ x. x +ℤ w) c.added_at-added.ensures in
     let x = simp to_z-of_z at c.least_at-before.ensures.value in
     let y = simp to_z-of_z at c.least_at-after.ensures.value in
-    let z = ap (λ (q : ℤ). least_at b.scale old.cost q old.value) c.rest_at-rest.ensures in
+    let z = ap (λ (q : ℤ). least_at b.scale old.cost q old.value) c.added_at-added.ensures in
     let p : c.moved-self-inside.result
-    +ℤ least_at b.scale old.cost (rest_of b.present old) old.value
+    +ℤ least_at b.scale old.cost (added_of b.present old) old.value
     ≡ b.least +ℤ least_at b.scale old.cost c.raised.result old.value
     = omega (arith, ints, c.moved-self-inside.ensures, x, y, z) in
     let u : c.unsigned_abs.result ≡ unsigned_abs w =
     simp to_z-of_z at c.unsigned_abs.ensures.value in
     let new : Term = record {
-      rest = c.raised.result;
+      added = c.raised.result;
       cost = old.cost;
       stamp = b.present;
       value =
           old.value;
     } in
     simp to_z-of_z (rw u record {
-      least = rest_put_kept b.cost_constant b.scale b.rest_constant b.present b.terms.items v
+      least = added_put_kept b.cost_constant b.scale b.added_constant b.present b.terms.items v
           old new w b.weights b.mass b.least b.least_cost c.moved-self-inside.result
           (c.self.invariant).least at m refl refl refl r p;
       stamps = All-set (λ t. t.stamp ≤ b.present) b.terms.items v new (omega arith)
@@ -107,21 +107,22 @@ returns-clause-form c =
     let old = c.index.result.now in
     let w = c.args.weight in
     let v = c.args.variable in
-    let f : SFits w128 c.rest_at-rest.result = search rules in
+    let f : SFits w128 c.added_at-added.result = search rules in
     let g : SFits w128 c.raised.result = search rules in
     let i : SFits w64 old.cost = search rules in
     let k : SFits w128 w = search rules in
     let at = stands_at b c.args.self.now v old c.self.view_is c.requires.variable c.index.ensures in
     let e = simp to_z-of_z at c.raised.ensures.value in
-    let r : c.raised.result ≡ rest_of b.present old +ℤ w =
-    e ∙ ap (λ x. x +ℤ w) c.rest_at-rest.ensures in
+    let r : c.raised.result ≡ added_of b.present old +ℤ w =
+    e ∙ ap (λ x. x +ℤ w) c.added_at-added.ensures in
     let new : Term = record {
-      rest = c.raised.result;
+      added = c.raised.result;
       cost = old.cost;
       stamp = b.present;
       value =
           old.value;
     } in
-    simp to_z-of_z (rest_put b.cost_constant b.scale b.rest_constant b.present b.terms.items v
+    simp to_z-of_z (added_put b.cost_constant b.scale b.added_constant b.present b.terms.items v
     old new w at refl refl refl r
-    ∙ ap (λ (s : BoundState). record (s.form) { rest = plus_at w v (s.form).rest }) c.self.view_is)
+    ∙ ap (λ (s : BoundState). record (s.form) { added = plus_at w v (s.form).added })
+    c.self.view_is)

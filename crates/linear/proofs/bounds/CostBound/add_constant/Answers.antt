@@ -21,7 +21,7 @@ invariant_of-self c =
     let w = c.args.weight in
     let f : SFits w128 w = search rules in
     let g : SFits w128 b.least = search rules in
-    let h : SFits w128 b.rest_constant = search rules in
+    let h : SFits w128 b.added_constant = search rules in
     let i : SFits w128 c.raised-self-inside.result = search rules in
     let j : SFits w128 c.raised-self-inside-2.result = search rules in
     let m : b.mass + unsigned_abs w ≤ 2 ^ 120

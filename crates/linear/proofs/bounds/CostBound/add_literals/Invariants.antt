@@ -6,8 +6,8 @@ use Rattle.linear.proofs.bounds.CostBound.add_literals.Given as goal
 
 abbrev pub invariant-loop-lit : goal.invariant-loop-lit
 invariant-loop-lit l = record {
-  rest : plus_literals l.weight (drop l.lit-index l.lits) (l.self.form).rest
-      ≡ plus_literals l.weight l.lits (l.fn.self.form).rest;
+  added : plus_literals l.weight (drop l.lit-index l.lits) (l.self.form).added
+      ≡ plus_literals l.weight l.lits (l.fn.self.form).added;
   cost : (l.self.form).cost ≡ (l.fn.self.form).cost;
   scale : (l.self.form).scale ≡ (l.fn.self.form).scale;
   fixed : (l.self.form).fixed ≡ (l.fn.self.form).fixed;

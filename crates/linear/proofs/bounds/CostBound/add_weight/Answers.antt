@@ -59,7 +59,7 @@ least_at-requires-2 c =
     let small : unsigned_abs c.raised_cost.result < 2 ^ 62
     = omega (arith, d, e, w, c.coefficient_part-by.ensures.bound, c.requires.small) in
     rw (to_z-of_z w64 c.raised_cost.result k) record
-    { times = omega arith; cost = small; rest = omega arith }
+    { times = omega arith; cost = small; added = omega arith }
 
 pub moved-self-inside-requires-clause-sum : goal.moved-self-inside-requires-clause-sum
 moved-self-inside-requires-clause-sum c =
@@ -80,7 +80,7 @@ invariant_of-self c =
     let v = c.variable-variable.result in
     let x = c.coefficient_part-by.result in
     let y = c.constant_part-constant.result in
-    let f : SFits w128 old.rest = search rules in
+    let f : SFits w128 old.added = search rules in
     let g : SFits w64 old.cost = search rules in
     let h : SFits w64 x = search rules in
     let i : SFits w128 y = search rules in
@@ -105,7 +105,7 @@ invariant_of-self c =
     let w = ap (λ (s : BoundState). s.weights) c.self.view_is in
     let none = ap (λ (s : BoundState). (s.form).scale) c.self.view_is ∙ c.requires.none in
     let new : Term = record {
-      rest = old.rest;
+      added = old.added;
       cost = c.raised_cost.result;
       stamp =
           old.stamp;
@@ -114,7 +114,7 @@ invariant_of-self c =
     let q = All-get_or (λ t. t.stamp ≤ b.present) b.terms.items v old at.within
     (c.self.invariant).stamps in
     simp to_z-of_z (rw constant record {
-      least = cost_put_kept b.cost_constant y b.scale b.rest_constant b.present b.terms.items v
+      least = cost_put_kept b.cost_constant y b.scale b.added_constant b.present b.terms.items v
           old new x b.weights b.mass c.args.weight b.least b.least_cost c.moved-self-inside.result
           (c.self.invariant).least none at cost refl refl refl
           c.coefficient_part-by.ensures.bound c.constant_part-constant.ensures.bound
@@ -131,7 +131,7 @@ returns-clause-form c =
     let l = c.args.lit in
     let x = c.coefficient_part-by.result in
     let y = c.constant_part-constant.result in
-    let f : SFits w128 old.rest = search rules in
+    let f : SFits w128 old.added = search rules in
     let g : SFits w64 old.cost = search rules in
     let h : SFits w64 x = search rules in
     let i : SFits w128 y = search rules in
@@ -143,16 +143,16 @@ returns-clause-form c =
     let cost = simp to_z-of_z at c.raised_cost.ensures.value in
     let constant = simp to_z-of_z at c.raised-self-inside.ensures.value in
     let new : Term = record {
-      rest = old.rest;
+      added = old.added;
       cost = c.raised_cost.result;
       stamp =
           old.stamp;
       value = old.value;
     } in
     let weight = pos c.args.weight in
-    let first = cost_put b.cost_constant y b.scale b.rest_constant b.present b.terms.items v old new
-    x at cost refl refl refl in
-    let form = form_of_terms b.cost_constant b.scale b.rest_constant b.present b.terms.items in
+    let first = cost_put b.cost_constant y b.scale b.added_constant b.present b.terms.items v old
+    new x at cost refl refl refl in
+    let form = form_of_terms b.cost_constant b.scale b.added_constant b.present b.terms.items in
     let by : x ≡ (if l.negated then pos 0 -ℤ weight else weight)
     = c.coefficient_part-by.ensures.value
     ∙ ap (λ t. if t then pos 0 -ℤ weight else weight) c.is_negated.ensures in

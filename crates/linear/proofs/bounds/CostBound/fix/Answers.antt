@@ -8,7 +8,7 @@ use mir.Syntax.{w128}
 use mir.Val.{SFits}
 use Rattle.linear.specs.declared.terms.Term.{Term}
 use Rattle.linear.specs.Costs.{CostForm, fixed_by}
-use Rattle.linear.specs.Terms.{form_of_terms, rest_of, values}
+use Rattle.linear.specs.Terms.{form_of_terms, added_of, values}
 use Rattle.linear.specs.Bounds.{BoundState}
 use Rattle.linear.specs.Kept.{state_in}
 use Rattle.linear.proofs.Sums.{least_at}
@@ -21,21 +21,21 @@ pub least_at-before-requires : goal.least_at-before-requires
 least_at-before-requires c =
     let b = c.self.inside in
     let old = c.index.result.now in
-    let f : SFits w128 c.rest_at-rest.result = search rules in
+    let f : SFits w128 c.added_at-added.result = search rules in
     let at = stands_at b c.args.self.now c.variable-variable.result old c.self.view_is
     (rw c.variable-variable.ensures.variable c.requires) c.index.ensures in
-    rw (to_z-of_z w128 c.rest_at-rest.result f, c.rest_at-rest.ensures)
+    rw (to_z-of_z w128 c.added_at-added.result f, c.added_at-added.ensures)
     (kept_small b c.variable-variable.result old c.self.invariant at)
 
 pub least_at-after-requires : goal.least_at-after-requires
 least_at-after-requires c =
     let b = c.self.inside in
     let old = c.index.result.now in
-    let f : SFits w128 c.rest_at-rest.result = search rules in
+    let f : SFits w128 c.added_at-added.result = search rules in
     let g : SFits w64 old.cost = search rules in
     let at = stands_at b c.args.self.now c.variable-variable.result old c.self.view_is
     (rw c.variable-variable.ensures.variable c.requires) c.index.ensures in
-    simp to_z-of_z (rw c.rest_at-rest.ensures
+    simp to_z-of_z (rw c.added_at-added.ensures
     (kept_small b c.variable-variable.result old c.self.invariant at))
 
 pub moved-self-inside-requires-clause-sum : goal.moved-self-inside-requires-clause-sum
@@ -77,35 +77,35 @@ invariant_of-self c =
     let old = c.index.result.now in
     let v = c.variable-variable.result in
     let x = not c.is_negated.result in
-    let f : SFits w128 c.rest_at-rest.result = search rules in
-    let g : SFits w128 old.rest = search rules in
+    let f : SFits w128 c.added_at-added.result = search rules in
+    let g : SFits w128 old.added = search rules in
     let i : SFits w64 old.cost = search rules in
     let m : SFits w128 c.moved-self-inside.result = search rules in
     let n : SFits w128 c.moved-self-inside-then-is_none.result = search rules in
     let at = stands_at b c.args.self.now v old c.self.view_is
     (rw c.variable-variable.ensures.variable c.requires) c.index.ensures in
-    let e = to_z-of_z w128 c.rest_at-rest.result f in
+    let e = to_z-of_z w128 c.added_at-added.result f in
     let k = to_z-of_z w64 old.cost i in
-    let y : c.least_at-before.result ≡ least_at b.scale old.cost (rest_of b.present old) old.value
+    let y : c.least_at-before.result ≡ least_at b.scale old.cost (added_of b.present old) old.value
     = c.least_at-before.ensures.value
-    ∙ ap (λ (u : ℤ). least_at b.scale old.cost u old.value) (e ∙ c.rest_at-rest.ensures) in
-    let z : c.least_at-after.result ≡ least_at b.scale old.cost (rest_of b.present old) (Some x)
+    ∙ ap (λ (u : ℤ). least_at b.scale old.cost u old.value) (e ∙ c.added_at-added.ensures) in
+    let z : c.least_at-after.result ≡ least_at b.scale old.cost (added_of b.present old) (Some x)
     = c.least_at-after.ensures.value
-    ∙ ap (λ (u : ℤ). least_at b.scale u (to_z w128 (of_z w128 c.rest_at-rest.result)) (Some x)) k
-    ∙ ap (λ (u : ℤ). least_at b.scale old.cost u (Some x)) (e ∙ c.rest_at-rest.ensures) in
+    ∙ ap (λ (u : ℤ). least_at b.scale u (to_z w128 (of_z w128 c.added_at-added.result)) (Some x)) k
+    ∙ ap (λ (u : ℤ). least_at b.scale old.cost u (Some x)) (e ∙ c.added_at-added.ensures) in
     let y2 = c.least_at-before-then-is_none.ensures.value in
     let z2 : c.least_at-after-then-is_none.result ≡ least_at 1 old.cost (pos 0) (Some x)
     = c.least_at-after-then-is_none.ensures.value
     ∙ ap (λ (u : ℤ). least_at 1 u (pos 0) (Some x)) k in
     let p : c.moved-self-inside.result
-    +ℤ least_at b.scale old.cost (rest_of b.present old) old.value
-    ≡ b.least +ℤ least_at b.scale old.cost (rest_of b.present old) (Some x)
+    +ℤ least_at b.scale old.cost (added_of b.present old) old.value
+    ≡ b.least +ℤ least_at b.scale old.cost (added_of b.present old) (Some x)
     = omega (arith, ints, c.moved-self-inside.ensures, y, z) in
     let q : c.moved-self-inside-then-is_none.result +ℤ least_at 1 old.cost (pos 0) old.value
     ≡ b.least_cost +ℤ least_at 1 old.cost (pos 0) (Some x)
     = omega (arith, ints, c.moved-self-inside-then-is_none.ensures, y2, z2) in
     let new : Term = record {
-      rest = old.rest;
+      added = old.added;
       cost = old.cost;
       stamp = old.stamp;
       value = Some x;
@@ -113,7 +113,7 @@ invariant_of-self c =
     let o = All-get_or (λ t. t.stamp ≤ b.present) b.terms.items v old at.within
     (c.self.invariant).stamps in
     simp to_z-of_z record {
-      least = value_put_kept b.cost_constant b.scale b.rest_constant b.present b.terms.items v
+      least = value_put_kept b.cost_constant b.scale b.added_constant b.present b.terms.items v
           old new x b.weights b.mass b.least b.least_cost c.moved-self-inside.result
           c.moved-self-inside-then-is_none.result (c.self.invariant).least at refl refl refl refl p
           q;
@@ -127,17 +127,17 @@ returns-then-is_none c =
     let old = c.index.result.now in
     let v = c.variable-variable.result in
     let x = not c.is_negated.result in
-    let g : SFits w128 old.rest = search rules in
+    let g : SFits w128 old.added = search rules in
     let i : SFits w64 old.cost = search rules in
     let at = stands_at b c.args.self.now v old c.self.view_is
     (rw c.variable-variable.ensures.variable c.requires) c.index.ensures in
     let new : Term = record {
-      rest = old.rest;
+      added = old.added;
       cost = old.cost;
       stamp = old.stamp;
       value = Some x;
     } in
-    let p = value_put b.cost_constant b.scale b.rest_constant b.present b.terms.items v old new
+    let p = value_put b.cost_constant b.scale b.added_constant b.present b.terms.items v old new
     (Some x) at refl refl refl refl in
     let ts = b.terms.items in
     let l = c.args.lit in
@@ -149,7 +149,7 @@ returns-then-is_none c =
     = ap (λ i. set (values ts) i (Some x)) here
     ∙ ap (λ n. set (values ts) l.variable (Some (not n))) c.is_negated.ensures
     ∙ sym (fixed_here l (values ts) none) in
-    let f = form_of_terms b.cost_constant b.scale b.rest_constant b.present ts in
+    let f = form_of_terms b.cost_constant b.scale b.added_constant b.present ts in
     simp to_z-of_z (ap (λ (y : CostForm). record { form = y; weights = b.weights; mass = b.mass })
     (p ∙ ap (λ (fs : List (Option Bool)). record f { fixed = fs }) q)
     ∙ ap (λ (s : BoundState). record s {

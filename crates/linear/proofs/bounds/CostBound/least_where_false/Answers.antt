@@ -13,16 +13,16 @@ use Rattle.linear.specs.Costs.{HasOneWidth, falsified, least_where, width_of}
 use Rattle.linear.specs.Bounds.{BoundState, IsBounded}
 use Rattle.linear.specs.declared.terms.Term.{Term}
 use Rattle.linear.specs.declared.bounds.CostBound.TheInside.{Inside}
-use Rattle.linear.specs.Kept.{state_in, IsKept}
+use Rattle.linear.specs.Kept.{state_in, IsBoundKept}
 use Rattle.linear.proofs.Sums.{least_at}
 use Rattle.linear.proofs.Moves.{where_small}
 use Rattle.linear.proofs.Places.{StandsAt, within_width, stands_at, kept_small, cost_here}
-use Rattle.linear.proofs.Places.{rest_here, value_here}
+use Rattle.linear.proofs.Places.{added_here, value_here}
 use Rattle.linear.proofs.Falsified.{least_pushed}
 use Rattle.linear.proofs.bounds.CostBound.least_where_false.Goals as goal
 
 -- the least value so far is small
-so_far : (b : Inside) (s : BoundState) (ls : List Literal) (n : ℤ) → state_in b ≡ s → IsKept b
+so_far : (b : Inside) (s : BoundState) (ls : List Literal) (n : ℤ) → state_in b ≡ s → IsBoundKept b
     → n ≡ least_where s.form (falsified ls (s.form).fixed) → unsigned_abs n < 2 ^ 126
 so_far b s ls n e h d =
     let bounded = subst (λ (x : BoundState). IsBounded x) e (h.least).bounded in
@@ -72,12 +72,12 @@ loop-lit-preserved c =
     ≡ least_where s.form (falsified (take i ls) (s.form).fixed))
     (sym c.self.view_is) c.loop-lit.invariant in
     let ec = cost_here ts l.variable old at in
-    let er = rest_here b.present ts l.variable old at in
+    let er = added_here b.present ts l.variable old at in
     let ev = value_here ts l.variable old at in
-    let e : n +ℤ least_at f.scale (coefficient f.cost l.variable) (coefficient f.rest l.variable)
+    let e : n +ℤ least_at f.scale (coefficient f.cost l.variable) (coefficient f.added l.variable)
     (get_or f.fixed l.variable None)
     ≡ least_where f (falsified (take i ls) f.fixed)
-    +ℤ least_at f.scale (coefficient f.cost l.variable) (coefficient f.rest l.variable)
+    +ℤ least_at f.scale (coefficient f.cost l.variable) (coefficient f.added l.variable)
     (Some l.negated)
     = cc (c.where_false-total.ensures, c.is_negated.ensures) in
     let p = least_pushed f ls i l n (((c.self.invariant).least).bounded).width

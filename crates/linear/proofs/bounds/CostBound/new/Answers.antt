@@ -10,7 +10,7 @@ use Rattle.linear.proofs.Places.{nothing_form}
 use Rattle.linear.proofs.bounds.CostBound.new.Goals as goal
 
 abbrev nothing : Term
-nothing = record { rest = pos 0; cost = pos 0; stamp = 0; value = None }
+nothing = record { added = pos 0; cost = pos 0; stamp = 0; value = None }
 
 pub returns-clause-form : goal.returns-clause-form
 returns-clause-form c =

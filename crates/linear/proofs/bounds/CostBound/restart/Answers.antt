@@ -34,7 +34,7 @@ returns-clause-form c =
     let f = c.next_stamp-self-inside.ensures.values ∙ ap values q in
     let e = with_items_is b.terms us (same_items ts us f ∙ sym (b.terms.ok.0)) in
     rw e (fresh_stamp p ts us d f c.next_stamp-self-inside.ensures.above b.cost_constant
-    c.args.scale b.scale b.rest_constant b.present
+    c.args.scale b.scale b.added_constant b.present
     ∙ ap (λ (s : BoundState). restarted c.args.scale s.form) c.self.view_is)
 
 pub invariant_of-self : goal.invariant_of-self
@@ -51,7 +51,7 @@ invariant_of-self c =
     let i : SFits w128 c.scaled-self-inside.result = search rules in
     let x = simp to_z-of_z at c.scaled-self-inside.ensures in
     let above = c.next_stamp-self-inside.ensures.above in
-    let form = fresh_stamp p ts us d f above b.cost_constant c.args.scale b.scale b.rest_constant
+    let form = fresh_stamp p ts us d f above b.cost_constant c.args.scale b.scale b.added_constant
     b.present in
     let kept = restarted_kept (state_in b) b.least b.least_cost c.args.scale
     (c.self.invariant).least c.requires in

@@ -14,7 +14,7 @@ use Rattle.linear.proofs.Places.{widened_form}
 use Rattle.linear.proofs.bounds.CostBound.widen.Goals as goal
 
 abbrev nothing : Term
-nothing = record { rest = pos 0; cost = pos 0; stamp = 0; value = None }
+nothing = record { added = pos 0; cost = pos 0; stamp = 0; value = None }
 
 pub invariant_of-self : goal.invariant_of-self
 invariant_of-self c =
@@ -28,12 +28,12 @@ invariant_of-self c =
     = c.in_ok-resize.ensures.items
     ∙ ap (λ xs. xs ++ replicate (w - b.terms.len) nothing) (take_all w ts m)
     ∙ ap (λ k. ts ++ replicate (w - k) nothing) n in
-    let form = widened_form b.cost_constant b.scale b.rest_constant b.present ts w nothing refl refl
-    refl in
+    let form = widened_form b.cost_constant b.scale b.added_constant b.present ts w nothing refl
+    refl refl in
     record {
       least = subst (λ (f : CostForm). HasLeast
           (record { form = f; weights = b.weights; mass = b.mass }) b.least b.least_cost)
-          (sym (ap (form_of_terms b.cost_constant b.scale b.rest_constant b.present) e ∙ form))
+          (sym (ap (form_of_terms b.cost_constant b.scale b.added_constant b.present) e ∙ form))
           (widened_kept (state_in b) b.least b.least_cost w (c.self.invariant).least);
       stamps = subst (λ (xs : List Term). All (λ t. t.stamp ≤ b.present) xs) (sym e)
           (All-append (λ t. t.stamp ≤ b.present) ts (replicate (w - length ts) nothing)
@@ -53,8 +53,8 @@ returns-in_ok-resize c =
     = c.in_ok-resize.ensures.items
     ∙ ap (λ xs. xs ++ replicate (w - b.terms.len) nothing) (take_all w ts m)
     ∙ ap (λ k. ts ++ replicate (w - k) nothing) n in
-    let form = widened_form b.cost_constant b.scale b.rest_constant b.present ts w nothing refl refl
-    refl in
+    let form = widened_form b.cost_constant b.scale b.added_constant b.present ts w nothing refl
+    refl refl in
     ap (λ (f : CostForm). record { form = f; weights = b.weights; mass = b.mass })
-    (ap (form_of_terms b.cost_constant b.scale b.rest_constant b.present) e ∙ form)
+    (ap (form_of_terms b.cost_constant b.scale b.added_constant b.present) e ∙ form)
     ∙ ap (λ (s : BoundState). record s { form = widened w s.form }) c.self.view_is

@@ -1,15 +1,16 @@
 use Rattle.std.proofs.Common.{◌≡◌, ◌+◌, arith, rules}
 use Rattle.lrat_live.specs.Chains.{place_of}
-use Rattle.lrat_live.specs.Table.{cells_of, keys_of}
+use Rattle.lrat_live.specs.Table.{entry_spans, keys_of}
 use Rattle.lrat_live.proofs.Lookup.{nothing_listed, nothing_left_out, entry_within, dead_listed}
 use Rattle.lrat_live.proofs.Lookup.{live_listed, dead_left, deleted_clauses, deleted_table}
 use Rattle.lrat_live.proofs.added.Added.delete.Goals as goal
 use Rattle.lrat_live.proofs.added.Added.delete.Goals.{In_default, In-Some}
 
-nowhere : (c : In_default) → place_of c.args.id (keys_of (cells_of c.self.inside.entries.items)) ≡ 0
+nowhere : (c : In_default)
+    → place_of c.args.id (keys_of (entry_spans c.self.inside.entries.items)) ≡ 0
 nowhere c = rw c.deref-2.ensures.value at c.in_default.ensures
 
-at_place : (c : In-Some) → place_of c.args.id (keys_of (cells_of c.self.inside.entries.items))
+at_place : (c : In-Some) → place_of c.args.id (keys_of (entry_spans c.self.inside.entries.items))
     ≡ c.in-Some.place + 1
 at_place c = rw c.deref-2.ensures.value at c.in-Some.ensures
 

@@ -1,20 +1,21 @@
 use Rattle.std.proofs.Common.{◌≡◌, ◌+◌, ◌≤◌, arith, sym, length, rules}
 use Rattle.std.proofs.lemmas.Bool.{not-true, not-false}
 use Rattle.lrat_live.specs.Chains.{place_of}
-use Rattle.lrat_live.specs.Table.{cells_of, keys_of}
+use Rattle.lrat_live.specs.Table.{entry_spans, keys_of}
 use Rattle.lrat_live.proofs.Lookup.{nothing_listed, entry_within, entry_ends, dead_listed}
 use Rattle.lrat_live.proofs.Lookup.{live_listed}
 use Rattle.lrat_live.proofs.added.Added.find.Goals as goal
 use Rattle.lrat_live.proofs.added.Added.find.Goals.{In_ok-place}
 
-at_place : (c : In_ok-place) → place_of c.args.id (keys_of (cells_of c.self.inside.entries.items))
+at_place : (c : In_ok-place)
+    → place_of c.args.id (keys_of (entry_spans c.self.inside.entries.items))
     ≡ c.in_ok-place.place + 1
 at_place c = rw c.deref-2.ensures.value at c.in_ok-place.ensures
 
 pub returns-in_err-place : goal.returns-in_err-place
 returns-in_err-place c =
     let s = c.self.inside in
-    let none : place_of c.args.id (keys_of (cells_of s.entries.items)) ≡ 0 =
+    let none : place_of c.args.id (keys_of (entry_spans s.entries.items)) ≡ 0 =
     rw c.deref-2.ensures.value at c.in_err-place.ensures in
     rw (c.from_residual.ensures, ← c.self.view_is)
     (sym (nothing_listed s.lits.items s.entries.items s.heads.items c.self.invariant

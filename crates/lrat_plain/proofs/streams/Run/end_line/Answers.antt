@@ -4,7 +4,7 @@ use Rattle.std.specs.Prelude.{IfErr}
 use Rattle.std.specs.Str.Lines.{strip_carriage_return}
 use Rattle.text.specs.Text.{tokens_of}
 use Rattle.lrat_plain.specs.Runs.{FaultAfter}
-use Rattle.lrat_plain.specs.Steps.{FaultOf, GoesOn}
+use Rattle.lrat_plain.specs.Steps.{FaultOf, WritesSteps}
 use Rattle.lrat_plain.specs.declared.faults.PlainFault.{PlainFault}
 use Rattle.lrat_plain.proofs.Running.{line_fault, line_runs}
 use Rattle.lrat_plain.proofs.Texts.{if_err_weaker}
@@ -29,7 +29,7 @@ returns-clause-runs g c =
     let end = c.args.end.now in
     let is : c.in_ok-line.line.now ≡ strip_carriage_return (s.rest ++ end) = c.in_ok-line.ensures in
     line_runs s _ end c.requires.no_feed c.requires.kept _ _ _ _ c.clear.ensures
-    (subst (λ l. GoesOn s.steps c.take_line.new.self (tokens_of l ∷ [])
+    (subst (λ l. WritesSteps s.steps c.take_line.new.self (tokens_of l ∷ [])
     (g.F.Write.contents c.args.formula.now) (g.F.Write.contents c.take_line.new.formula)
     (g.C.Write.contents c.args.certificate.now) (g.C.Write.contents c.take_line.new.certificate))
     is c.in_ok-take_line.ensures.goes)

@@ -16,6 +16,14 @@ is_true-requires c =
       ap (λ (x : EngineState). x.variables) c.self.view_is,
     )
 
+pub beside-requires-clause-watched : goal.beside-requires-clause-watched
+beside-requires-clause-watched c = (
+  c.args.falsified,
+  c.requires,
+  subst (λ (x : EngineState). IsWatchedBy (attachment_in x.watches.table c.args.entry.reference)
+      c.args.falsified c.other.result.0) c.self.view_is c.other.ensures.other,
+)
+
 pub returns-in-None-2 : goal.returns-in-None-2
 returns-in-None-2 c =
     let now = c.args.self.now in

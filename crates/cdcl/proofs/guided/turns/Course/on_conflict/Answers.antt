@@ -7,16 +7,16 @@ use Rattle.cdcl.proofs.Guiding.{guided_breaks, guided_ends, guided_goes, paid_no
 use Rattle.cdcl.proofs.Guiding.{open_writes}
 use Rattle.cdcl.proofs.guided.turns.Course.on_conflict.Goals as goal
 
-pub returns-in_err-refute-clause-turns : goal.returns-in_err-refute-clause-turns
-returns-in_err-refute-clause-turns g c =
+pub returns-in_err-write_empty-clause-turns : goal.returns-in_err-write_empty-clause-turns
+returns-in_err-write_empty-clause-turns g c =
     let o = c.args.self.now in
     let p = o.input.now in
     let b = o.budget.now in
     let ls = g.S.Sink.lines o.sink.now in
-    let more = g.S.Sink.lines c.refute.new.sink in
-    guided_breaks c.from_residual.result o.search.now c.refute.new.search p ls more b b
-    c.from_residual.ensures.0 c.in_err-refute.ensures.refutes.err
-    (paid_none p.given ls more b c.refute.ensures.refutes.writes)
+    let more = g.S.Sink.lines c.write_empty.new.sink in
+    guided_breaks c.from_residual.result o.search.now c.write_empty.new.search p ls more b b
+    c.from_residual.ensures.0 c.in_err-write_empty.ensures.refutes.err
+    (paid_none p.given ls more b c.write_empty.ensures.refutes.writes)
 
 pub returns-then-depth-eq0-clause-turns : goal.returns-then-depth-eq0-clause-turns
 returns-then-depth-eq0-clause-turns g c =
@@ -24,10 +24,10 @@ returns-then-depth-eq0-clause-turns g c =
     let p = o.input.now in
     let b = o.budget.now in
     let ls = g.S.Sink.lines o.sink.now in
-    let more = g.S.Sink.lines c.refute.new.sink in
-    guided_ends o.search.now c.refute.new.search p ls more b b Refuted
-    c.in_ok-refute.ensures.refutes.leaves
-    (paid_none p.given ls more b c.refute.ensures.refutes.writes)
+    let more = g.S.Sink.lines c.write_empty.new.sink in
+    guided_ends o.search.now c.write_empty.new.search p ls more b b Refuted
+    c.in_ok-write_empty.ensures.refutes.leaves
+    (paid_none p.given ls more b c.write_empty.ensures.refutes.writes)
 
 pub returns-then-left-eq0-clause-turns : goal.returns-then-left-eq0-clause-turns
 returns-then-left-eq0-clause-turns g c =

@@ -12,7 +12,7 @@ use Rattle.cdcl_search.proofs.HintNames.{hint_ids}
 use Rattle.cdcl_search.proofs.Placing.{adding_line}
 use Rattle.cdcl_search.proofs.Written.{writes_short, writes_join, either, refused}
 use Rattle.cdcl_search.proofs.EmptyLine.{all_noted, adds_empty, is_ended}
-use Rattle.cdcl_search.proofs.noting.refute.Goals as goal
+use Rattle.cdcl_search.proofs.noting.write_empty.Goals as goal
 
 pub hints_of-requires-clause-attached : goal.hints_of-requires-clause-attached
 hints_of-requires-clause-attached g c =
