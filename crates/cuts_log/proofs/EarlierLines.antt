@@ -10,7 +10,9 @@ use Rattle.cnf.specs.Lrat.{Live, with_clause, without_ids}
 use Rattle.cnf.specs.Refute.{Clauses}
 use Rattle.lrat_log.specs.Axioms.{FollowByRup, IsOpenStep, OpenChain}
 use Rattle.lrat_log.specs.Log.{Given, LogLine, axiom_line, given_at, start_over}
-use Rattle.lrat_log.specs.Steps.{IsBaseOf, StopsAtEmptyClause, added_count}
+use Rattle.cnf.proofs.Laws.{all_left, all_right}
+use Rattle.lrat_log.specs.Steps.{AddsNoEmptyClause, IsBaseOf, StopsAtEmptyClause, added_count}
+use Rattle.lrat_log.specs.Steps.{adds_empty_clause}
 use Rattle.lrat_log.proofs.Laws.{given_below, none_of, open_split}
 use Rattle.cuts_log.specs.Starts.{deletion_line, lines_before, lines_for, stand_in}
 use Rattle.cuts_log.proofs.EventLines.{added-append}
@@ -150,3 +152,21 @@ lines_leave given base at (suc n) new above w =
     leaves_next given base at n parts.0 new (at (suc n)) refl
     (lines_leave given base at n parts.0 above parts.1)
     (subst (λ k. OpenChain base k parts.0 (lines_for (at (suc n)) (suc n)) new) count parts.2)
+
+-- an empty clause that is live is one of those that they add
+pub lines_refuted : (at : Clauses) (n k : ℕ) → k < n → at (suc k) ≡ Some []
+    → AddsNoEmptyClause (lines_before at n) → ⊥
+lines_refuted at zero k less e h = absurd (omega (arith, less))
+lines_refuted at (suc n) k less e h =
+    let quiet : LogLine → Type 0 = λ l. adds_empty_clause l ≡ false in
+    let before = lines_before at n in
+    let last = lines_for (at (suc n)) (suc n) in
+    elim (cases_eq k n) [
+      | inl t ↦
+          let here : at (suc n) ≡ Some [] = ap (λ i. at (suc i)) (sym t) ∙ e in
+          let bad : AddsNoEmptyClause (lines_for (Some []) (suc n)) =
+          subst (λ o. AddsNoEmptyClause (lines_for o (suc n))) here (all_right quiet before last h)
+          in
+          false≢true (sym bad.0)
+      | inr f ↦ lines_refuted at n k (omega (arith, less, f)) e (all_left quiet before last h)
+    ]

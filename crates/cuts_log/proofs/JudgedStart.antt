@@ -103,7 +103,8 @@ module _ (p : Problem) (s : CutsState) (h : IsStart p s) (live : Live) where
 
   low_same : Left → (i : ℕ) → i ≤ length cs → listed_at s.live i ≡ live.clause_at i
   low_same w zero le =
-      none_of (listed_at s.live 0) (λ c e. let w = listed_within 0 c e in absurd (omega (arith, w.0)))
+      none_of (listed_at s.live 0)
+      (λ c e. let w = listed_within 0 c e in absurd (omega (arith, w.0)))
       ∙ sym (w.low 0 le ∙ given_at-given_of cs 0)
   low_same w (suc i) le =
       formula_listed cs s.live h.formula (suc i) (omega arith) le

@@ -21,3 +21,5 @@ mod LogEnds
 mod LineWords
 mod LogTexts
 mod LogBounds
+mod OpenLines
+mod BegunTexts

@@ -6,8 +6,8 @@ use Rattle.std.specs.Prelude.{nat_eq, slice_get, slice_index_or, ◌==◌}
 use Rattle.std.specs.List.{AllByRecursion, list_any}
 use Rattle.std.proofs.lemmas.Bool.{cases_Bool, cond-false, cond-true, eq-eqb, eqb-true, false≢true}
 use Rattle.std.proofs.lemmas.Bool.{ne_eqb}
-use Rattle.std.proofs.lemmas.List.{get_or-set_other}
-use Rattle.std.proofs.lemmas.Option.{slice_get_within}
+use Rattle.std.proofs.lemmas.List.{get_or-replicate, get_or-set_other}
+use Rattle.std.proofs.lemmas.Option.{slice_get-get_or, slice_get_within}
 use Rattle.cnf.specs.Literal.{Literal}
 use Rattle.cnf.specs.Lrat.{IsId}
 use Rattle.lrat_live.specs.Listed.{Listed, listed_at, listed_from}
@@ -119,3 +119,14 @@ pub live_start : (cs : List (List Literal)) → AreLive (all_live cs) (listed_fr
 live_start cs zero c e = absurd (cc)
 live_start cs (suc i) c e = listed_numbered cs (suc i)
     ∙ (shown (slice_index_or (replicate (length cs) true) i false) (slice_get cs i) c e).1
+
+-- where all are live, each is found under its number
+pub live_found : (cs : List (List Literal)) (es : Listed) (i : ℕ) → AreLive (all_live cs) es
+    → i < length cs → listed_at es (i + 1) ≡ slice_get cs i
+live_found cs es i h within =
+    let e = slice_get-get_or cs i [] within in
+    let next : i + 1 ≡ suc i = omega arith in
+    ap (listed_at es) next
+    ∙ h (suc i) (get_or cs i []) (cond-true (slice_index_or (replicate (length cs) true) i false)
+    (slice_get cs i) None (get_or-replicate (length cs) i true false within) ∙ e)
+    ∙ sym e

@@ -2,11 +2,12 @@
 use Rattle.std.specs.Prelude.{◌≡◌, ℕ, ◌+◌, ◌-◌, ◌<◌, ◌≤◌, Bool, true, false, List, [], ◌∷◌, ◌++◌}
 use Rattle.std.specs.Prelude.{Option, length}
 use Rattle.cnf.specs.Problem.{Problem}
+use Rattle.text.specs.Writing.{AppendsPart}
 use Rattle.lrat_log.specs.declared.log.TheConstants.{LINE_LIMIT}
 use Rattle.lrat_log.specs.Log.{LogLine}
 use Rattle.lrat_log.specs.Steps.{added_count}
 use Rattle.lrat_cuts.specs.Cuts.{CutsState, cuts_start}
-use Rattle.cuts_log.specs.Events.{Event, TraceState, lines_in, lines_of, text_of}
+use Rattle.cuts_log.specs.Events.{Event, TraceState, lines_in, lines_of, open_text, text_of}
 use Rattle.cuts_log.specs.Outs.{OutState, Says, fresh}
 use Rattle.cuts_log.specs.Starts.{earlier_lines}
 
@@ -33,6 +34,17 @@ log_lines b = earlier_lines b.base (b.seen).start ++ lines_of (b.seen).events
 abbrev pub book_text : BookState → List ℕ
 book_text b = text_of b.base (before_of b) (b.seen).events
 
+-- the lines that the search sees are those of the first events; and of all that was put out the
+-- writer has a beginning of their text and of one line more, without the line feed of that
+pub record IsBegun (b : BookState) : Type 0 where
+  pub front : List Event
+  pub rest : List Event
+  pub split : (b.seen).events ≡ front ++ rest
+  pub lines : b.lines ≡ length (earlier_lines b.base (b.seen).start ++ lines_of front)
+  pub part : AppendsPart (b.seen).origin (b.out).had
+      (text_of b.base (before_of b) front
+      ++ open_text b.base (before_of b + added_count (lines_of front)) rest)
+
 pub record IsBook (b : BookState) : Type 0 where
   pub small : b.base < LINE_LIMIT
   pub short : b.lines < LINE_LIMIT
@@ -42,6 +54,8 @@ pub record IsBook (b : BookState) : Type 0 where
   pub lines : b.failed ≡ false → b.lines ≡ length (log_lines b)
   pub added : b.failed ≡ false → b.added ≡ added_count (log_lines b)
   pub works : b.failed ≡ false → (b.out).failed ≡ false
+  -- whatever has failed
+  pub begun : IsBegun b
 
 abbrev pub begun_book : Problem → ℕ → Option (List ℕ) → BookState
 begun_book p base origin = record {

@@ -1,5 +1,5 @@
 -- The lines of a log of forms and cuts, and how they are spelled.
-use Rattle.std.specs.Prelude.{ℕ, ◌+◌, List, [], ◌∷◌, map, Option}
+use Rattle.std.specs.Prelude.{ℕ, ◌+◌, List, [], ◌∷◌, ◌++◌, map, Option}
 use Rattle.std.specs.List.{flat_map}
 use Rattle.cnf.specs.Literal.{Literal}
 use Rattle.cnf.specs.Problem.{Problem}
@@ -35,6 +35,12 @@ lines_in (Word w made) = map axiom_line made
 abbrev pub lines_of : List Event → List LogLine
 lines_of es = flat_map lines_in es
 
+-- tokens with single spaces
+abbrev pub joined : List (List ℕ) → List ℕ
+joined [] = []
+joined (t ∷ []) = t
+joined (t ∷ u ∷ ts) = t ++ 32 ∷ joined (u ∷ ts)
+
 -- the tokens of a line, where `before` clauses were added before it
 abbrev pub tokens_at : ℕ → ℕ → Event → List (List ℕ)
 tokens_at base before (Plain l) = line_tokens (numbered_line base before l)
@@ -48,3 +54,8 @@ tokens_on base before (e ∷ es) =
 -- the text of the lines, where `before` clauses were added before the first one
 abbrev pub text_of : ℕ → ℕ → List Event → List ℕ
 text_of base before es = flat_map spaced (tokens_on base before es)
+
+-- the text of the first of them, without its line feed
+abbrev pub open_text : ℕ → ℕ → List Event → List ℕ
+open_text base before [] = []
+open_text base before (e ∷ es) = joined (tokens_at base before e)

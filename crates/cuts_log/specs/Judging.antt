@@ -1,10 +1,11 @@
 -- What a line of a log is judged as, by the definition of the checker.
 use Rattle.std.specs.Prelude.{◌≡◌, ℕ, ◌+◌, ◌≤◌, true, false, List, [], ◌∷◌, ◌++◌, length, map}
 use Rattle.std.specs.Prelude.{Option, Some, None, Ok, min}
+use Rattle.std.specs.Io.KnownBytes.{Appends}
 use Rattle.std.specs.List.{AllByRecursion, list_any}
 use Rattle.cnf.specs.Instance.{IsInstance}
 use Rattle.cnf.specs.Literal.{Assignment, Literal}
-use Rattle.cnf.specs.Problem.{IsFeasible, cost_under}
+use Rattle.cnf.specs.Problem.{IsFeasible, Problem, cost_under}
 use Rattle.bound.specs.Weighted.{weighted_cnf}
 use Rattle.lrat_live.specs.Listed.{listed_from}
 use Rattle.text.specs.Pieces.{IsEnded}
@@ -14,12 +15,13 @@ use Rattle.lrat_log.specs.Steps.{StopsAtEmptyClause, added_count, adds_empty_cla
 use Rattle.lrat_read.specs.Words.{WordLine, BoundLine}
 use Rattle.lrat_read.specs.WordTokens.{word_tokens}
 use Rattle.lrat_cuts.specs.Cuts.{CutsState, judged_line, judged_lines}
-use Rattle.lrat_cuts.specs.Verdict.{judged_text}
+use Rattle.lrat_cuts.specs.Verdict.{ended_part, judged_text}
 use Rattle.cuts_log.specs.declared.standing.Standing.{Standing}
 use Rattle.cuts_log.specs.Events.{Event, Plain, Word, tokens_at, tokens_on}
 use Rattle.cuts_log.specs.Books.{IsBook, before_of, book_text}
 use Rattle.cuts_log.specs.Given.{AreLive}
-use Rattle.cuts_log.specs.Logs.{IsKept, LogState, all_lines, events_of, problem_of, start_of}
+use Rattle.cuts_log.specs.Logs.{IsKept, LogState, all_lines, events_of, lines_seen, problem_of}
+use Rattle.cuts_log.specs.Logs.{start_of}
 use Rattle.cuts_log.specs.Stands.{TakesWord, with_line}
 
 -- the checker stands as the log does, with these clauses more
@@ -91,21 +93,40 @@ LogsEnd = (l : LogState) → IsKept l → IsBook l.book → (l.book).failed ≡ 
     → StopsAtEmptyClause (all_lines l)
     → list_any adds_empty_clause (all_lines l) ≡ true → (l.standing).ended ≡ true
 
--- a text that leads the checker to the start of the log, whatever its cuts hold for
-pub record IsBefore (l : LogState) (text : List ℕ) : Type 0 where
-  pub judged : judged_text None (problem_of l) text ≡ Ok (start_of l)
+-- a text that is judged so line by line, whatever its cuts hold for; it is empty, or a line feed
+-- ends it
+pub record IsEarlier (p : Problem) (s : CutsState) (text : List ℕ) : Type 0 where
+  pub judged : judged_text None p text ≡ Ok s
   pub ended : IsEnded text
 
--- the text of one whose lines are steps, and follow, is judged right behind such a text
+-- the text of one whose lines are steps, and follow, is judged right behind a text that leads to
+-- its start
 abbrev pub TextsAreRight : Type 0
 TextsAreRight = (l : LogState) (k : ℕ) (before : List ℕ) → IsKept l → IsBook l.book
-    → (l.book).failed ≡ false → k ≤ l.cost → IsBefore l before
+    → (l.book).failed ≡ false → k ≤ l.cost → IsEarlier (problem_of l) (start_of l) before
     → IsOpenLogOver (given_of (weighted_cnf (problem_of l)).clauses) (all_lines l)
     → FollowByRup (given_of (weighted_cnf (problem_of l)).clauses) (l.book).base []
     (all_lines l)
     → (t : CutsState)
     × (judged_text (Some k) (problem_of l) (before ++ book_text l.book) ≡ Ok t)
     × (t.ended ≡ (l.standing).ended)
+
+-- the lines of a text that a line feed ends are judged right behind another text, for each cost up
+-- to this one, and for none
+abbrev pub HasRightLines : Problem → ℕ → List ℕ → List ℕ → Type 0
+HasRightLines p cost before text = (o : Option ℕ) → IsUpTo cost o
+    → (t : CutsState) × (judged_text o p (before ++ ended_part text) ≡ Ok t)
+
+-- so are those that the writer has, even where the log has failed, if the lines that the search
+-- sees are steps, and follow
+abbrev pub BegunTextsAreRight : Type 0
+BegunTextsAreRight = (l : LogState) → IsKept l → IsBook l.book
+    → IsOpenLogOver (given_of (weighted_cnf (problem_of l)).clauses) (lines_seen l)
+    → FollowByRup (given_of (weighted_cnf (problem_of l)).clauses) (l.book).base []
+    (lines_seen l)
+    → (text : List ℕ) × Appends ((l.book).seen).origin ((l.book).out).had text
+    × ((before : List ℕ) → IsEarlier (problem_of l) (start_of l) before
+    → HasRightLines (problem_of l) l.cost before text)
 
 -- where it has ended, nothing costs less than its cuts hold for
 abbrev pub NothingIsCheaper : Type 0
@@ -128,7 +149,7 @@ IsProvedEvent cost proved (Word w made) = IsProvedWord cost proved w
 -- the text is judged right for no cost, too, and proves each lower bound that it tells
 abbrev pub BoundsAreProved : Type 0
 BoundsAreProved = (l : LogState) (before : List ℕ) → IsKept l → IsBook l.book
-    → (l.book).failed ≡ false → IsBefore l before
+    → (l.book).failed ≡ false → IsEarlier (problem_of l) (start_of l) before
     → IsOpenLogOver (given_of (weighted_cnf (problem_of l)).clauses) (all_lines l)
     → FollowByRup (given_of (weighted_cnf (problem_of l)).clauses) (l.book).base []
     (all_lines l)

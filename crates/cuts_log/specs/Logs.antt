@@ -56,14 +56,14 @@ pub record HasBegun (p : Problem) (origin : Option (List ℕ)) (l : LogState) : 
 
 -- over the instance, for a writer that has this, a log may go on there with this book and the whole
 -- formula
-pub record GoesOn (p : Problem) (s : CutsState) (origin : Option (List ℕ)) (b : BookState)
+pub record MayResume (p : Problem) (s : CutsState) (origin : Option (List ℕ)) (b : BookState)
     (f : FormulaState) : Type 0 where
   pub book : b ≡ resumed_book p s (length (weighted_cnf p).clauses) origin
   pub formula : f ≡ all_live (weighted_cnf p).clauses
   pub start : IsStart p s
 
--- over the instance, for a writer that has this, it goes on there, for the cost that the cuts before
--- hold for
+-- over the instance, for a writer that has this, it goes on there, for the cost that the cuts
+-- before hold for
 pub record HasResumed (p : Problem) (s : CutsState) (origin : Option (List ℕ)) (l : LogState)
     : Type 0 where
   pub book : l.book ≡ resumed_book p s (length (weighted_cnf p).clauses) origin

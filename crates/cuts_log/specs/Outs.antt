@@ -1,5 +1,6 @@
 -- A text on its way to a writer, after a failure of which nothing more is written.
-use Rattle.std.specs.Prelude.{◌≡◌, ℕ, Bool, true, false, List, [], ◌++◌, Option}
+use Rattle.std.specs.Prelude.{◌≡◌, ℕ, Bool, true, false, List, [], ◌∷◌, ◌++◌, Option}
+use Rattle.std.specs.Prelude.{if◌then◌else◌}
 use Rattle.text.specs.Writing.{AppendsPart, PassesOn}
 
 pub record OutState : Type 0 where
@@ -13,6 +14,14 @@ pub record OutState : Type 0 where
 -- nothing was put out yet
 abbrev pub fresh : Option (List ℕ) → OutState
 fresh had = record { had = had; held = []; failed = false }
+
+-- a line feed, where one is due
+abbrev pub feed : Bool → List ℕ
+feed due = if due then 10 ∷ [] else []
+
+-- it counts as put out
+abbrev pub with_feed : Bool → OutState → OutState
+with_feed due o = record o { held = if due then o.held ++ 10 ∷ [] else o.held }
 
 -- the text was put out; where a write failed the writer has a beginning of what was held and it
 pub record Says (old : OutState) (text : List ℕ) (new : OutState) : Type 0 where

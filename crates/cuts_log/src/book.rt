@@ -23,6 +23,9 @@ use std::marker::Model;
 pub(crate) struct Book<W: Write> {
     // Where the text goes.
     out: Out<W>,
+    // Whether the line feed of the last line is still to be put. It comes with the next line: so no
+    // line that the writer has with its line feed is one at which a write has failed.
+    is_due: bool,
     // How many clauses the formula has, below 2^61: the ids of additions follow it.
     base: u64,
     // How many lines the search sees, below 2^61: a clause that a word makes is one of them, and so
@@ -38,6 +41,7 @@ pub(crate) struct Book<W: Write> {
 
 impl<W: Write> Model for Book<W> {
     ghost use Rattle.cuts_log.specs.Books.{BookState, IsBook};
+    ghost use Rattle.cuts_log.specs.Outs.{with_feed};
     ghost use Rattle.std.specs.Coded.{codes};
     ghost use Rattle.totalizer.specs.TreeCode.{tree_code};
 
@@ -47,7 +51,7 @@ impl<W: Write> Model for Book<W> {
 
     ghost view = { λ b. record {
       seen = b.trace.state;
-      out = b.out;
+      out = with_feed b.is_due b.out;
       base = b.base;
       lines = b.lines;
       added = b.added;
@@ -56,7 +60,7 @@ impl<W: Write> Model for Book<W> {
 
     ghost invariant = { λ b. IsBook (record {
       seen = b.trace.state;
-      out = b.out;
+      out = with_feed b.is_due b.out;
       base = b.base;
       lines = b.lines;
       added = b.added;
@@ -83,6 +87,7 @@ impl<W: Write + Drop> Book<W> {
         });
         Ok(Book {
             out: Out::new(writer),
+            is_due: false,
             base: base as u64,
             lines: 0,
             added: 0,
@@ -120,6 +125,7 @@ impl<W: Write + Drop> Book<W> {
         let base = base as u64;
         Ok(Book {
             out: Out::new(writer),
+            is_due: false,
             base,
             lines,
             added: machine.last() - base,
@@ -166,7 +172,7 @@ impl<W: Write + Drop> Book<W> {
         self.failed = true;
     }
 
-    /// Takes the line, and puts its text.
+    /// Takes the line, and puts its text behind the line feed of the last one.
     ///
     /// # Errors
     ///
@@ -177,7 +183,9 @@ impl<W: Write + Drop> Book<W> {
         ensures ok { OnOk result (Notes (T.event line.now) self.old self.new) }
         ensures err { OnErr result (FailsAt (T.event line.now) self.old self.new) }
     {
+        self.out.put_feed(self.is_due);
         line.put(&mut self.out, self.base, self.added);
+        self.is_due = true;
         self.trace = seen(&Next {
             trace: &self.trace,
             event: line,
@@ -191,7 +199,8 @@ impl<W: Write + Drop> Book<W> {
         Ok(())
     }
 
-    /// Writes what was put out and not written. The writer is not flushed.
+    /// Writes what was put out and not written, up to the last line feed. The writer is not
+    /// flushed.
     ///
     /// # Errors
     ///
@@ -201,6 +210,8 @@ impl<W: Write + Drop> Book<W> {
         ensures ok { OnOk result (Flushed self.old self.new) }
         ensures err { OnErr result (FailsToFlush self.old self.new) }
     {
+        self.out.put_feed(self.is_due);
+        self.is_due = false;
         self.out.flush();
         if self.out.has_failed() {
             self.failed = true;

@@ -1,11 +1,10 @@
 // What happens to a log, as proofs see it, and how it is spelled.
 ghost use Rattle.std.specs.Prelude.{◌≡◌, ◌<◌, ◌∷◌, ◌++◌, [], map, length};
-ghost use Rattle.text.specs.Writing.{spaced};
 ghost use Rattle.lrat_log.specs.declared.log.TheConstants.{LINE_LIMIT};
 ghost use Rattle.lrat_log.specs.Steps.{added_count};
 ghost use Rattle.cuts_log.specs.Outs.{Says};
 ghost use Rattle.lrat_cuts.specs.Cuts.{cuts_start};
-ghost use Rattle.cuts_log.specs.Events.{Event, TraceState, lines_in, tokens_at};
+ghost use Rattle.cuts_log.specs.Events.{Event, TraceState, joined, lines_in, tokens_at};
 
 use crate::out::Out;
 use crate::spelling::{
@@ -24,11 +23,12 @@ pub(crate) trait Happens {
     /// The line, with the clauses that it makes.
     ghost event: { Self → Event };
 
-    /// Puts its text, where the formula has `base` clauses, and `before` were added.
+    /// Puts its text without the line feed, where the formula has `base` clauses, and `before` were
+    /// added.
     fn put<W: Write>(&self, out: &mut Out<W>, base: u64, before: u64)
         requires base { base < LINE_LIMIT }
         requires before { before < LINE_LIMIT }
-        ensures { Says out.old (spaced (tokens_at base before (event self.now))) out.new };
+        ensures { Says out.old (joined (tokens_at base before (event self.now))) out.new };
 
     /// How many lines the search sees.
     fn lines(&self) -> usize

@@ -7,11 +7,11 @@ ghost use Rattle.std.specs.Prelude.{◌≡◌, ◌≤◌, ◌∷◌, ◌++◌, t
 ghost use Rattle.std.specs.Prelude.{None, OnErr, Some};
 ghost use Rattle.lrat_log.specs.Log.{IsLine, axiom_line, is_axiom};
 ghost use Rattle.lrat_log.specs.Axioms.{IsNewClause};
-ghost use Rattle.std.specs.Prelude.{IfSome};
+ghost use Rattle.std.specs.Prelude.{ℕ, IfNone, IfSome};
 ghost use Rattle.adder.specs.Parts.{weight_in};
 ghost use Rattle.bound.specs.Weighted.{weighted_cnf, weights_of};
-ghost use Rattle.cuts_log.specs.Logs.{GoesOn};
-ghost use Rattle.cuts_log.specs.Starts.{IsReached, IsResumable};
+ghost use Rattle.cuts_log.specs.Logs.{MayResume};
+ghost use Rattle.cuts_log.specs.Starts.{IsReached, IsResumable, IsStart};
 
 use crate::book::Book;
 use crate::earlier::{are_live, count_lines};
@@ -118,8 +118,9 @@ impl<W: Write + Drop> CutsLog<W> {
     }
 
     /// A log that goes on with what a checker has judged, for a writer that puts its lines behind
-    /// that. Cuts have to hold in the solutions for which those before hold. None where no line can
-    /// follow, where a cut holds for no cost, or where a clause of the formula is live no more.
+    /// that. Cuts have to hold in the solutions for which those before hold. None where no log may
+    /// start there: where no line can follow, where a cut holds for no cost, where a clause of the
+    /// formula is live no more, or where an empty clause is.
     ///
     /// # Errors
     ///
@@ -130,8 +131,12 @@ impl<W: Write + Drop> CutsLog<W> {
         writer: W,
     ) -> Result<Option<Self>, AllocError>
         requires reached { IsReached instance.now machine.state }
-        ensures { IfOk result (λ found. IfSome found
+        ensures resumed { IfOk result (λ found. IfSome found
             (HasResumed instance.now machine.state (W.contents writer))) }
+        ensures start { IfOk result (λ found. IfSome found
+            (λ _. IsStart instance.now machine.state)) }
+        ensures refused { IfOk result (λ found. IfNone found
+            (IsStart instance.now machine.state → ⊥)) }
     {
         let begun = go_on(instance, &machine, writer);
         let cost = machine.worth();
@@ -469,8 +474,10 @@ fn go_on<W: Write + Drop>(
     writer: W,
 ) -> Result<Option<(Book<W>, FormulaClauses)>, AllocError>
     requires reached { IsReached instance.now machine.now.state }
-    ensures { IfOk result (λ found. IfSome found (λ begun. GoesOn instance.now machine.now.state
-        (W.contents writer) begun.0 begun.1)) }
+    ensures begun { IfOk result (λ found. IfSome found (λ begun. MayResume instance.now
+        machine.now.state (W.contents writer) begun.0 begun.1)) }
+    ensures refused { IfOk result (λ found. IfNone found
+        (IsStart instance.now machine.now.state → ⊥)) }
 {
     if machine.has_ended() || machine.worth() == 0 {
         return Ok(None);
@@ -487,8 +494,10 @@ fn go_on<W: Write + Drop>(
 
 /// How many lines stand for what the checker has judged, if a log can go on with it.
 fn resumable(machine: &CutsMachine, clauses: &ClauseList) -> Result<Option<usize>, AllocError>
-    ensures { IfOk result (λ found. IfSome found
+    ensures can { IfOk result (λ found. IfSome found
         (IsResumable machine.now.state clauses.now)) }
+    ensures refused { IfOk result (λ found. IfNone found
+        ((lines : ℕ) → IsResumable machine.now.state clauses.now lines → ⊥)) }
 {
     let base = clauses.len();
     let last = machine.last();

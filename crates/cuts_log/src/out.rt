@@ -2,7 +2,7 @@
 ghost use Rattle.std.specs.Prelude.{◌≡◌, ◌∷◌, ◌++◌, [], false};
 ghost use Rattle.std.specs.Fmt.{decimal};
 ghost use Rattle.text.specs.Text.{literal_text};
-ghost use Rattle.cuts_log.specs.Outs.{Says, fresh};
+ghost use Rattle.cuts_log.specs.Outs.{Says, feed, fresh};
 
 use cnf::types::Lit;
 use std::io::Write;
@@ -71,6 +71,15 @@ impl<W: Write> Out<W> {
     {
         if !self.failed {
             self.failed = self.block.put_number(&mut self.writer, number).is_err();
+        }
+    }
+
+    /// Puts a line feed, where one is due.
+    pub(crate) fn put_feed(&mut self, is_due: bool)
+        ensures { Says self.old (feed is_due) self.new }
+    {
+        if is_due {
+            self.put(b"\n");
         }
     }
 

@@ -1,9 +1,9 @@
-// How the lines of a certificate are spelled: their tokens with single spaces, and a line feed.
+// How the lines of a certificate are spelled: their tokens with single spaces. The line feed of a
+// line comes later.
 ghost use Rattle.std.specs.Prelude.{◌≡◌, ◌∷◌, ◌++◌, ◌<◌, [], false, map};
 ghost use Rattle.std.specs.List.{flat_map};
 ghost use Rattle.std.specs.Fmt.{decimal};
 ghost use Rattle.text.specs.Text.{literal_text};
-ghost use Rattle.text.specs.Writing.{spaced};
 ghost use Rattle.cnf.specs.Lrat.{Addition, Deletion};
 ghost use Rattle.text.specs.LratText.{line_tokens};
 ghost use Rattle.lrat_log.specs.Log.{group_ids, id_of, leading_ids, name_of};
@@ -13,6 +13,7 @@ ghost use Rattle.lrat_read.specs.WordTokens.{word_tokens};
 ghost use Rattle.lrat_read.specs.Words.{CountLine as SpelledCount, MoreLine as SpelledMore};
 ghost use Rattle.lrat_read.specs.Words.{FormLine as SpelledForm, CutLine as SpelledCut};
 ghost use Rattle.lrat_read.specs.Words.{BoundLine as SpelledBound, GroupLine as SpelledGroup};
+ghost use Rattle.cuts_log.specs.Events.{joined};
 ghost use Rattle.cuts_log.specs.Outs.{Says};
 ghost use Rattle.cuts_log.specs.Facts.{fact_text, ids_text, numbers_text, scale_text};
 ghost use Rattle.cuts_log.specs.Facts.{spelled};
@@ -27,13 +28,13 @@ use std::io::Write;
 pub(crate) fn put_deletion<W: Write>(out: &mut Out<W>, base: u64, last: u64, hints: &[Hint])
     requires { base < LINE_LIMIT }
     ensures { Says out.old
-        (spaced (line_tokens (Deletion last (map (λ h. id_of base (name_of h)) hints.now))))
+        (joined (line_tokens (Deletion last (map (λ h. id_of base (name_of h)) hints.now))))
         out.new }
 {
     put_number(out, last);
     out.put(b"d ");
     put_ids(out, base, hints);
-    out.put(b"0\n");
+    out.put(b"0");
 }
 
 /// Puts the addition of a clause under this id, by these hints.
@@ -45,44 +46,44 @@ pub(crate) fn put_addition<W: Write>(
     hints: &[Hint],
 )
     requires { base < LINE_LIMIT }
-    ensures { Says out.old (spaced (line_tokens
+    ensures { Says out.old (joined (line_tokens
         (Addition id lits.now (leading_ids base hints.now) (group_ids base hints.now)))) out.new }
 {
     put_number(out, id);
     put_lits(out, lits);
     out.put(b"0 ");
     put_hints(out, base, hints);
-    out.put(b"0\n");
+    out.put(b"0");
 }
 
 /// Puts a count of these literals.
 pub(crate) fn put_count<W: Write>(out: &mut Out<W>, outputs: u64, inputs: &[Lit])
-    ensures { Says out.old (spaced (word_tokens (SpelledCount outputs inputs.now))) out.new }
+    ensures { Says out.old (joined (word_tokens (SpelledCount outputs inputs.now))) out.new }
 {
     out.put(b"count ");
     put_number(out, outputs);
     put_lits(out, inputs);
-    out.put(b"0\n");
+    out.put(b"0");
 }
 
 /// Puts a further output of the count with this number.
 pub(crate) fn put_more<W: Write>(out: &mut Out<W>, number: u64)
-    ensures { Says out.old (spaced (word_tokens (SpelledMore number))) out.new }
+    ensures { Says out.old (joined (word_tokens (SpelledMore number))) out.new }
 {
     out.put(b"more ");
     put_number(out, number);
-    out.put(b"0\n");
+    out.put(b"0");
 }
 
 /// Puts a group of these literals, as the clauses with these ids say.
 pub(crate) fn put_group<W: Write>(out: &mut Out<W>, inputs: &[Lit], ids: &[u64])
-    ensures { Says out.old (spaced (word_tokens (SpelledGroup inputs.now ids.now))) out.new }
+    ensures { Says out.old (joined (word_tokens (SpelledGroup inputs.now ids.now))) out.new }
 {
     out.put(b"group ");
     put_lits(out, inputs);
     out.put(b"0 ");
     put_numbers(out, ids);
-    out.put(b"0\n");
+    out.put(b"0");
 }
 
 /// Puts the numbers, each with a space behind it.
@@ -96,31 +97,31 @@ fn put_numbers<W: Write>(out: &mut Out<W>, numbers: &[u64])
 
 /// Puts a form of this scale, or further facts where there is none.
 pub(crate) fn put_form<W: Write>(out: &mut Out<W>, scale: Option<u64>, facts: &[NamedFact])
-    ensures { Says out.old (spaced (word_tokens (SpelledForm scale (map spelled facts.now))))
+    ensures { Says out.old (joined (word_tokens (SpelledForm scale (map spelled facts.now))))
         out.new }
 {
     out.put(b"form ");
     put_scale(out, scale);
     put_facts(out, facts);
-    out.put(b"0\n");
+    out.put(b"0");
 }
 
 /// Puts a cut of these literals.
 pub(crate) fn put_cut<W: Write>(out: &mut Out<W>, lits: &[Lit])
-    ensures { Says out.old (spaced (word_tokens (SpelledCut lits.now))) out.new }
+    ensures { Says out.old (joined (word_tokens (SpelledCut lits.now))) out.new }
 {
     out.put(b"cut ");
     put_lits(out, lits);
-    out.put(b"0\n");
+    out.put(b"0");
 }
 
 /// Puts a lower bound of the cost.
 pub(crate) fn put_bound<W: Write>(out: &mut Out<W>, lower: u64)
-    ensures { Says out.old (spaced (word_tokens (SpelledBound lower))) out.new }
+    ensures { Says out.old (joined (word_tokens (SpelledBound lower))) out.new }
 {
     out.put(b"bound ");
     put_number(out, lower);
-    out.put(b"0\n");
+    out.put(b"0");
 }
 
 /// Puts the scale, or a plus sign where there is none, with a space behind it.

@@ -4,3 +4,4 @@ mod Ended
 mod Written
 mod Searching
 mod Skipping
+mod MadeLines

@@ -7,7 +7,7 @@ use Rattle.cnf.specs.Literal.{Literal}
 use Rattle.bound.specs.Weighted.{weighted_cnf}
 use Rattle.lrat_log.specs.Log.{axiom_line}
 use Rattle.lrat_log.specs.Steps.{IsBaseOf, given_of}
-use Rattle.lrat_log.specs.Axioms.{FollowByRup, IsNewClause}
+use Rattle.lrat_log.specs.Axioms.{FollowByRup, IsNewClause, StaysOpenLogOver}
 use Rattle.lrat_log.proofs.Laws.{base_of as below_base, follow_append}
 use Rattle.cdcl_order.specs.Budgets.{BudgetState}
 use Rattle.cdcl_search.specs.declared.input.Input.{Input}
@@ -20,17 +20,17 @@ use Rattle.cdcl.specs.Guiding.{IsGuidedEnd, PaysOpen}
 use Rattle.cdcl.specs.declared.guided.GuidedEnd.{GuidedEnd}
 use Rattle.cdcl.specs.declared.guided.GuidedEnd.TheVariants.{Satisfied, Refuted, Stopped, Spent}
 use Rattle.cdcl.proofs.Laws.{paid_axiom, paid_join}
-use Rattle.cuts_solver.specs.Solving.{IsLeast, IsSolver, PaysLines, SolverState}
+use Rattle.cuts_solver.specs.Solving.{HasOpenLines, IsLeast, IsSolver, PaysLines, SolverState}
 use Rattle.cuts_solver.specs.Solving.{base_of, instance_of}
-use Rattle.cuts_solver.proofs.Working.{goes_on, stays_solver}
+use Rattle.cuts_solver.proofs.Working.{fails_solver, goes_on, open_runs, stays_solver}
 use Rattle.cuts_solver.proofs.Written.{nothing_less}
 
 -- what was written since follows too
 pub follow_paid : (old new : SolverState) (had left : BudgetState) → IsSolver old
-    → old.failed ≡ false → SameLog old.log new.log → new.input ≡ old.input
+    → SameLog old.log new.log → new.input ≡ old.input
     → PaysOpen (old.input).given (lines_seen old.log) (lines_seen new.log) had left
     → FollowByRup (new.input).given (base_of new) [] (lines_seen new.log)
-follow_paid old new had left h works same input pays =
+follow_paid old new had left h same input pays =
     let n = base_of old in
     let given = (old.input).given in
     let w = pays.1 in
@@ -38,11 +38,21 @@ follow_paid old new had left h works same input pays =
     subst (λ g. IsBaseOf g n) (sym h.given)
     (below_base (weighted_cnf (instance_of old)).clauses n (omega arith)) in
     let all : FollowByRup given n [] (lines_seen old.log ++ w.more) =
-    follow_append given n [] (lines_seen old.log) w.more (h.working works).follows
+    follow_append given n [] (lines_seen old.log) w.more (h.lines).follows
     (w.follows n based) in
     subst (λ i. FollowByRup i.given (base_of new) [] (lines_seen new.log)) (sym input)
     (subst (λ q. FollowByRup given (length (weighted_cnf q).clauses) [] (lines_seen new.log))
     (sym same.problem) (subst (FollowByRup given n []) (sym w.grows) all))
+
+-- the log is open, and the solver fails
+pub searched_fails : (old new : SolverState) (had left : BudgetState) → IsSolver old
+    → SameLog old.log new.log → new.input ≡ old.input
+    → PaysOpen (old.input).given (lines_seen old.log) (lines_seen new.log) had left
+    → StaysOpenLogOver (length ((new.input).frozen).items) (new.input).given (lines_seen new.log)
+    → new.refuted ≡ old.refuted → new.failed ≡ true → IsSolver new
+searched_fails old new had left h same input pays stays refuted failed =
+    fails_solver old new h same input refuted
+    (record { stays = stays; follows = follow_paid old new had left h same input pays }) failed
 
 -- the search goes on
 pub searched_on : (old new : SolverState) (had left : BudgetState) → IsSolver old
@@ -52,7 +62,8 @@ pub searched_on : (old new : SolverState) (had left : BudgetState) → IsSolver 
     → Runs new.search new.input (lines_seen new.log) → IsSolver new
 searched_on old new had left h works same input pays whole refuted going runs =
     stays_solver old new h same input refuted
-    (λ _. goes_on new whole going runs (follow_paid old new had left h works same input pays))
+    (open_runs new runs (follow_paid old new had left h same input pays))
+    (λ _. goes_on new whole going runs)
 
 -- the log has ended
 pub searched_out : (old new : SolverState) (had left : BudgetState) → IsSolver old
@@ -62,18 +73,21 @@ pub searched_out : (old new : SolverState) (had left : BudgetState) → IsSolver
     → IsEnded new.input (lines_seen new.log)
     → IsLeast new.log → IsSolver new
 searched_out old new had left h works same input pays whole refuted ended least =
+    let lines : HasOpenLines new.input new.log = record {
+      stays = ended.stays;
+      follows = follow_paid old new had left h same input pays;
+    } in
     let before = stays_solver old (record new { refuted = old.refuted; failed = true }) h same input
-    (λ i. old.refuted) (λ e. absurd (true≢false e)) in
+    (λ i. old.refuted) lines (λ e. absurd (true≢false e)) in
     record {
       instance = before.instance;
       input = before.input;
       given = before.given;
       variables = before.variables;
       least = λ e. least;
+      lines = lines;
       working = λ f. record {
         works = whole;
-        lines = ended.stays;
-        follows = follow_paid old new had left h works same input pays;
         refuted_is = ended.refuted ∙ sym refuted;
         runs = λ going. absurd (true≢false (sym refuted ∙ going));
       };
@@ -92,7 +106,7 @@ ends_solver old new had left h works same input pays whole refuted ended kept bo
     ∙ ap (λ q. given_of (weighted_cnf q).clauses) (sym same.problem) in
     searched_out old new had left h works same input pays whole refuted ended
     (nothing_less (length ((new.input).frozen).items) (new.input).given new.log kept book whole
-    given ended.stays (follow_paid old new had left h works same input pays) ended.refuted
+    given ended.stays (follow_paid old new had left h same input pays) ended.refuted
     (subst IsInstance (sym same.problem) h.instance) ends cheaper)
 
 -- an empty clause from outside ends the log
@@ -134,3 +148,12 @@ pays_on old mid new had spent left same first next =
     paid_join (new.input).given ls (lines_seen mid.log) (lines_seen new.log) had spent left
     (subst (λ (i : Input). PaysOpen i.given ls (lines_seen mid.log) had spent) (sym same) first)
     next
+
+-- however a search has ended, its log is open
+pub ended_stays : (s : SolverState) (b : BudgetState) (end : GuidedEnd)
+    → IsGuidedEnd s.search s.input (lines_seen s.log) b end
+    → StaysOpenLogOver (length ((s.input).frozen).items) (s.input).given (lines_seen s.log)
+ended_stays s b Satisfied e = (e.runs.running.recorded.log).stays
+ended_stays s b Refuted e = e.stays
+ended_stays s b Stopped e = (e.runs.running.recorded.log).stays
+ended_stays s b Spent e = (e.0.running.recorded.log).stays

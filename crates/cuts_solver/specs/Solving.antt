@@ -1,10 +1,9 @@
 -- The state of a solver that works on a log of forms and cuts, and what its calls leave.
-use Rattle.std.specs.Prelude.{◌≡◌, ℕ, ◌<◌, ◌≤◌, Bool, true, false, List, [], ◌++◌, length, Option}
-use Rattle.std.specs.Prelude.{Some, Ok}
+use Rattle.std.specs.Prelude.{◌≡◌, ℕ, ◌+◌, ◌-◌, ◌*◌, ◌<◌, ◌≤◌, min, Bool, true, false, List, []}
+use Rattle.std.specs.Prelude.{◌++◌, length, Option, Some, Ok, IfSome}
 use Rattle.cnf.specs.Literal.{Literal, Assignment}
 use Rattle.cnf.specs.Bits.{Extends}
 use Rattle.cnf.specs.Problem.{Problem, IsFeasible, cost_under}
-use Rattle.text.specs.Writing.{AppendsPart}
 use Rattle.std.specs.Io.KnownBytes.{Appends}
 use Rattle.cdcl_order.specs.Budgets.{BudgetState, left_of}
 use Rattle.cdcl_search.specs.declared.input.Input.{Input}
@@ -13,20 +12,25 @@ use Rattle.cdcl_search.specs.Cores.{IsShown}
 use Rattle.cdcl_search.specs.Running.{IsInput, Runs, is_refuted}
 use Rattle.bound.specs.Weighted.{weighted_cnf}
 use Rattle.cnf.specs.Instance.{IsInstance}
-use Rattle.lrat_log.specs.Axioms.{FollowByRup, StaysOpenLogOver}
+use Rattle.propagate.specs.Fits.{IsWithin}
+use Rattle.lrat_live.specs.Listed.{listed_at}
+use Rattle.lrat_log.specs.Axioms.{FollowByRup, IsNewClause, StaysOpenLogOver}
 use Rattle.lrat_log.specs.Steps.{given_of}
 use Rattle.lrat_cuts.specs.Cuts.{CutsState}
+use Rattle.lrat_cuts.specs.Machine.{MachineState}
 use Rattle.lrat_cuts.specs.Verdict.{judged_text}
-use Rattle.cuts_log.specs.Judging.{IsBefore}
-use Rattle.cuts_log.specs.Logs.{LogState, SameLog, problem_of, lines_seen}
-use Rattle.cuts_log.specs.Starts.{earlier_lines}
+use Rattle.cuts_log.specs.Judging.{HasRightLines, IsEarlier}
+use Rattle.cuts_log.specs.Logs.{LogState, SameLog, problem_of, start_of, lines_seen}
+use Rattle.cuts_log.specs.Starts.{IsStart, earlier_lines}
 use Rattle.cdcl.specs.Guiding.{IsStopped, PaysOpen}
 use Rattle.cdcl.specs.Turns.{IsSatisfied}
+use Rattle.cdcl.specs.declared.whole.TheConstants.{MOST_ROOM}
 use Rattle.cdcl.specs.declared.guided.GuidedEnd.{GuidedEnd}
 use Rattle.cdcl.specs.declared.guided.GuidedEnd.TheVariants.{Satisfied as HasModel}
 use Rattle.cdcl.specs.declared.guided.GuidedEnd.TheVariants.{Refuted as HasNone}
 use Rattle.cdcl.specs.declared.guided.GuidedEnd.TheVariants.{Stopped as HasStopped}
 use Rattle.cdcl.specs.declared.guided.GuidedEnd.TheVariants.{Spent as HasSpent}
+use Rattle.cuts_solver.specs.declared.solver.TheConstants.{IDS_A_LINE, IDS_OF_COUNTS}
 use Rattle.cuts_solver.specs.declared.solver.SolverEnd.{SolverEnd}
 use Rattle.cuts_solver.specs.declared.solver.SolverEnd.TheVariants.{Satisfied, Refuted, Stopped}
 use Rattle.cuts_solver.specs.declared.solver.SolverEnd.TheVariants.{Spent}
@@ -57,12 +61,15 @@ base_of s = length (weighted_cnf (instance_of s)).clauses
 abbrev pub IsLeast : LogState → Type 0
 IsLeast l = (u : Assignment) → IsFeasible (problem_of l) u → l.cost ≤ cost_under (problem_of l) u
 
--- while it works: the lines so far are those of an open log, whose additions follow by their hints
--- alone, and the search goes on with them, unless they end in the empty clause
+-- the lines so far are those of an open log, whose additions follow by their hints alone
+pub record HasOpenLines (i : Input) (l : LogState) : Type 0 where
+  pub stays : StaysOpenLogOver (length (i.frozen).items) i.given (lines_seen l)
+  pub follows : FollowByRup i.given (length (weighted_cnf (problem_of l)).clauses) []
+      (lines_seen l)
+
+-- while it works the search goes on with them, unless they end in the empty clause
 pub record IsWorking (s : SolverState) : Type 0 where
   pub works : ((s.log).book).failed ≡ false
-  pub lines : StaysOpenLogOver (length ((s.input).frozen).items) (s.input).given (lines_seen s.log)
-  pub follows : FollowByRup (s.input).given (base_of s) [] (lines_seen s.log)
   pub refuted_is : is_refuted (lines_seen s.log) ≡ s.refuted
   pub runs : s.refuted ≡ false → Runs s.search s.input (lines_seen s.log)
 
@@ -73,6 +80,29 @@ pub record StartsBehind (p : Problem) (t : CutsState) (s : Search) (i : Input) :
   pub variables : length (i.frozen).items ≡ (weighted_cnf p).variables
   pub runs : Runs s i (earlier_lines (length (weighted_cnf p).clauses) t)
 
+-- a clause can come to a search with so many variables
+pub record CanCome (variables : ℕ) (c : List Literal) : Type 0 where
+  pub new : IsNewClause c
+  pub within : IsWithin variables c
+  pub some : 0 < length c
+
+-- so can each that is live behind a formula with `base` clauses
+abbrev pub AllCanCome : (variables base : ℕ) → CutsState → Type 0
+AllCanCome variables base t = (j : ℕ) → j < t.last - base
+    → IfSome (listed_at t.live (base + j + 1)) (CanCome variables)
+
+-- ids do not leap far ahead of the lines
+abbrev pub IsDense : Problem → MachineState → Type 0
+IsDense p m = (m.state).last
+    ≤ length p.hard + length p.soft + IDS_A_LINE * m.lines + IDS_OF_COUNTS
+
+-- a solver with this room to count in can go on there
+pub record CanResume (p : Problem) (m : MachineState) (room : ℕ) : Type 0 where
+  pub start : IsStart p m.state
+  pub dense : IsDense p m
+  pub clauses : AllCanCome ((weighted_cnf p).variables + min room MOST_ROOM)
+      (length (weighted_cnf p).clauses) m.state
+
 -- what holds of each solver
 pub record IsSolver (s : SolverState) : Type 0 where
   pub instance : IsInstance (instance_of s)
@@ -80,6 +110,8 @@ pub record IsSolver (s : SolverState) : Type 0 where
   pub given : (s.input).given ≡ given_of (weighted_cnf (instance_of s)).clauses
   pub variables : length ((s.input).frozen).items ≡ (weighted_cnf (instance_of s)).variables
   pub least : s.refuted ≡ true → IsLeast s.log
+  -- whatever has failed
+  pub lines : HasOpenLines s.input s.log
   pub working : s.failed ≡ false → IsWorking s
 
 -- the instance is the same, the log started there, the writer began with the same bytes, and cuts
@@ -132,9 +164,11 @@ IsRightText p cost ended text =
 -- that is behind no text, if it starts before the first line
 abbrev pub HasWritten : SolverState → Option (List ℕ) → Type 0
 HasWritten s now = (text : List ℕ) × Appends (((s.log).book).seen).origin now text
-    × ((before : List ℕ) → IsBefore s.log before
+    × ((before : List ℕ) → IsEarlier (problem_of s.log) (start_of s.log) before
     → IsRightText (instance_of s) (s.log).cost s.refuted (before ++ text))
 
--- or a beginning of some text
+-- or it has what it has of them, of which the lines that a line feed ends are right there
 abbrev pub HasBegunToWrite : SolverState → Option (List ℕ) → Type 0
-HasBegunToWrite s now = (text : List ℕ) × AppendsPart (((s.log).book).seen).origin now text
+HasBegunToWrite s now = (text : List ℕ) × Appends (((s.log).book).seen).origin now text
+    × ((before : List ℕ) → IsEarlier (problem_of s.log) (start_of s.log) before
+    → HasRightLines (instance_of s) (s.log).cost before text)

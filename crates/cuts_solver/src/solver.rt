@@ -4,7 +4,7 @@
 //! log takes them where they are right and refuses them else, and the clauses that it makes of them
 //! go to the engine at once. So no proof rests on what is proposed.
 ghost use Rattle.std.specs.Prelude.{◌≡◌, ◌+◌, ◌<◌, ◌≤◌, [], ◌∷◌, ◌++◌, List, true, false, min};
-ghost use Rattle.std.specs.Prelude.{IfOk, IfSome, OnOk, length, map, Some, None};
+ghost use Rattle.std.specs.Prelude.{IfNone, IfOk, IfSome, OnOk, length, map, Some, None};
 ghost use Rattle.cnf.specs.Literal.{Literal};
 ghost use Rattle.cnf.specs.declared.limits.TheConstants.{NUMBER_LIMIT};
 ghost use Rattle.std.specs.List.{AllByRecursion};
@@ -25,7 +25,9 @@ ghost use Rattle.lrat_cuts.specs.Cuts.{cuts_start};
 ghost use Rattle.lrat_live.specs.Listed.{listed_at};
 ghost use Rattle.lrat_log.specs.declared.log.TheConstants.{LINE_LIMIT};
 ghost use Rattle.cuts_log.specs.Starts.{IsReached, earlier_lines, lines_for};
-ghost use Rattle.cuts_solver.specs.Solving.{StartsBehind};
+ghost use Rattle.bound.specs.Weighted.{weighted_cnf};
+ghost use Rattle.cdcl.specs.declared.whole.TheConstants.{MOST_ROOM};
+ghost use Rattle.cuts_solver.specs.Solving.{AllCanCome, CanCome, IsDense, StartsBehind};
 
 use adder::relaxations::Relaxation;
 use bound::weighted::weighted_formula;
@@ -37,7 +39,6 @@ use cdcl::guide::Guide;
 use cdcl::guided::{GuidedEnd, are_apart, make_room, search_guided};
 use cdcl::watch::SearchWatch;
 use cdcl::whole::{MOST_ROOM, start_whole};
-use cdcl_order::policy::Policy;
 use cdcl_search::axioms::take_axiom;
 use cdcl_search::input::Input;
 use cdcl_search::search::Search;
@@ -56,22 +57,13 @@ use std::io::Write;
 use std::marker::Model;
 
 /// The ids that may come for each line of a certificate that is gone on with.
-const IDS_A_LINE: u64 = 64;
+pub const IDS_A_LINE: u64 = 64;
 
 /// The ids that may come for clauses of a certificate's counts, twice as many as there may be.
-const IDS_OF_COUNTS: u64 = 1 << 23;
+pub const IDS_OF_COUNTS: u64 = 1 << 23;
 
 /// A conflict has about so many lines: what it learns comes, and mostly goes.
 const LINES_A_CONFLICT: u64 = 2;
-
-/// The first deletion comes after so many conflicts (`cdcl_order/src/deletions.rt`),
-const FIRST_PAUSE: u64 = 1000;
-
-/// each further one after so many more than the one before,
-const PAUSE_STEP: u64 = 100;
-
-/// and so often that grows.
-const PAUSE_STEPS: u64 = 40;
 
 /// The most literals that a clause of a count has.
 const MOST_COUNTED: usize = 3;
@@ -164,7 +156,7 @@ impl<W: Write> Model for CutsSolver<W> {
 }
 
 impl<W: Write + Drop> CutsSolver<W> {
-    ghost use Rattle.cuts_solver.specs.Solving.{IsLeast, SameSolver, instance_of};
+    ghost use Rattle.cuts_solver.specs.Solving.{CanResume, IsLeast, SameSolver, instance_of};
     ghost use Rattle.cuts_solver.specs.Solving.{HasWritten, HasBegunToWrite};
     ghost use Rattle.cuts_log.specs.Logs.{start_of};
 
@@ -200,11 +192,12 @@ impl<W: Write + Drop> CutsSolver<W> {
         })
     }
 
-    /// The solver of an instance that goes on with what a checker has judged, for a writer that puts
-    /// its lines behind that; its room is that of `new`. Cuts have to hold in the solutions for
-    /// which those before hold. None where `CutsLog::resume` answers that, where a live clause has
-    /// no literals, one variable twice, or one for which there is no room, and where ids leap far
-    /// ahead of the lines: an id costs a look, whether a clause has it or not.
+    /// The solver of an instance that goes on with what a checker has judged, for a writer that
+    /// puts its lines behind that; its room is that of `new`. Cuts have to hold in the solutions
+    /// for which those before hold. None just where `CutsLog::resume` answers that, where a live
+    /// clause behind the formula has no literals, one variable twice, or one for which there is no
+    /// room, and where ids leap far ahead of the lines: an id costs a look, whether a clause has it
+    /// or not.
     ///
     /// # Errors
     ///
@@ -225,6 +218,10 @@ impl<W: Write + Drop> CutsSolver<W> {
             (λ s. (s.log).cost ≡ machine.state.worth)) }
         ensures works { IfOk result (λ found. IfSome found
             (λ s. (s.refuted ≡ false) × (s.failed ≡ false))) }
+        ensures can { IfOk result (λ found. IfSome found
+            (λ _. CanResume instance.now machine room)) }
+        ensures refused { IfOk result (λ found. IfNone found
+            (CanResume instance.now machine room → ⊥)) }
     {
         instance.limits();
         let alloc = instance.allocator();
@@ -401,7 +398,7 @@ impl<W: Write + Drop> CutsSolver<W> {
     }
 
     /// The writer, with all that was put out. Where that could not be written, or memory was
-    /// refused before, it has a beginning of it.
+    /// refused before, it has a beginning of it. Its lines are right up to the last line feed.
     pub fn finish(mut self) -> Written<W>
         ensures whole { result.is_whole ≡ true → HasWritten self (W.contents result.writer) }
         ensures part { HasBegunToWrite self (W.contents result.writer) }
@@ -439,7 +436,10 @@ impl<W: Write + Drop> CutsSolver<W> {
 }
 
 /// Whether ids leap far ahead of the lines that the checker has judged.
-fn has_leaps(instance: &Instance, machine: &CutsMachine) -> bool {
+fn has_leaps(instance: &Instance, machine: &CutsMachine) -> bool
+    ensures yes { result ≡ true → IsDense instance.now machine.now → ⊥ }
+    ensures no { result ≡ false → IsDense instance.now machine.now }
+{
     let clauses = instance.hard().len().saturating_add(instance.soft().len()) as u64;
     let lines = machine.lines().saturating_mul(IDS_A_LINE);
     machine.last() > clauses.saturating_add(lines).saturating_add(IDS_OF_COUNTS)
@@ -452,18 +452,20 @@ fn start_behind(
     machine: &CutsMachine,
     room: u32,
 ) -> Result<Option<(Search, Input)>, AllocError>
-    ensures { IfOk result (λ found. IfSome found
+    ensures begun { IfOk result (λ found. IfSome found
         (λ begun. StartsBehind instance.now machine.now.state begun.0 begun.1)) }
+    ensures can { IfOk result (λ found. IfSome found (λ _.
+        AllCanCome ((weighted_cnf instance.now).variables + min room MOST_ROOM)
+        (length (weighted_cnf instance.now).clauses) machine.now.state)) }
+    ensures refused { IfOk result (λ found. IfNone found
+        (length (weighted_cnf instance.now).clauses ≤ machine.now.state.last
+        → AllCanCome ((weighted_cnf instance.now).variables + min room MOST_ROOM)
+        (length (weighted_cnf instance.now).clauses) machine.now.state → ⊥)) }
 {
-    let alloc = instance.allocator();
     let formula = weighted_formula(instance)?;
     let base = formula.clauses().len() as u64;
     let (mut search, input) = start_whole(formula, room.min(MOST_ROOM))?;
-    count_deletions(
-        &mut search.policy,
-        alloc,
-        machine.lines() / LINES_A_CONFLICT,
-    );
+    search.policy.count_earlier(conflicts_before(machine));
     match take_earlier(&mut search, &input, machine, base) {
         Ok(true) => Ok(Some((search, input))),
         Ok(false) => {
@@ -479,23 +481,17 @@ fn start_behind(
     }
 }
 
-/// Counts the deletions that come with so many conflicts, so that the next ones come as late as if
-/// the search had gone on: as often as at its beginning, they would leave it half of its clauses.
-fn count_deletions(policy: &mut Policy, alloc: Global, conflicts: u64)
-    ensures { policy.new ≡ policy.old }
-{
-    let mut left = conflicts;
-    for deletions in 0..u64::MAX {
-        let pause = FIRST_PAUSE + PAUSE_STEP * deletions.min(PAUSE_STEPS);
-        if left < pause || policy.choose(alloc, &[]).is_err() {
-            return;
-        }
-        left -= pause;
-    }
+/// About how many conflicts the search has had whose lines the checker has judged.
+pub fn conflicts_before(machine: &CutsMachine) -> u64 {
+    machine.lines() / LINES_A_CONFLICT
 }
 
 /// Clauses that are live come to the engine under the names that they have in the log, where those
 /// of the formula are. Answers whether all could come; else the search is of no use.
+///
+/// # Errors
+///
+/// `AllocError` where memory was refused, or where ids would be 2^61 or more.
 fn take_earlier(
     search: &mut Search,
     input: &Input,
@@ -503,11 +499,18 @@ fn take_earlier(
     base: u64,
 ) -> Result<bool, AllocError>
     requires runs { Runs search.old input.now [] }
-    ensures { IfOk result (λ taken. taken ≡ true
+    ensures runs { IfOk result (λ taken. taken ≡ true
         → Runs search.new input.now (earlier_lines base machine.now.state)) }
+    ensures can { IfOk result (λ taken. taken ≡ true
+        → AllCanCome search.old.engine.variables base machine.now.state) }
+    ensures refused { IfOk result (λ taken. taken ≡ false → base ≤ machine.now.state.last
+        → AllCanCome search.old.engine.variables base machine.now.state → ⊥) }
 {
     let last = machine.last();
-    if last < base || last >= LINE_LIMIT as u64 {
+    if last >= LINE_LIMIT as u64 {
+        return Err(AllocError);
+    }
+    if last < base {
         return Ok(false);
     }
     let mut marks = Marks::empty(search.store.allocator());
@@ -534,6 +537,12 @@ fn take_addition(
         (ls ++ lines_for (listed_at machine.now.state.live id) (search.old.additions + 1))) }
     ensures additions { IfOk result (λ taken. taken ≡ true
         → search.new.additions ≡ search.old.additions + 1) }
+    ensures can { IfOk result (λ taken. taken ≡ true
+        → IfSome (listed_at machine.now.state.live id) (CanCome search.old.engine.variables)) }
+    ensures refused { IfOk result (λ taken. taken ≡ false
+        → IfSome (listed_at machine.now.state.live id) (CanCome search.old.engine.variables) → ⊥) }
+    ensures variables { IfOk result (λ taken. taken ≡ true
+        → search.new.engine.variables ≡ search.old.engine.variables) }
 {
     match machine.find(id) {
         Some(lits) => take_live(search, input, marks, lits),
@@ -555,9 +564,16 @@ fn take_live(
     requires runs { (ls : List LogLine) × Runs search.old input.now ls }
     requires few { search.old.additions + 1 < LINE_LIMIT }
     ensures takes { IfOk result (λ taken. taken ≡ true → (ls : List LogLine)
-        → Runs search.old input.now ls → Runs search.new input.now (ls ++ axiom_line lits.now ∷ [])) }
+        → Runs search.old input.now ls
+        → Runs search.new input.now (ls ++ axiom_line lits.now ∷ [])) }
     ensures additions { IfOk result (λ taken. taken ≡ true
         → search.new.additions ≡ search.old.additions + 1) }
+    ensures can { IfOk result (λ taken. taken ≡ true
+        → CanCome search.old.engine.variables lits.now) }
+    ensures refused { IfOk result (λ taken. taken ≡ false
+        → CanCome search.old.engine.variables lits.now → ⊥) }
+    ensures variables { IfOk result (λ taken. taken ≡ true
+        → search.new.engine.variables ≡ search.old.engine.variables) }
 {
     let variables = search.engine.variables();
     make_room(marks, variables)?;
@@ -575,6 +591,7 @@ fn skip(search: &mut Search)
     ensures skips { (p : Input) (ls : List LogLine) → Runs search.old p ls
         → Runs search.new p (ls ++ lines_for None (search.old.additions + 1)) }
     ensures additions { search.new.additions ≡ search.old.additions + 1 }
+    ensures variables { search.new.engine.variables ≡ search.old.engine.variables }
 {
     search.additions += 1;
 }

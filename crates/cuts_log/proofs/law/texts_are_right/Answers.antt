@@ -1,3 +1,4 @@
+use Rattle.cuts_log.proofs.BegunTexts.{begun_judged}
 use Rattle.cuts_log.proofs.LogBounds.{bounds_proved}
 use Rattle.cuts_log.proofs.LogEnds.{logs_end}
 use Rattle.cuts_log.proofs.LogTexts.{nothing_cheaper, texts_judged}
@@ -7,6 +8,7 @@ pub returns : goal.returns
 returns c = record {
   end = logs_end;
   texts = texts_judged;
+  begun = begun_judged;
   cost = nothing_cheaper;
   bounds = bounds_proved;
 }

@@ -9,14 +9,14 @@ use Rattle.cuts_log.specs.Starts.{IsResumable}
 use Rattle.cuts_log.proofs.Starting.{resumes_right}
 use Rattle.cuts_log.proofs.log.go_on.Goals as goal
 
-pub returns : goal.returns
-returns g c =
+pub returns-clause-begun : goal.returns-clause-begun
+returns-clause-begun g c =
     let p = c.args.instance.now in
     let s = c.args.machine.now.state in
     let cs : c.into_clauses-clauses.result ≡ (weighted_cnf p).clauses =
     c.into_clauses-clauses.ensures ∙ ap (λ (f : Cnf). f.clauses) c.in_ok-formula.ensures in
     let can = subst (λ o. IfSome o (IsResumable s c.into_clauses-clauses.result)) c.in-Some.is
-    c.in_ok-lines.ensures in
+    c.in_ok-lines.ensures.can in
     let whole = subst (λ d. IsResumable s d c.in-Some.lines) cs can in
     let some : 0 < s.worth = search (rules, arith) in record {
       book =

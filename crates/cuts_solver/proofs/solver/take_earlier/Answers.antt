@@ -1,8 +1,12 @@
 -- One addition after the other comes.
-use Rattle.std.proofs.Common.{◌≡◌, suc, ◌+◌, ◌-◌, true, ◌++◌, subst, sym, ◌∙◌, ap, arith, rules}
+use Rattle.std.proofs.Common.{◌≡◌, ℕ, suc, ◌+◌, ◌-◌, ◌<◌, true, false, ◌++◌, inl, inr, subst, sym}
+use Rattle.std.proofs.Common.{◌∙◌, ap, arith, rules}
+use Rattle.std.specs.Prelude.{IfSome}
+use Rattle.std.proofs.lemmas.Bool.{cases_eq}
 use Rattle.lrat_live.specs.Listed.{listed_at}
 use Rattle.cdcl_search.specs.Running.{Runs}
 use Rattle.cuts_log.specs.Starts.{added_at, lines_before, lines_for}
+use Rattle.cuts_solver.specs.Solving.{CanCome}
 use Rattle.cuts_solver.proofs.solver.take_earlier.Goals as goal
 
 pub loop-number-preserved : goal.loop-number-preserved
@@ -26,10 +30,24 @@ loop-number-preserved c =
           ++ lines_for (listed_at s.live (base + n + 1)) k)) count
           (e.takes yes (lines_before at n) i.runs)));
       additions = e.additions yes ∙ ap (λ k. k + 1) i.additions;
+      variables = e.variables yes ∙ i.variables;
+      can = λ j less. elim (cases_eq j n) [
+        | inl t ↦ subst (λ k. IfSome (listed_at s.live (base + k + 1))
+            (CanCome c.args.search.now.engine.variables)) (sym t)
+            (subst (λ v. IfSome (listed_at s.live (base + n + 1)) (CanCome v)) i.variables
+            (e.can yes))
+        | inr f ↦ i.can j (omega (arith, less, f))
+      ];
     }
 
-pub returns : goal.returns
-returns c = λ yes.
+pub returns-clause-can : goal.returns-clause-can
+returns-clause-can c = λ yes j less.
+    let n = c.loop-number.number in
+    let all : n ≡ c.args.machine.now.state.last - c.args.base = search (rules, arith) in
+    c.loop-number.invariant.can j (omega (arith, less, all))
+
+pub returns-clause-runs : goal.returns-clause-runs
+returns-clause-runs c = λ yes.
     let s = c.args.machine.now.state in
     let n = c.loop-number.number in
     let all : n ≡ s.last - c.args.base = search (rules, arith) in

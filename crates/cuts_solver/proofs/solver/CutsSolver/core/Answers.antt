@@ -2,8 +2,8 @@ use Rattle.std.proofs.Common.{◌≡◌, true, false, refl, sym, ◌∙◌, ap, 
 use Rattle.cuts_log.specs.Logs.{SameLog, lines_seen}
 use Rattle.cdcl.proofs.Laws.{paid_nothing}
 use Rattle.cuts_solver.specs.Solving.{SolverState}
-use Rattle.cuts_solver.proofs.Searching.{searched_on}
-use Rattle.cuts_solver.proofs.Working.{fails_solver, same_log}
+use Rattle.cuts_solver.proofs.Searching.{searched_fails, searched_on}
+use Rattle.cuts_solver.proofs.Working.{same_log}
 use Rattle.cuts_solver.proofs.solver.CutsSolver.core.Goals as goal
 
 pub returns-in_default-clause-pays : goal.returns-in_default-clause-pays
@@ -27,7 +27,9 @@ invariant_of-self g c =
       failed = true;
     } in
     let same = c.find_core.ensures.follows old.log (same_log old.log) in
-    fails_solver old new c.self.invariant same refl refl refl
+    let e = c.in_err-found.ensures.finds in
+    searched_fails old new c.args.budget.now c.find_core.new.budget c.self.invariant same refl
+    e.pays (e.err).stays refl refl
 
 pub returns-in_err-found-clause-same : goal.returns-in_err-found-clause-same
 returns-in_err-found-clause-same g c =
@@ -51,7 +53,9 @@ invariant_of-self-then-has_failed g c =
       failed = true;
     } in
     let same = c.find_core.ensures.follows old.log (same_log old.log) in
-    fails_solver old new c.self.invariant same refl refl refl
+    let e = c.in_ok-found.ensures.finds in
+    searched_fails old new c.args.budget.now c.find_core.new.budget c.self.invariant same refl
+    e.pays (e.runs.running.recorded.log).stays refl refl
 
 pub returns-then-has_failed-clause-same : goal.returns-then-has_failed-clause-same
 returns-then-has_failed-clause-same g c =

@@ -6,6 +6,7 @@ use Rattle.cdcl.specs.Guiding.{PaysOpen}
 use Rattle.cdcl.proofs.Laws.{paid_axiom, paid_nothing}
 use Rattle.cuts_solver.specs.Solving.{SolverState}
 use Rattle.cuts_solver.proofs.Searching.{cut_ends}
+use Rattle.cuts_solver.proofs.MadeLines.{fails_cut}
 use Rattle.cuts_solver.proofs.Working.{brings_solver}
 use Rattle.cuts_solver.proofs.solver.CutsSolver.cut.Goals as goal
 
@@ -92,6 +93,28 @@ returns-then-is_empty-clause-pays g c =
     let lines = (c.in_ok-is_taken.ensures.taken c.if-not-is_taken.false).lines in
     subst (λ (s : SolverState). PaysOpen given (lines_seen s.log) now b left) c.self.view_is
     (paid_axiom given ls now c.args.lits.now b left lines c.count_learned.ensures)
+
+pub invariant_of-self-in_err-give_cut : goal.invariant_of-self-in_err-give_cut
+invariant_of-self-in_err-give_cut g c =
+    let old : SolverState = record {
+      search = c.self.inside.search;
+      input = c.self.inside.input;
+      log = c.self.inside.log;
+      refuted = c.self.inside.refuted;
+      failed = c.self.inside.failed;
+    } in
+    let new : SolverState = record {
+      search = c.give_cut.new.search;
+      input = c.self.inside.input;
+      log = c.take_cut.new.self;
+      refuted = c.self.inside.refuted;
+      failed = true;
+    } in
+    let works : old.failed ≡ false = search rules in
+    let going : old.refuted ≡ false = search rules in
+    let e = c.in_ok-is_taken.ensures in
+    fails_cut old new c.self.invariant works going e.same refl refl refl c.args.lits.now
+    (e.taken c.if-not-is_taken.false) (c.are_apart.ensures.new c.if-not-are_apart.false)
 
 pub returns-in_err-give_cut-clause-pays : goal.returns-in_err-give_cut-clause-pays
 returns-in_err-give_cut-clause-pays g c =

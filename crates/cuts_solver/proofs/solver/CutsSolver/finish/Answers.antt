@@ -33,4 +33,6 @@ returns-clause-part g c =
     let e = c.flush_all-is_whole.ensures in
     let l = c.flush_all-is_whole.new.log in
     subst (λ x. HasBegunToWrite x (g.W.Write.contents c.into_writer.result)) c.self.view_is
-    (subst (HasBegunToWrite s) (sym c.into_writer.ensures) (has_begun_to_write s l e.book e.same))
+    (subst (HasBegunToWrite s) (sym c.into_writer.ensures)
+    (has_begun_to_write s l c.self.invariant e.kept e.book e.same e.lines
+    c.texts_are_right.ensures.begun))

@@ -29,7 +29,8 @@ returns-then-not-is_whole-clause-part g c =
     let e = c.flush_all-is_whole.ensures in
     let l = c.flush_all-is_whole.new.log in
     subst (λ x. HasBegunToWrite x l.book.out.had) c.self.view_is
-    (has_begun_to_write s l e.book e.same)
+    (has_begun_to_write s l c.self.invariant e.kept e.book e.same e.lines
+    c.texts_are_right.ensures.begun)
 
 pub invariant_of-self-2 : goal.invariant_of-self-2
 invariant_of-self-2 g c =
@@ -73,4 +74,5 @@ returns-clause-part g c =
     let e = c.flush_all-is_whole.ensures in
     let l = c.flush_all-is_whole.new.log in
     subst (λ x. HasBegunToWrite x l.book.out.had) c.self.view_is
-    (has_begun_to_write s l e.book e.same)
+    (has_begun_to_write s l c.self.invariant e.kept e.book e.same e.lines
+    c.texts_are_right.ensures.begun)

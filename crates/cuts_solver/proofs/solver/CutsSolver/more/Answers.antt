@@ -1,9 +1,32 @@
-use Rattle.std.proofs.Common.{◌≡◌, false, map, refl, rules, subst}
+use Rattle.std.proofs.Common.{◌≡◌, true, false, map, refl, rules, subst}
 use Rattle.lrat_log.specs.Log.{axiom_line}
 use Rattle.cuts_log.specs.Logs.{Brings}
 use Rattle.cuts_solver.specs.Solving.{SolverState}
+use Rattle.cuts_solver.proofs.MadeLines.{fails_made}
 use Rattle.cuts_solver.proofs.Working.{brings_solver}
 use Rattle.cuts_solver.proofs.solver.CutsSolver.more.Goals as goal
+
+pub invariant_of-self-in_err-give_made : goal.invariant_of-self-in_err-give_made
+invariant_of-self-in_err-give_made g c =
+    let old : SolverState = record {
+      search = c.self.inside.search;
+      input = c.self.inside.input;
+      log = c.self.inside.log;
+      refuted = c.self.inside.refuted;
+      failed = c.self.inside.failed;
+    } in
+    let new : SolverState = record {
+      search = c.give_made.new.search;
+      input = c.self.inside.input;
+      log = c.more.new.self;
+      refuted = c.self.inside.refuted;
+      failed = true;
+    } in
+    let works : old.failed ≡ false = search rules in
+    let going : old.refuted ≡ false = search rules in
+    let e = c.in_ok-is_taken.ensures in
+    fails_made old new c.self.invariant works going e.same refl refl refl _ c.more.new.made
+    (e.taken c.if-not-is_taken.false) (e.made c.if-not-is_taken.false)
 
 pub invariant_of-self-2 : goal.invariant_of-self-2
 invariant_of-self-2 g c =

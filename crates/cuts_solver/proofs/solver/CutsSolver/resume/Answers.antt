@@ -14,7 +14,7 @@ invariant_of-result g c =
     let origin = g.W.Write.contents c.args.writer in
     let fine : IsInstance p = search rules in
     let h = subst (λ o. IfSome o (HasResumed p t origin)) c.in-Ok-Some.field-0-is
-    c.in-Ok-Some.ensures in
+    c.in-Ok-Some.ensures.resumed in
     let b = subst (λ o. IfSome o (λ x. StartsBehind p t x.0 x.1)) c.in-Ok-Some-begun.field-0-is
-    c.in-Ok-Some-begun.ensures in
+    c.in-Ok-Some-begun.ensures.begun in
     resumed _ p t origin h fine b.input b.given b.variables b.runs refl

@@ -2,8 +2,9 @@ use Rattle.std.proofs.Common.{◌≡◌, true, false, refl, sym, ◌∙◌, ap, 
 use Rattle.cuts_log.specs.Logs.{SameLog, lines_seen}
 use Rattle.cdcl.specs.Guiding.{IsGuidedEnd}
 use Rattle.cuts_solver.specs.Solving.{SolverState}
-use Rattle.cuts_solver.proofs.Searching.{ends_solver, runs_on, searched_on}
-use Rattle.cuts_solver.proofs.Working.{fails_solver, same_log}
+use Rattle.cuts_solver.proofs.Searching.{ended_stays, ends_solver, runs_on, searched_fails}
+use Rattle.cuts_solver.proofs.Searching.{searched_on}
+use Rattle.cuts_solver.proofs.Working.{same_log}
 use Rattle.cuts_solver.proofs.solver.CutsSolver.search_on.Goals as goal
 
 pub invariant_of-self : goal.invariant_of-self
@@ -23,7 +24,9 @@ invariant_of-self g c =
       failed = true;
     } in
     let same = c.search_guided.ensures.sink_follows old.log (same_log old.log) in
-    fails_solver old new c.self.invariant same refl refl refl
+    let e = c.in_err-end.ensures.search in
+    searched_fails old new c.args.budget.now c.search_guided.new.budget c.self.invariant same refl
+    e.pays (e.err).stays refl refl
 
 pub returns-in_err-end-clause-same : goal.returns-in_err-end-clause-same
 returns-in_err-end-clause-same g c =
@@ -47,7 +50,10 @@ invariant_of-self-then-has_failed g c =
       failed = true;
     } in
     let same = c.search_guided.ensures.sink_follows old.log (same_log old.log) in
-    fails_solver old new c.self.invariant same refl refl refl
+    let e = c.in_ok-end.ensures.search in
+    let left = c.search_guided.new.budget in
+    searched_fails old new c.args.budget.now left c.self.invariant same refl e.pays
+    (ended_stays new left c.in_ok-end.end e.ends) refl refl
 
 pub returns-then-has_failed-clause-same : goal.returns-then-has_failed-clause-same
 returns-then-has_failed-clause-same g c =
