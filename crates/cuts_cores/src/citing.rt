@@ -4,7 +4,8 @@
 // Lines are written only for what is new.
 ghost use Rattle.std.specs.Prelude.{◌≡◌};
 
-use crate::desk::{Desk, DeskFault, Way};
+use crate::desk::{Desk, DeskFault};
+use cdcl::watch::Way;
 use forms::types::NamedFact;
 use std::alloc::{AllocError, Global};
 

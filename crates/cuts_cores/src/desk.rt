@@ -4,6 +4,7 @@ ghost use Rattle.std.specs.Prelude.{◌≡◌, ℕ, ◌≤◌, true, IsTrue};
 
 use cdcl::assumptions::Assumptions;
 use cdcl::guide::Guide;
+use cdcl::watch::Way;
 use cnf::types::{Formula, Lit};
 use forms::state::Forms;
 use forms::types::NamedFact;
@@ -47,17 +48,6 @@ pub struct Walked {
     pub visits: u64,
     /// Whether the best solution is a cheaper one now.
     pub is_cheaper: bool,
-}
-
-/// What the form is that shows a bound.
-#[derive(Clone, Copy, Debug, PartialEq, Eq, Drop)]
-pub enum Way {
-    /// That of the cores: the cost less the facts of their counts.
-    Cores,
-    /// One of the linear relaxation.
-    Relaxation,
-    /// The cost itself, under what was learned.
-    Cost,
 }
 
 /// Why a search ended without an answer.

@@ -1,15 +1,15 @@
 // What a session does with one of its parts.
-ghost use Rattle.std.specs.Prelude.{◌≡◌, ◌≤◌};
+ghost use Rattle.std.specs.Prelude.{◌≡◌, ◌≤◌, ◌*◌};
 ghost use Rattle.cdcl_order.specs.Budgets.{left_of};
 ghost use Rattle.improve_cuts.specs.Sessions.{cost_of};
 
 use cdcl::budget::Budget;
+use cdcl::watch::Way;
 use cnf::limits::NUMBER_LIMIT;
 use cnf::types::Lit;
-use cuts_cores::desk::Way;
 use forms::state::Forms;
 use improve::solutions::Solution;
-use improve::watch::{Raised, Way as ShownWay};
+use improve::watch::Raised;
 
 /// What the best solution costs; 2^62 while there is none.
 pub fn cost_in(best: &Option<Solution>) -> u64
@@ -50,20 +50,21 @@ pub fn spend_to(budget: &mut Budget, most: u64)
 }
 
 /// A lower bound that the present form shows, as the watch is told of it.
-pub fn raised_by(forms: &Forms, lower: u64, way: Way) -> Raised {
+pub fn raised_by(forms: &Forms, lower: u64, way: Way) -> Raised
+    ensures lower { result.lower ≡ lower }
+    ensures tenths { result.tenths ≤ 10 * lower }
+{
     Raised {
         lower,
         tenths: tenths_of(forms, lower),
-        way: match way {
-            Way::Cores => ShownWay::Cores,
-            Way::Relaxation => ShownWay::Relaxation,
-            Way::Cost => ShownWay::Cost,
-        },
+        way,
     }
 }
 
 /// What the present form is worth in tenths, rounded up: at most ten times `lower`.
-fn tenths_of(forms: &Forms, lower: u64) -> u64 {
+fn tenths_of(forms: &Forms, lower: u64) -> u64
+    ensures { result ≤ 10 * lower }
+{
     let most = lower.saturating_mul(10);
     let scale = forms.scale() as u128;
     let least = forms.least();

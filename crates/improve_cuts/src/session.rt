@@ -1,7 +1,7 @@
 // The desk of a search: what it works on, and how it stands.
 ghost use Rattle.std.specs.Prelude.{◌≡◌, ◌<◌, ◌≤◌, true, None, IfOk, OnOk, ◌⊎◌};
 ghost use Rattle.cdcl_order.specs.Budgets.{left_of};
-ghost use Rattle.cuts_solver.specs.Solving.{instance_of};
+ghost use Rattle.cuts_solver.specs.Solving.{HasWritten, instance_of};
 ghost use Rattle.improve.specs.Improving.{IsSolution};
 ghost use Rattle.improve.specs.Progress.{CanFail};
 ghost use Rattle.improve.specs.Standing.{AreFeasible};
@@ -13,8 +13,9 @@ use bound::weighted::weighted_formula;
 use cdcl::assumptions::Assumptions;
 use cdcl::budget::Budget;
 use cdcl::guide::Guide;
+use cdcl::watch::Way;
 use cnf::types::{Formula, Instance, Lit};
-use cuts_cores::desk::{Descent, Desk, DeskFault, Trial, Walked, Way};
+use cuts_cores::desk::{Descent, Desk, DeskFault, Trial, Walked};
 use cuts_solver::solver::{Assumed, CutsSolver, SolverEnd};
 use forms::state::Forms;
 use forms::types::NamedFact;
@@ -86,6 +87,8 @@ impl<'i, 's, 'b, 'p, 'k, 'm, 'w, W: Write + Drop, T: Progress, K: Watch> Session
             (self.new.solver.now.refuted ≡ self.old.solver.now.refuted) }
         ensures left { OnOk result (self.new.budget.now ≡ self.old.budget.now) }
         ensures works { OnOk result (self.new.fault ≡ None) }
+        ensures whole { OnOk result (HasWritten self.old.solver.now
+            self.new.solver.now.log.book.out.had) }
         ensures follows { (first : _)
             → ⟦<Session<'i, 's, 'b, 'p, 'k, 'm, 'w, W, T, K> as Desk>⟧.follows first self.old
             → ⟦<Session<'i, 's, 'b, 'p, 'k, 'm, 'w, W, T, K> as Desk>⟧.follows first self.new }
