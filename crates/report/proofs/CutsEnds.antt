@@ -1,7 +1,7 @@
 -- What a run by forms and cuts ends with, or leaves.
 use Rattle.std.proofs.Common.{◌≡◌, ℕ, ◌+◌, ◌<◌, ◌^◌, Bool, true, false, List, [], ◌∷◌, ◌++◌, length}
 use Rattle.std.proofs.Common.{map, Option, Some, None, Ok, Err, refl, sym, ◌∙◌, ap, subst}
-use Rattle.std.proofs.Common.{append_assoc, append-nil}
+use Rattle.std.proofs.Common.{append_assoc}
 use Rattle.std.specs.Prelude.{All, IfSome, IfNone, IsSome, IfOk, IfErr, Result}
 use Rattle.std.specs.Io.KnownBytes.{Keeps, Appends}
 use Rattle.std.proofs.KnownBytes.{Appends-trans, Appends-kept}
@@ -14,7 +14,6 @@ use Rattle.cnf.specs.declared.limits.TheConstants.{NUMBER_LIMIT}
 use Rattle.cnf.proofs.Laws.{extends_own}
 use Rattle.wcnf.specs.Wcnf.{Reads}
 use Rattle.text.specs.Writing.{AppendsPart}
-use Rattle.text.proofs.Laws.{part-kept}
 use Rattle.adder.specs.declared.profiles.Profile.TheVariants.{One}
 use Rattle.cdcl_order.specs.Budgets.{BudgetState, left_of}
 use Rattle.cdcl_order.specs.Watch.{Sight, with_seen}
@@ -46,7 +45,8 @@ use Rattle.report.specs.Running.{result_text, told_in, AreHonest, NeedsProof, Is
 use Rattle.report.specs.ByCuts.{status_by, said_with, said_of_cuts, said_text, cost_held_by}
 use Rattle.report.specs.ByCuts.{IsRightBehind, ChecksByCuts, EndsBehind}
 use Rattle.report.specs.ByCuts.{LeavesResultBehind, LeavesBehind, IsSeenByCuts, SearchesByCuts}
-use Rattle.report.specs.ByCuts.{IsShownByCuts, GrowsByPart, AnswersByCuts, LeavesAnswerByCuts}
+use Rattle.report.specs.ByCuts.{IsShownByCuts, GrowsRightly, AnswersByCuts, LeavesAnswerByCuts}
+use Rattle.report.proofs.CutsTexts.{grown_kept}
 use Rattle.report.proofs.Ends.{honest_costs, solution_at}
 use Rattle.report.proofs.ResultTexts.{optimum_text, satisfiable_text, falls_in, text_says}
 use Rattle.report.proofs.ResultTexts.{begun, not_past}
@@ -216,7 +216,7 @@ module _ (text : Option (List ℕ)) (p : Problem) (limits : IsInstance p)
     module _ (found : CutsFound)
         (h : SearchesByCuts p limit (Ok found) refuted held out out' old new)
         (is_whole : Bool) (mid : Option (List ℕ)) (whole : is_whole ≡ true → Certifies mid)
-        (part : GrowsByPart proof mid) where
+        (part : GrowsRightly front text proof mid) where
       its : SpellsFound text p limit h.tried (said_of_cuts found) refuted held new
       its = spells limit h.tried refuted held new h.falling h.small found h.found
 
@@ -268,24 +268,25 @@ module _ (text : Option (List ℕ)) (p : Problem) (limits : IsInstance p)
 
       output_leaves : (last proof' : Option (List ℕ))
           → AppendsPart out' last (said_text (said_of_cuts found)) → Certifies proof'
-          → LeavesResultBehind front text out last proof proof' new
-      output_leaves last proof' part w =
+          → Keeps mid proof' → LeavesResultBehind front text out last proof proof' new
+      output_leaves last proof' begun_end w k =
           let said = said_of_cuts found in
           let text_is = result_text its.before said in
           let right = right_for h.tried said w.0 its w.2 in
           let grows = w.1 in
           record {
-            written = cost_lines h.tried ++ part.0;
-            out_grows = Appends-trans out out' last (cost_lines h.tried) part.0 h.lines part.2;
-            proof_part = (w.0, (w.0, ([], sym (append-nil w.0)), grows));
+            written = cost_lines h.tried ++ begun_end.0;
+            out_grows =
+                Appends-trans out out' last (cost_lines h.tried) begun_end.0 h.lines begun_end.2;
+            proof_part = grown_kept front text proof mid proof' part k;
             before = its.before;
             said = said;
             falls = its.falls;
             honest = honest_in;
             begins = (
-              part.1.0,
-              its.spelled ∙ ap (λ z. cost_lines h.tried ++ z) part.1.1
-                  ∙ sym (append_assoc (cost_lines h.tried) part.0 part.1.0),
+              begun_end.1.0,
+              its.spelled ∙ ap (λ z. cost_lines h.tried ++ z) begun_end.1.1
+                  ∙ sym (append_assoc (cost_lines h.tried) begun_end.0 begun_end.1.0),
             );
             proof_is_whole = λ lt. record {
               proved = w.0;
@@ -300,14 +301,14 @@ module _ (text : Option (List ℕ)) (p : Problem) (limits : IsInstance p)
           → LeavesAnswerByCuts fault is_whole (said_of_cuts found) out' last mid proof'
           → LeavesBehind front fault text out last proof proof' new
       answer_leaves last proof' Output w =
-          output_leaves last proof' w.1 (kept proof' w.0 w.2)
+          output_leaves last proof' w.1 (kept proof' w.0 w.2) w.2
       answer_leaves last proof' ProofOutput w = (
         record {
           costs = h.tried;
           out_grows = Appends-kept out out' last (cost_lines h.tried) h.lines w.0;
           honest = honest_costs One text p reads only h.tried h.falling h.honest;
         },
-        (part.0, part-kept proof mid proof' part.0 part.1 w.1),
+        grown_kept front text proof mid proof' part w.1,
       )
       answer_leaves last proof' Memory w = absurd w
       answer_leaves last proof' (Read fault) w = absurd w
@@ -340,7 +341,7 @@ module _ (text : Option (List ℕ)) (p : Problem) (limits : IsInstance p)
     -- a fault while it searched
     pub search_leaves : (proof' : Option (List ℕ)) (fault : RunFault)
         → SearchesByCuts p limit (Err fault) refuted held out out' old new
-        → GrowsByPart proof proof'
+        → GrowsRightly front text proof proof'
         → LeavesBehind front fault text out out' proof proof' new
     search_leaves proof' Memory h w = (
       record {

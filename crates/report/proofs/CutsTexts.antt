@@ -1,18 +1,20 @@
 -- What the writer of a certificate has, behind what was written before.
 use Rattle.std.proofs.Common.{◌≡◌, ℕ, ◌<◌, ◌≤◌, true, List, [], ◌++◌, Option, Some, None, Ok}
 use Rattle.std.proofs.Common.{refl, sym, ◌∙◌, ap, subst, arith, inl, append-nil}
-use Rattle.std.specs.Prelude.{IfSome, IfOk, IfErr, Result}
-use Rattle.std.specs.Io.KnownBytes.{Appends}
-use Rattle.std.proofs.KnownBytes.{Appends-nil}
+use Rattle.std.specs.Prelude.{IfSome, IfOk, IfErr, IsOk, Result}
+use Rattle.std.specs.Io.KnownBytes.{Appends, Keeps}
+use Rattle.std.proofs.KnownBytes.{Appends-kept, Appends-nil}
+use Rattle.std.proofs.lemmas.Option.{IfSome_then}
 use Rattle.cnf.specs.Instance.{IsInstance}
 use Rattle.cnf.specs.Problem.{Problem}
 use Rattle.cnf.specs.declared.limits.TheConstants.{NUMBER_LIMIT}
 use Rattle.text.specs.Text.{token_lines}
+use Rattle.wcnf.specs.Wcnf.{Reads}
 use Rattle.lrat_cuts.specs.Cuts.{CutsState, cuts_start}
-use Rattle.lrat_cuts.specs.Verdict.{judged_text}
+use Rattle.lrat_cuts.specs.Verdict.{ended_part, judged_text}
 use Rattle.lrat_cuts.proofs.Laws.{cuts_prove, cuts_sound, right_up_to}
 use Rattle.lrat_check.specs.Checks.{CostsAtLeast}
-use Rattle.cuts_log.specs.Judging.{IsBefore}
+use Rattle.cuts_log.specs.Judging.{IsEarlier}
 use Rattle.cuts_log.specs.Logs.{LogState, problem_of, start_of}
 use Rattle.cuts_log.specs.Starts.{IsReached}
 use Rattle.cuts_solver.specs.Solving.{SolverState, HasWritten, HasBegunToWrite, IsRightText}
@@ -24,17 +26,14 @@ use Rattle.improve_cuts.specs.ByCuts.{BeginsWith, SameOrigin}
 use Rattle.cdcl_order.specs.Budgets.{BudgetState}
 use Rattle.report.specs.declared.status.CutsStatus.{CutsStatus}
 use Rattle.report.specs.declared.fault.RunFault.{RunFault}
-use Rattle.report.specs.ByCuts.{EndsBehind, GrowsByPart, LeavesBehind}
-use Rattle.report.specs.Earlier.{IsEarlier, IsRightUpTo}
+use Rattle.report.specs.ByCuts.{EndsBehind, GrowsRightly, LeavesBehind}
+use Rattle.report.specs.Earlier.{IsRightUpTo}
 
 -- of a solver that has gone on from a start
 module _ (p : Problem) (start now : SolverState) (same : SameOrigin start now) where
-  pub begun_text : (mid : Option (List ℕ)) → HasBegunToWrite now mid
-      → GrowsByPart (((start.log).book).seen).origin mid
-  begun_text mid h = subst (λ o. GrowsByPart o mid) same.origin h
-
-  module _ (its : instance_of start ≡ p) (front : List ℕ) (b : IsBefore start.log front) where
-    still_before : IsBefore now.log front
+  module _ (its : instance_of start ≡ p) (front : List ℕ)
+      (b : IsEarlier (problem_of start.log) (start_of start.log) front) where
+    still_before : IsEarlier (problem_of now.log) (start_of now.log) front
     still_before = record {
       judged = ap (λ q. judged_text None q front) same.instance ∙ b.judged
           ∙ ap Ok (sym same.start);
@@ -50,6 +49,21 @@ module _ (p : Problem) (start now : SolverState) (same : SameOrigin start now) w
       subst (λ q. IsRightText q (now.log).cost now.refuted (front ++ w.0)) (same.instance ∙ its)
           (w.2 front still_before),
     )
+
+    pub begun_text : (text : Option (List ℕ))
+        → IfSome text (λ bytes. (q : Problem) → Reads bytes q → q ≡ p) → (mid : Option (List ℕ))
+        → HasBegunToWrite now mid
+        → GrowsRightly front text (((start.log).book).seen).origin mid
+    begun_text text only mid w =
+        let all = front ++ ended_part w.0 in
+        let right : IsOk (judged_text None p all) =
+        subst (λ q. IsOk (judged_text None q all)) (same.instance ∙ its)
+        (subst IsOk (sym (w.2 front still_before None tt).1) refl) in record {
+          proved = w.0;
+          proof_grows = subst (λ o. Appends o mid w.0) same.origin w.1;
+          right = IfSome_then text only (λ bytes one q reads _.
+              subst (λ z. IsOk (judged_text None z all)) (sym (one q reads)) right);
+        }
 
 -- the same of what was begun with, under other names
 module _ {W : Type 0} (contents : W → Option (List ℕ)) (writer : Option W)
@@ -75,12 +89,14 @@ module _ {W : Type 0} (contents : W → Option (List ℕ)) (writer : Option W)
       (λ w. LeavesBehind front fault text out out' z (contents w) new))) same h
 
 -- nothing stands before the first line
-pub nothing_before : (l : LogState) → start_of l ≡ cuts_start (problem_of l) → IsBefore l []
+pub nothing_before : (l : LogState) → start_of l ≡ cuts_start (problem_of l)
+    → IsEarlier (problem_of l) (start_of l) []
 nothing_before l e = record { judged = ap Ok (sym e); ended = inl refl }
 
 -- these lines do
 pub earlier_before : (l : LogState) (p : Problem) (s : CutsState) (front : List ℕ)
-    → problem_of l ≡ p → start_of l ≡ s → IsEarlier p s front → IsBefore l front
+    → problem_of l ≡ p → start_of l ≡ s → IsEarlier p s front
+    → IsEarlier (problem_of l) (start_of l) front
 earlier_before l p s front u v e = record {
   judged = ap (λ q. judged_text None q front) u ∙ e.judged ∙ ap Ok (sym v);
   ended = e.ended;
@@ -126,5 +142,25 @@ nothing_behind p limit held front proof up le = (
   subst (IsRightText p held true) (sym (append-nil front)) (up held le),
 )
 
-pub nothing_grown : (proof : Option (List ℕ)) → GrowsByPart proof proof
-nothing_grown proof = ([], ([], ([], refl), Appends-nil proof))
+pub nothing_grown : (front : List ℕ) (text proof : Option (List ℕ))
+    → GrowsRightly front text proof proof
+nothing_grown front text proof = record {
+  proved = [];
+  proof_grows = Appends-nil proof;
+  right = by text;
+}
+  where
+    by : (t : Option (List ℕ)) → IfSome t (λ bytes. (p : Problem) → Reads bytes p
+        → IsOk (judged_text None p front) → IsOk (judged_text None p (front ++ [])))
+    by None = tt
+    by (Some bytes) = λ p reads h.
+        subst (λ x. IsOk (judged_text None p x)) (sym (append-nil front)) h
+
+-- what is kept of it
+pub grown_kept : (front : List ℕ) (text proof mid proof' : Option (List ℕ))
+    → GrowsRightly front text proof mid → Keeps mid proof' → GrowsRightly front text proof proof'
+grown_kept front text proof mid proof' g k = record {
+  proved = g.proved;
+  proof_grows = Appends-kept proof mid proof' g.proved g.proof_grows k;
+  right = g.right;
+}

@@ -32,7 +32,7 @@ use Rattle.report.specs.declared.status.Status.{Status}
 use Rattle.report.specs.declared.fault.RunFault.{RunFault}
 use Rattle.report.specs.declared.fault.RunFault.TheVariants.{Read, Memory, Output, ProofOutput}
 use Rattle.report.specs.Told.{cost_lines}
-use Rattle.report.specs.Answering.{status_of, end_text, proof_text, HasRoom, HasProofRoom}
+use Rattle.report.specs.Answering.{status_of, end_text, proof_text, HasIdRoom, HasProofRoom}
 use Rattle.report.specs.Answering.{IsSpelledProof, HasProof, LeavesAnswer, Answers}
 use Rattle.report.specs.Running.{result_text, told_in, AreHonest, AreChecked, IsTrueAnswer}
 use Rattle.report.specs.Running.{NeedsProof, EndsAs, LeavesResult, LeavesProof, Leaves, Searches}
@@ -49,7 +49,7 @@ module _ (cs : List (List Literal)) (n : ℕ) (log : List LogLine) (a : IsAccept
   proof_over : IsTextOf (text_of n log) (numbered_lines n log) → IsProofOver cs (text_of n log)
   proof_over s = (numbered_lines n log, s, accepted_at)
 
-  room : HasRoom n log
+  room : HasIdRoom n log
   room = (
     k.1,
     λ lt. subst (λ m. HasSmallIds m log) (sym k.0)

@@ -3,22 +3,23 @@ use Rattle.std.proofs.Common.{◌≡◌, ℕ, true, List, [], ◌∷◌, ◌++�
 use Rattle.std.proofs.Common.{Ok, Err, refl, sym, ◌∙◌, ap, inl, inr, append_assoc}
 use Rattle.std.specs.Prelude.{IfSome, ◌==◌, Result}
 use Rattle.std.specs.Io.KnownBytes.{Consumes, IsAtEnd}
-use Rattle.std.proofs.lemmas.Bool.{cases_Bool, eqb-true}
+use Rattle.std.proofs.lemmas.Bool.{cases_Bool, cond-true, eqb-true}
 use Rattle.cnf.specs.Problem.{Problem}
 use Rattle.text.specs.Pieces.{IsEnded}
 use Rattle.text.specs.Text.{token_lines}
 use Rattle.lrat_machine.specs.declared.verdicts.Cause.{Cause}
 use Rattle.lrat_machine.specs.declared.verdicts.Verdict.{Verdict}
-use Rattle.lrat_machine.specs.declared.verdicts.Verdict.TheVariants.{Yes}
+use Rattle.lrat_machine.specs.declared.verdicts.Cause.TheVariants.{NoEmptyClause}
+use Rattle.lrat_machine.specs.declared.verdicts.Verdict.TheVariants.{Yes, No}
 use Rattle.lrat_cuts.specs.Cuts.{CutsState}
 use Rattle.lrat_cuts.specs.Pieces.{CheckerState, HasJudged}
 use Rattle.lrat_cuts.specs.Verdict.{cuts_verdict, ended_part, ended_with, judged_text}
 use Rattle.lrat_cuts.specs.Verdict.{verdict_of}
 use Rattle.lrat_cuts.proofs.Laws.{ended_part-more}
 use Rattle.lrat_check.proofs.PieceLaws.{over_all, over_ended}
+use Rattle.cuts_log.specs.Judging.{IsEarlier}
 use Rattle.cuts_log.specs.Starts.{IsReached}
 use Rattle.cuts_solver.specs.Solving.{IsRightText}
-use Rattle.report.specs.Earlier.{IsEarlier}
 
 -- the part up to the last line feed is ended by it
 module _ (b : ℕ) where
@@ -94,3 +95,15 @@ module _ (p : Problem) (cost : ℕ) where
       → IfSome known (IsRightText p cost true)
   right_known None v h y = tt
   right_known (Some bytes) v h y = right_text bytes (sym h ∙ y)
+
+  -- and one that is right, and has ended, is accepted
+  yes_text : (text : List ℕ) → IsRightText p cost true text
+      → cuts_verdict (Some cost) p text ≡ Yes
+  yes_text text (s, is, ended) =
+      ap verdict_of is ∙ cond-true s.ended Yes (No NoEmptyClause 0) ended
+
+  pub wrong_known : (known : Option (List ℕ)) (v : Verdict)
+      → IfSome known (λ bytes. v ≡ cuts_verdict (Some cost) p bytes) → (v ≡ Yes → ⊥)
+      → IfSome known (λ bytes. IsRightText p cost true bytes → ⊥)
+  wrong_known None v h refused = tt
+  wrong_known (Some bytes) v h refused = λ right. refused (h ∙ yes_text bytes right)

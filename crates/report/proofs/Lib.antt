@@ -11,3 +11,4 @@ pub mod AtOnce
 pub mod CutsTexts
 pub mod CutsEnds
 mod BestTexts
+mod Dearer

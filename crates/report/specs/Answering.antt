@@ -51,12 +51,12 @@ proof_text (Best c bits work) = []
 proof_text (Nothing work) = []
 
 -- with ids from this number on, the numbers of the log stay small where its lines are few
-abbrev pub HasRoom : ℕ → List LogLine → Type 0
-HasRoom n ls = (n < CLAUSE_LIMIT) × (n + length ls < NUMBER_LIMIT → HasSmallIds n ls)
+abbrev pub HasIdRoom : ℕ → List LogLine → Type 0
+HasIdRoom n ls = (n < CLAUSE_LIMIT) × (n + length ls < NUMBER_LIMIT → HasSmallIds n ls)
 
 abbrev pub HasProofRoom : Found → Type 0
-HasProofRoom (Optimum c bits log clauses) = HasRoom clauses log
-HasProofRoom (Unsat log clauses) = HasRoom clauses log
+HasProofRoom (Optimum c bits log clauses) = HasIdRoom clauses log
+HasProofRoom (Unsat log clauses) = HasIdRoom clauses log
 HasProofRoom (Best c bits work) = ⊤
 HasProofRoom (Nothing work) = ⊤
 

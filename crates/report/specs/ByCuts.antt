@@ -1,7 +1,7 @@
 -- What a run by forms and cuts writes and leaves. Its certificate is written while it searches.
 use Rattle.std.specs.Prelude.{◌≡◌, ◌+◌, ◌<◌, ◌++◌, map}
 use Rattle.std.specs.Prelude.{ℕ, Bool, true, false, List, [], ◌∷◌, length, All}
-use Rattle.std.specs.Prelude.{Option, Some, None, IfSome, Result, Ok, Err, IfOk, OnOk}
+use Rattle.std.specs.Prelude.{Option, Some, None, IfSome, Result, Ok, Err, IfOk, IsOk, OnOk}
 use Rattle.std.specs.Prelude.{if◌then◌else◌}
 use Rattle.std.specs.Io.KnownBytes.{Keeps, Appends}
 use lib.Chars.{codes}
@@ -13,7 +13,7 @@ use Rattle.cdcl_order.specs.Budgets.{BudgetState, left_of}
 use Rattle.cdcl_order.specs.Watch.{Sight, with_seen}
 use Rattle.lrat_machine.specs.declared.verdicts.Verdict.TheVariants.{Yes}
 use Rattle.lrat_cuts.specs.Cuts.{CutsState}
-use Rattle.lrat_cuts.specs.Verdict.{judged_text}
+use Rattle.lrat_cuts.specs.Verdict.{ended_part, judged_text}
 use Rattle.lrat_result.specs.Result.{Said, FallsTo, Says, OptimumFound, Unsatisfiable}
 use Rattle.lrat_result.specs.Result.{Satisfiable, Unknown}
 use Rattle.lrat_check.specs.Cuts.{verdict_by_cuts}
@@ -119,9 +119,13 @@ abbrev pub EndsByCuts : Option (List ℕ) → Option (List ℕ) → Option (List
 EndsByCuts text out out' proof proof' status old new =
     EndsBehind [] NUMBER_LIMIT text out out' proof proof' status old new
 
--- a beginning of some text
-abbrev pub GrowsByPart : Option (List ℕ) → Option (List ℕ) → Type 0
-GrowsByPart old new = (text : List ℕ) × AppendsPart old new text
+-- the certificate has grown; of its new lines those that a line feed ends are right behind these
+-- lines, whatever their cuts hold for, if these are
+pub record GrowsRightly (front : List ℕ) (text proof proof' : Option (List ℕ)) : Type 0 where
+  pub proved : List ℕ
+  pub proof_grows : Appends proof proof' proved
+  pub right : IfSome text (λ bytes. (p : Problem) → Reads bytes p
+      → IsOk (judged_text None p front) → IsOk (judged_text None p (front ++ ended_part proved)))
 
 -- whole o lines
 pub record LeavesCosts (text out out' : Option (List ℕ)) : Type 0 where
@@ -143,7 +147,7 @@ pub record LeavesResultBehind (front : List ℕ) (text out out' proof proof' : O
     (budget : BudgetState) : Type 0 where
   pub written : List ℕ
   pub out_grows : Appends out out' written
-  pub proof_part : GrowsByPart proof proof'
+  pub proof_part : GrowsRightly front text proof proof'
   pub before : List ℕ
   pub said : Said
   pub falls : FallsTo before said
@@ -161,11 +165,11 @@ abbrev pub LeavesBehind : List ℕ → RunFault → Option (List ℕ) → Option
 LeavesBehind front (Read fault) text out out' proof proof' budget =
     LeavesNothing text out out' proof proof' fault
 LeavesBehind front Memory text out out' proof proof' budget =
-    LeavesCosts text out out' × GrowsByPart proof proof'
+    LeavesCosts text out out' × GrowsRightly front text proof proof'
 LeavesBehind front Output text out out' proof proof' budget =
     LeavesResultBehind front text out out' proof proof' budget
 LeavesBehind front ProofOutput text out out' proof proof' budget =
-    LeavesCosts text out out' × GrowsByPart proof proof'
+    LeavesCosts text out out' × GrowsRightly front text proof proof'
 
 abbrev pub LeavesByCuts : RunFault → Option (List ℕ) → Option (List ℕ) → Option (List ℕ)
     → Option (List ℕ) → Option (List ℕ) → BudgetState → Type 0

@@ -1,26 +1,29 @@
 -- A certificate that an earlier run has left.
-use Rattle.std.specs.Prelude.{◌≡◌, ℕ, ◌≤◌, true, List, Option, None, IfSome, Ok, Err}
+use Rattle.std.specs.Prelude.{◌≡◌, ℕ, ◌+◌, ◌*◌, ◌^◌, ◌<◌, ◌≤◌, min, Bool, true, List}
+use Rattle.std.specs.Prelude.{Option, None, IfSome, Ok, Err}
 use Rattle.cnf.specs.Problem.{Problem}
-use Rattle.text.specs.Pieces.{IsEnded}
-use Rattle.lrat_cuts.specs.Cuts.{CutsState}
 use Rattle.lrat_cuts.specs.Verdict.{ended_part, judged_text}
 use Rattle.lrat_check.specs.Checks.{CostsAtLeast}
+use Rattle.cuts_log.specs.Judging.{IsEarlier}
 use Rattle.cuts_log.specs.Starts.{IsReached}
 use Rattle.cuts_solver.specs.Solving.{IsRightText}
+use Rattle.improve.specs.Improving.{IsSolution}
 use Rattle.improve.specs.declared.solutions.Solution.{Solution}
 use Rattle.improve_cuts.specs.ByCuts.{BeginsWith}
 use Rattle.report.specs.declared.earlier.Judged.{Judged}
 use Rattle.report.specs.declared.earlier.Judged.TheVariants.{Right, Wrong}
 
--- this text was judged so line by line, whatever its cuts hold for; it is empty, or a line feed
--- ends it
-pub record IsEarlier (p : Problem) (s : CutsState) (text : List ℕ) : Type 0 where
-  pub judged : judged_text None p text ≡ Ok s
-  pub ended : IsEnded text
-
--- such a text is right for each cost up to the limit, and ends in the empty clause
+-- a text is right for each cost up to the limit, and ends in the empty clause
 abbrev pub IsRightUpTo : Problem → (limit : ℕ) → List ℕ → Type 0
 IsRightUpTo p limit text = (cost : ℕ) → cost ≤ limit → IsRightText p cost true text
+
+-- the bits are no solution that costs at most this
+abbrev pub IsDearer : Problem → (limit : ℕ) → List Bool → Type 0
+IsDearer p limit bits = (cost : ℕ) → IsSolution p bits cost → limit < cost
+
+-- how many variables there are to count with, for so many soft clauses
+abbrev pub room_for : ℕ → ℕ
+room_for softs = min (min (8 * softs + 2000) (2 * softs + 10000)) (2 ^ 20)
 
 -- nothing costs less than the limit, where a search may begin with this
 pub record EndsAt (p : Problem) (limit : ℕ) (first : Option Solution) : Type 0 where

@@ -86,7 +86,7 @@ pub(crate) fn deliver_end<O: Write>(
 ///
 /// # Errors
 ///
-/// `WriteFault` where the writer failed. It has then a beginning of them.
+/// `WriteFault` where the writer failed. It then has a prefix of them.
 pub fn write_end<O: Write>(words: &[u8], bits: &[bool], out: &mut O) -> Result<(), WriteFault>
     ensures { Writes result (O.contents out.old) (words_text words.now bits.now)
         (O.contents out.new) }

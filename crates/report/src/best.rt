@@ -41,7 +41,7 @@ impl RunWatch for Unwatched {
 ///
 /// # Errors
 ///
-/// `WriteFault` where the writer failed. It has then a beginning of the text.
+/// `WriteFault` where the writer failed. It then has a prefix of the text.
 pub fn write_unknown<W: Write>(writer: &mut W) -> Result<(), WriteFault>
     ensures { Writes result (W.contents writer.old) (best_text Unknown) (W.contents writer.new) }
 {
@@ -52,7 +52,7 @@ pub fn write_unknown<W: Write>(writer: &mut W) -> Result<(), WriteFault>
 ///
 /// # Errors
 ///
-/// `WriteFault` where the writer failed. It has then a beginning of the text.
+/// `WriteFault` where the writer failed. It then has a prefix of the text.
 pub fn write_best<W: Write>(
     instance: &Instance,
     cost: u64,
@@ -72,7 +72,7 @@ pub fn write_best<W: Write>(
 ///
 /// # Errors
 ///
-/// `WriteFault` where the writer failed. It has then a beginning of the text.
+/// `WriteFault` where the writer failed. It then has a prefix of the text.
 pub fn write_found<W: Write>(
     instance: &Instance,
     finding: &Finding<'_>,

@@ -1,15 +1,17 @@
 //! The run by forms and cuts: a text in, a result out, and a certificate that is written while the
 //! search goes on.
-ghost use Rattle.std.specs.Prelude.{◌≡◌, ℕ, List, Option, Err, true};
+ghost use Rattle.std.specs.Prelude.{◌≡◌, ◌<◌, ℕ, List, Option, Err, true};
 ghost use Rattle.std.specs.Prelude.{IfOk, IfErr, IfSome, IsSome};
 ghost use Rattle.cdcl_order.specs.Budgets.{WaivesAs};
-ghost use Rattle.cuts_log.specs.Judging.{IsBefore};
+ghost use Rattle.cuts_log.specs.Judging.{IsEarlier};
+ghost use Rattle.cuts_log.specs.Logs.{problem_of, start_of};
 ghost use Rattle.cuts_log.specs.Starts.{IsReached};
 ghost use Rattle.cuts_solver.specs.Solving.{IsRightText};
 ghost use Rattle.improve_cuts.specs.ByCuts.{BeginsOn};
 ghost use Rattle.report.specs.ByCuts.{EndsBehind, EndsByCuts, IsSeenByCuts, LeavesBehind};
 ghost use Rattle.report.specs.ByCuts.{LeavesByCuts};
-ghost use Rattle.report.specs.Earlier.{EndsAt, IsEarlier, IsRightUpTo};
+ghost use Rattle.cnf.specs.declared.limits.TheConstants.{NUMBER_LIMIT};
+ghost use Rattle.report.specs.Earlier.{EndsAt, IsDearer, IsRightUpTo};
 ghost use Rattle.report.specs.Running.{ReadsOnlyAs};
 
 mod beginning;
@@ -193,6 +195,10 @@ impl<'s, 'b, 'o, 'w, O: Write, K: RunWatch> Run<'s, 'b, 'o, 'w, O, K> {
             × (K.seen self.new.watch.now ≡ K.seen self.old.watch.now)) }
         ensures lacking { IfErr result (λ e. (cost : ℕ) → e ≡ CannotResume.Lacking cost
             → cost ≡ earlier.machine.state.worth) }
+        ensures limited { IfErr result (λ e. (cost : ℕ) → e ≡ CannotResume.Lacking cost
+            → cost < NUMBER_LIMIT) }
+        ensures dear { IfErr result (λ e. (cost : ℕ) → e ≡ CannotResume.Lacking cost
+            → IfSome self.old.start.now (λ bits. IsDearer instance.now cost bits.items)) }
     {
         instance.limits();
         let start = first_solution(instance, self.start.take());
@@ -209,7 +215,7 @@ impl<'s, 'b, 'o, 'w, O: Write, K: RunWatch> Run<'s, 'b, 'o, 'w, O, K> {
             instance,
             start,
             proved: earlier.proved(),
-            learned: earlier.machine.lines() / 2,
+            learned: earlier.learned(),
         };
         let search = CutsSearch { alloc, task };
         if earlier.has_ended() {
@@ -267,6 +273,8 @@ impl<'s, 'b, 'o, 'w, O: Write, K: RunWatch> Run<'s, 'b, 'o, 'w, O, K> {
             × (O.contents self.new.out.now ≡ O.contents self.old.out.now)
             × (K.seen self.new.watch.now ≡ K.seen self.old.watch.now)) }
         ensures lacking { IfErr result (λ e. e ≡ CannotResume.Lacking 0) }
+        ensures dear { IfErr result (λ _. IfSome self.old.start.now
+            (λ bits. IsDearer instance.now 0 bits.items)) }
     {
         instance.limits();
         let start = begin_free(first_solution(instance, self.start.take()))?;
@@ -290,14 +298,16 @@ impl<'s, 'b, 'o, 'w, O: Write, K: RunWatch> Run<'s, 'b, 'o, 'w, O, K> {
             × (self.new.out.ghost_name ≡ self.old.out.ghost_name)
             × (self.new.watch.ghost_name ≡ self.old.watch.ghost_name) }
         ensures ok { (text : Option (List ℕ)) → ReadsOnlyAs text search.entry.task.instance.now
-            → (front : List ℕ) → IsBefore solver.log front
+            → (front : List ℕ)
+            → IsEarlier (problem_of solver.log) (start_of solver.log) front
             → IfOk result.ended (λ status. IfSome result.proof (λ writer.
             EndsBehind front solver.log.cost text
             (O.contents self.old.out.now) (O.contents self.new.out.now)
             ((solver.log.book).seen).origin (P.contents writer) status
             self.old.budget.now self.new.budget.now)) }
         ensures fault { (text : Option (List ℕ)) → ReadsOnlyAs text search.entry.task.instance.now
-            → (front : List ℕ) → IsBefore solver.log front
+            → (front : List ℕ)
+            → IsEarlier (problem_of solver.log) (start_of solver.log) front
             → IfErr result.ended (λ fault. IfSome result.proof (λ writer.
             LeavesBehind front fault text (O.contents self.old.out.now)
             (O.contents self.new.out.now) ((solver.log.book).seen).origin (P.contents writer)

@@ -1,10 +1,11 @@
 //! A certificate of forms and cuts that an earlier run has left, for a run that goes on with it.
-ghost use Rattle.std.specs.Prelude.{◌≡◌, ◌≤◌, true, IfOk, IfSome};
+ghost use Rattle.std.specs.Prelude.{◌≡◌, ◌≤◌, true, false, IfOk, IfSome};
 ghost use Rattle.cnf.specs.declared.limits.TheConstants.{NUMBER_LIMIT};
 ghost use Rattle.cuts_solver.specs.Solving.{IsRightText};
 ghost use Rattle.report.specs.Earlier.{IsJudgedAs};
 
 use cnf::types::Instance;
+use cuts_solver::solver::conflicts_before;
 use lrat_check::verdicts::{Cause, CheckFault, Verdict};
 use lrat_cuts::machine::CutsMachine;
 use lrat_cuts::pieces::CutsChecker;
@@ -76,6 +77,11 @@ impl Earlier {
         self.machine.proved()
     }
 
+    /// About how many conflicts the run had that has left it.
+    pub(crate) fn learned(&self) -> u64 {
+        conflicts_before(&self.machine)
+    }
+
     /// Whether it ends with the empty clause: nothing costs less than what its cuts hold for.
     pub fn has_ended(&self) -> bool
         ensures { result ≡ self.now.machine.state.ended }
@@ -91,8 +97,10 @@ impl Earlier {
 ///
 /// Those of `Earlier::read`.
 pub fn is_right_for_zero<R: Read>(instance: &Instance, proof: &mut R) -> Result<bool, CheckFault>
-    ensures { IfOk result (λ right. right ≡ true
+    ensures right { IfOk result (λ right. right ≡ true
         → IfSome (R.remaining proof.old) (IsRightText instance.now 0 true)) }
+    ensures wrong { IfOk result (λ right. right ≡ false
+        → IfSome (R.remaining proof.old) (λ text. IsRightText instance.now 0 true text → ⊥)) }
 {
     let mut checker = CutsChecker::new(instance, Some(0))?;
     match judge(&mut checker, proof) {
@@ -107,7 +115,8 @@ pub fn is_right_for_zero<R: Read>(instance: &Instance, proof: &mut R) -> Result<
 
 /// Whether the verdict is yes.
 fn is_yes(verdict: Verdict) -> bool
-    ensures { result ≡ true → verdict ≡ Verdict.Yes }
+    ensures yes { result ≡ true → verdict ≡ Verdict.Yes }
+    ensures no { result ≡ false → verdict ≡ Verdict.Yes → ⊥ }
 {
     match verdict {
         Verdict::Yes => true,

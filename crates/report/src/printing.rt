@@ -18,7 +18,7 @@ use wcnf::faults::{FaultKind, ReadFault};
 ///
 /// # Errors
 ///
-/// `WriteFault` where the writer failed. It has then a beginning of the line.
+/// `WriteFault` where the writer failed. It then has a prefix of the line.
 pub fn print_verdict<W: Write>(verdict: &Verdict, writer: &mut W) -> Result<(), WriteFault>
     ensures { Writes result (W.contents writer.old) (verdict_text verdict.now)
         (W.contents writer.new) }
@@ -34,7 +34,7 @@ pub fn print_verdict<W: Write>(verdict: &Verdict, writer: &mut W) -> Result<(), 
 ///
 /// # Errors
 ///
-/// `WriteFault` where the writer failed. It has then a beginning of the line.
+/// `WriteFault` where the writer failed. It then has a prefix of the line.
 pub fn print_lower<W: Write>(verdict: &LowerVerdict, writer: &mut W) -> Result<(), WriteFault>
     ensures { Writes result (W.contents writer.old) (lower_text verdict.now)
         (W.contents writer.new) }
@@ -50,7 +50,7 @@ pub fn print_lower<W: Write>(verdict: &LowerVerdict, writer: &mut W) -> Result<(
 ///
 /// # Errors
 ///
-/// `WriteFault` where the writer failed. It has then a beginning of the line.
+/// `WriteFault` where the writer failed. It then has a prefix of the line.
 pub fn print_gap<W: Write>(cost: u64, lower: u64, writer: &mut W) -> Result<(), WriteFault>
     ensures { Writes result (W.contents writer.old) (gap_text cost lower) (W.contents writer.new) }
 {

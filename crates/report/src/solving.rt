@@ -1,6 +1,6 @@
 //! What a run is made of, and its course: it reads, searches and writes.
-ghost use Rattle.std.specs.Prelude.{◌≡◌, ◌<◌, ℕ, List, Option, IfOk, IfErr, IsTrue};
-ghost use Rattle.improve.specs.Improving.{Improves};
+ghost use Rattle.std.specs.Prelude.{◌≡◌, ◌<◌, ℕ, false, List, Option, IfOk, IfErr, IsTrue};
+ghost use Rattle.improve.specs.Improving.{Improves, IsSolution};
 ghost use Rattle.improve.specs.Progress.{CanFail};
 ghost use Rattle.improve.specs.Standing.{AreFeasible};
 ghost use Rattle.improve.specs.Watch.{AreShown};
@@ -195,7 +195,8 @@ fn search<T: Progress, K: RunWatch>(
 
 /// Whether there is a bit for each variable, and all hard clauses hold.
 pub(crate) fn is_solution(instance: &Instance, bits: &[bool]) -> bool
-    ensures { IsTrue result → AreFeasible instance.now bits.now }
+    ensures yes { IsTrue result → AreFeasible instance.now bits.now }
+    ensures no { result ≡ false → (cost : ℕ) → IsSolution instance.now bits.now cost → ⊥ }
 {
     bits.len() == instance.vars() as usize && instance.feasible(bits)
 }

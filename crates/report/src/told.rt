@@ -121,7 +121,7 @@ impl<'a, W: Write> Progress for Told<'a, W> {
 ///
 /// # Errors
 ///
-/// `WriteFault` where the writer failed, or its flush. It has then a beginning of the line.
+/// `WriteFault` where the writer failed, or its flush. It then has a prefix of the line.
 pub fn write_cost<W: Write>(writer: &mut W, cost: u64) -> Result<(), WriteFault>
     ensures { Writes result (W.contents writer.old) (spaced (cost_tokens cost))
         (W.contents writer.new) }

@@ -1,10 +1,11 @@
 // What a run by forms and cuts begins with: its first solution, and variables to count with.
-ghost use Rattle.std.specs.Prelude.{◌≡◌, ◌<◌, ◌≤◌, ℕ, IfOk, IfErr, IfSome};
+ghost use Rattle.std.specs.Prelude.{◌≡◌, ◌<◌, ◌≤◌, ◌⊎◌, ℕ, Err, IfOk, IfErr, IfSome};
+ghost use Rattle.std.specs.Prelude.{length, IfNone, IsNone, IsSomeAnd};
 ghost use Rattle.cnf.specs.Problem.{Problem};
 ghost use Rattle.cnf.specs.declared.limits.TheConstants.{NUMBER_LIMIT};
 ghost use Rattle.improve.specs.Improving.{IsSolution};
 ghost use Rattle.improve_cuts.specs.ByCuts.{BeginsWith};
-ghost use Rattle.report.specs.Earlier.{EndsAt};
+ghost use Rattle.report.specs.Earlier.{EndsAt, room_for};
 
 use crate::earlier::CannotResume;
 use crate::solving::is_solution;
@@ -23,7 +24,9 @@ const ROOM_EACH_MANY: usize = 2;
 
 /// How many variables there are to count with. Each solution decides all of them, so that there are
 /// few where there is little to count.
-pub(super) fn count_room(instance: &Instance) -> u32 {
+pub(super) fn count_room(instance: &Instance) -> u32
+    ensures { result ≡ room_for (length instance.now.soft) }
+{
     let softs = instance.soft().len();
     let few = softs.saturating_mul(ROOM_EACH_FEW).saturating_add(2000);
     let many = softs.saturating_mul(ROOM_EACH_MANY).saturating_add(10_000);
@@ -32,7 +35,10 @@ pub(super) fn count_room(instance: &Instance) -> u32 {
 
 /// The solution that these bits are, if they are one.
 pub(super) fn first_solution(instance: &Instance, start: Option<Vec<bool>>) -> Option<Solution>
-    ensures { IfSome result (λ b. IsSolution instance.now b.bits.items b.cost) }
+    ensures solution { IfSome result (λ b. IsSolution instance.now b.bits.items b.cost) }
+    ensures cost { IfSome start (λ bits. (cost : ℕ) → IsSolution instance.now bits.items cost
+        → IsSomeAnd result (λ b. b.cost ≡ cost)) }
+    ensures none { IfNone start (IsNone result) }
 {
     match start {
         Some(bits) => {
@@ -62,6 +68,9 @@ pub(super) fn begin_below(
         → IfOk result (λ first. BeginsWith p worth first) }
     ensures lacking { IfErr result
         (λ e. (cost : ℕ) → e ≡ CannotResume.Lacking cost → cost ≡ worth) }
+    ensures refused { IfErr result (λ e. (worth ≡ 0) ⊎ ((worth < NUMBER_LIMIT)
+        × (e ≡ CannotResume.Lacking worth) × IfSome start (λ b. worth < b.cost))) }
+    ensures worthless { worth ≡ 0 → result ≡ Err CannotResume.Unfit }
 {
     if worth == 0 {
         return Err(CannotResume::Unfit);
@@ -87,6 +96,7 @@ pub(super) fn begin_free(start: Option<Solution>) -> Result<Option<Solution>, Ca
         → IfSome start (λ b. IsSolution p b.bits.items b.cost)
         → IfOk result (λ first. EndsAt p 0 first) }
     ensures lacking { IfErr result (λ e. e ≡ CannotResume.Lacking 0) }
+    ensures dear { IfErr result (λ _. IfSome start (λ b. 0 < b.cost)) }
 {
     match start {
         Some(solution) => {

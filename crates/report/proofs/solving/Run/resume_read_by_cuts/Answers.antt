@@ -1,13 +1,16 @@
 -- The run is one behind the lines that were judged, or has ended with them.
-use Rattle.std.proofs.Common.{◌≡◌, ◌<◌, ◌≤◌, ◌∙◌, false, sym, subst}
-use Rattle.std.specs.Prelude.{IfSome}
+use Rattle.std.proofs.Common.{◌≡◌, ℕ, ◌<◌, ◌≤◌, ◌∙◌, Err, false, inl, inr, sym, subst}
+use Rattle.std.specs.Prelude.{IfSome, Result}
 use Rattle.cnf.specs.declared.limits.TheConstants.{NUMBER_LIMIT}
 use Rattle.cuts_log.specs.Logs.{start_of}
 use Rattle.cuts_solver.specs.Solving.{instance_of}
 use Rattle.improve_cuts.specs.ByCuts.{BeginsWith}
-use Rattle.report.specs.Earlier.{EndsAt}
+use Rattle.report.specs.declared.earlier.CannotResume.{CannotResume}
+use Rattle.report.specs.declared.earlier.CannotResume.TheVariants.{Lacking, Unfit}
+use Rattle.report.specs.Earlier.{EndsAt, IsDearer}
 use Rattle.report.proofs.CutsTexts.{earlier_before, ends_as, least_where_ended, leaves_as}
 use Rattle.report.proofs.CutsTexts.{right_where_ended}
+use Rattle.report.proofs.Dearer.{start_dearer}
 use Rattle.report.proofs.solving.Run.resume_read_by_cuts.Goals as goal
 
 pub run_at_once-requires : goal.run_at_once-requires
@@ -18,7 +21,7 @@ run_at_once-requires g c =
     let b = c.in-Ok.ensures in
     let some = subst (λ z. 0 < z) w.worth b.some in
     let begins = subst (λ z. BeginsWith p z c.in-Ok.start) w.worth
-    (b.begins p c.first_solution-start.ensures) in
+    (b.begins p c.first_solution-start.ensures.solution) in
     let most = subst (λ z. z ≤ NUMBER_LIMIT) w.worth w.most in
     let ended = sym c.has_ended.ensures ∙ c.if-has_ended.true in
     let at : EndsAt p s.worth c.in-Ok.start = record {
@@ -35,7 +38,7 @@ returns-then-has_ended-clause-ok g c text r front e =
     let b = c.in-Ok.ensures in
     let some = subst (λ z. 0 < z) w.worth b.some in
     let begins = subst (λ z. BeginsWith p z c.in-Ok.start) w.worth
-    (b.begins p c.first_solution-start.ensures) in
+    (b.begins p c.first_solution-start.ensures.solution) in
     let most = subst (λ z. z ≤ NUMBER_LIMIT) w.worth w.most in
     let ended = sym c.has_ended.ensures ∙ c.if-has_ended.true in
     let at : EndsAt p s.worth c.in-Ok.start = record {
@@ -52,7 +55,7 @@ returns-then-has_ended-clause-fault g c text r front e =
     let b = c.in-Ok.ensures in
     let some = subst (λ z. 0 < z) w.worth b.some in
     let begins = subst (λ z. BeginsWith p z c.in-Ok.start) w.worth
-    (b.begins p c.first_solution-start.ensures) in
+    (b.begins p c.first_solution-start.ensures.solution) in
     let most = subst (λ z. z ≤ NUMBER_LIMIT) w.worth w.most in
     let ended = sym c.has_ended.ensures ∙ c.if-has_ended.true in
     let at : EndsAt p s.worth c.in-Ok.start = record {
@@ -69,7 +72,7 @@ returns-then-has_ended-clause-seen g c text r =
     let b = c.in-Ok.ensures in
     let some = subst (λ z. 0 < z) w.worth b.some in
     let begins = subst (λ z. BeginsWith p z c.in-Ok.start) w.worth
-    (b.begins p c.first_solution-start.ensures) in
+    (b.begins p c.first_solution-start.ensures.solution) in
     let most = subst (λ z. z ≤ NUMBER_LIMIT) w.worth w.most in
     let ended = sym c.has_ended.ensures ∙ c.if-has_ended.true in
     let at : EndsAt p s.worth c.in-Ok.start = record {
@@ -92,7 +95,7 @@ run_by_cuts-requires g c =
     record {
       instance = problem;
       first_is = subst (λ z. BeginsWith p z c.in-Ok.start) (c.worth.ensures.worth ∙ sym cost)
-          (b.begins p c.first_solution-start.ensures);
+          (b.begins p c.first_solution-start.ensures.solution);
       open_end = works.0;
       works = works.1;
     }
@@ -132,3 +135,23 @@ returns-in-Ok-Some-clause-fault g c text r front b =
     e.new.self.budget.now _ _ origin
     (e.ensures.fault text r front (earlier_before c.in-Ok-Some.solver.log p
     c.args.earlier.machine.state front problem start b))
+
+-- where no cut holds for any cost, no solution is asked for
+never : {T : Type 0} (r : Result T CannotResume) (a : CannotResume) (cost : ℕ) → r ≡ Err a
+    → r ≡ Err Unfit → a ≡ Lacking cost → ⊥
+never r a cost made unfit lacking = absurd (cc)
+
+pub returns-in-Err-clause-dear : goal.returns-in-Err-clause-dear
+returns-in-Err-clause-dear g c = λ cost is.
+    let p = c.args.instance.now in
+    let first = c.first_solution-start.result in
+    let at : cost ≡ c.worth.result = c.in-Err.ensures.lacking cost is in
+    let dear : IfSome first (λ b. cost < b.cost) =
+    elim (c.in-Err.ensures.refused) [
+      | inl zero ↦ absurd (never c.begin_below.result c.in-Err.refusal cost c.in-Err.is
+          (c.begin_below.ensures.worthless zero) is)
+      | inr h ↦ subst (λ w. IfSome first (λ b. w < b.cost)) (sym at) h.2
+    ] in
+    subst (λ o. IfSome o (λ bits. IsDearer p cost bits.items)) c.take.ensures.value
+    (start_dearer p cost c.take.result first (λ v. v.items) c.first_solution-start.ensures.cost
+    dear)

@@ -31,7 +31,7 @@ returns-in-Ok-clause-ok g c limit at text r front up =
     (certified c.args.proof) c.args.self.now.budget.now s.new.budget (held c.args.self.now.out.now)
     (held s.new.out) f.found (f.ensures.searches limit at) true (certified c.args.proof)
     (λ z. nothing_behind p limit (held_by limit f.found.best) front (certified c.args.proof) up
-    (f.ensures.below limit at)) (nothing_grown (certified c.args.proof))
+    (f.ensures.below limit at)) (nothing_grown front text (certified c.args.proof))
     certified e.result.proof (held e.new.out) _ c.of_cuts-finding.ensures e.result.ended
     e.ensures.status e.ensures.ok
 
@@ -47,7 +47,7 @@ returns-in-Ok-clause-fault g c limit at text r front up =
     (certified c.args.proof) c.args.self.now.budget.now s.new.budget (held c.args.self.now.out.now)
     (held s.new.out) f.found (f.ensures.searches limit at) true (certified c.args.proof)
     (λ z. nothing_behind p limit (held_by limit f.found.best) front (certified c.args.proof) up
-    (f.ensures.below limit at)) (nothing_grown (certified c.args.proof))
+    (f.ensures.below limit at)) (nothing_grown front text (certified c.args.proof))
     certified e.result.proof (held e.new.out) _ c.of_cuts-finding.ensures e.result.ended
     e.ensures.fault
 
@@ -81,7 +81,7 @@ returns-in-Err-clause-fault g c limit at text r front up =
     search_leaves text p c.limits.ensures r.0 r.1 front limit true limit
     (certified c.args.proof) c.args.self.now.budget.now s.new.budget (held c.args.self.now.out.now)
     (held s.new.out) (certified c.args.proof) f.fault (f.ensures.searches limit at)
-    (nothing_grown (certified c.args.proof))
+    (nothing_grown front text (certified c.args.proof))
 
 pub returns-in-Ok-clause-same_limit : goal.returns-in-Ok-clause-same_limit
 returns-in-Ok-clause-same_limit g c =

@@ -32,7 +32,8 @@ returns-in-Ok-clause-ok g c text r front b =
     (held s.new.out) f.found f.ensures.searches w.result.is_whole (certified w.result.writer)
     (λ z. whole_text p c.args.solver s.new.solver f.ensures.origin c.requires.instance front b _
     (w.ensures.whole z))
-    (begun_text p c.args.solver s.new.solver f.ensures.origin _ w.ensures.part)
+    (begun_text p c.args.solver s.new.solver f.ensures.origin c.requires.instance front b text r.1 _
+    w.ensures.part)
     certified e.result.proof (held e.new.out) _ c.of_cuts-finding.ensures e.result.ended
     e.ensures.status e.ensures.ok
 
@@ -50,7 +51,8 @@ returns-in-Ok-clause-fault g c text r front b =
     (held s.new.out) f.found f.ensures.searches w.result.is_whole (certified w.result.writer)
     (λ z. whole_text p c.args.solver s.new.solver f.ensures.origin c.requires.instance front b _
     (w.ensures.whole z))
-    (begun_text p c.args.solver s.new.solver f.ensures.origin _ w.ensures.part)
+    (begun_text p c.args.solver s.new.solver f.ensures.origin c.requires.instance front b text r.1 _
+    w.ensures.part)
     certified e.result.proof (held e.new.out) _ c.of_cuts-finding.ensures e.result.ended
     e.ensures.fault
 
@@ -85,4 +87,5 @@ returns-in-Err-clause-fault g c text r front b =
     s.new.solver.refuted s.new.solver.log.cost _ c.args.self.now.budget.now s.new.budget
     (held c.args.self.now.out.now) (held s.new.out) (certified c.finish-writer.result.writer)
     f.fault f.ensures.searches
-    (begun_text p c.args.solver s.new.solver f.ensures.origin _ c.finish-writer.ensures.part)
+    (begun_text p c.args.solver s.new.solver f.ensures.origin c.requires.instance front b text r.1 _
+    c.finish-writer.ensures.part)
