@@ -70,7 +70,7 @@ pub fn make_command<'a>(alloc: Global) -> Result<Command<'a>, Error> {
     let mut commands = Vec::new(alloc);
     add_subcommands(alloc, &mut commands)?;
     let all = Command::new(alloc, "wmax")
-        .about("Certified weighted partial MaxSAT")
+        .about("Solves weighted partial MaxSAT, and certifies each optimum")
         .version(VERSION)
         .after_help(NOTES)
         .subcommand_required(true)

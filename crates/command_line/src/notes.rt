@@ -10,40 +10,43 @@ line 'v' comes last, with a bit, 0 or 1, for each variable.
 Statuses:
   30  s OPTIMUM FOUND    the bits cost the last COST, and nothing is cheaper
   20  s UNSATISFIABLE    no assignment satisfies the hard clauses
-  10  s SATISFIABLE      the effort or the time ran out; the bits cost COST
-   0  s UNKNOWN          it ran out before any solution was found
-   1  NO and the fault   the RESULT of --from is wrong, or PATH with --resume
+  10  s SATISFIABLE      effort or time ran out; the bits cost the last COST
+   0  s UNKNOWN          effort or time ran out before any solution was found
+   1  NO and the fault   --from names a wrong result, or --resume goes on with a
+                         wrong certificate
    2  FILE or the command line is faulty
    3  a file cannot be opened, read or written, or memory ran out
- 141  nobody reads standard output any more, as behind '| head -n 1'
+ 141  nobody reads standard output any more, as with '| head -n 1'
 
 If FILE has no clauses at all, the optimum costs 0, and 'warning: no clause was
-read' is written to standard error.
+read' is printed on standard error.
 
---conflicts N limits the effort: each learned clause and each reported solution
-costs one unit, and in profile 3 also each cut, and a round of the search at
-least one. A million units take a minute or more. What is learned stays in
-memory for the certificate, even without --proof: 4 bytes for each literal and
-each hint of a line, which is 0.4 to 2 KB for each conflict. In profile 3 the
-certificate is written at once, and is not in memory. The same N gives the same
-answer on every machine, whatever its speed.
+--conflicts N limits the effort. Each learned clause and each reported solution
+costs one unit. In profile 3 each cut costs one too, and each round of the
+search at least one. A million units take a minute or more. The same N gives the
+same answer on every machine, whatever its speed.
+
+In profiles 1 and 2 what is learned stays in memory for the certificate, even
+without --proof: 4 bytes for each literal and each hint of a line, which is 0.4
+to 2 KB for each conflict. In profile 3 it does not: the certificate is written
+during the search.
 
 The certificate proves OPTIMUM FOUND or UNSATISFIABLE to anyone who checks it.
-It is written before the 's' line. The other statuses have none. Without
---proof it is dropped. In profile 3 it is written during the search: if that
-ends before, the certificate still proves a lower bound (wmax lower), and
-another run can go on with it (--resume).
+It is complete before the 's' line is printed. Other statuses are not proved. In
+profile 3 a certificate whose search has ended early still proves a lower bound
+(wmax lower), and another run can go on with it (--resume).
 
---profile 3 finds the most optima. check needs the profile that the certificate
-was made in. The environment variable WMAX_PROFILE is the profile of solve,
-check and encode if --profile is not given:
+The environment variable WMAX_PROFILE is the profile of solve, check and encode
+if --profile is not given:
 
   export WMAX_PROFILE=3
 
 With --best PATH a run can be stopped at any moment. The same command then goes
-on from the solution in PATH, which it never makes worse. With --resume it also
-goes on from what the certificate proves. --progress shows how far the run is.
-In a script that stops at errors, write
+on from the solution in PATH, and only a better one replaces it. With --resume
+it also goes on from what the certificate proves. --progress shows how far the
+run is.
+
+An optimum gives status 30. So in a script that stops at errors, write
 
   wmax solve a.wcnf > a.result || [ $? = 30 ]
 
@@ -68,8 +71,8 @@ docs/FAULTS.md and the manual page list the others.";
 pub(crate) const CHECK_NOTES: &str = "\
 Prints YES, or NO with the first fault and its line. For OPTIMUM FOUND, PROOF
 has to refute the formula for 'cheaper than the last o line' or, in profile 3,
-to derive by forms and cuts that nothing is cheaper. For UNSATISFIABLE it has to
-refute the hard clauses. SATISFIABLE and UNKNOWN claim nothing that a
+to derive by forms and cuts that nothing is cheaper. For UNSATISFIABLE, PROOF
+has to refute the hard clauses. SATISFIABLE and UNKNOWN claim nothing that a
 certificate could show, so the answer is NO.
 
 Statuses:
@@ -79,8 +82,8 @@ Statuses:
    3  a file cannot be read, the verdict cannot be written, or memory ran out
 
 Give the profile that the certificate was made in, by --profile or WMAX_PROFILE.
-In any other profile it is usually refused, for example with NO DeadId 1, NO
-IdOrder 1 or NO LineForm 1. --profile any tries them all.
+With another profile the answer is usually NO DeadId 1, NO IdOrder 1, NO
+LineForm 1 or the like. --profile any tries all three.
 
 Example:
   wmax check --profile 3 a.wcnf a.result a.lrat
@@ -102,13 +105,14 @@ docs/FAULTS.md and the manual page list the others.";
 
 /// Behind that of `wmax lower`.
 pub(crate) const LOWER_NOTES: &str = "\
-PROOF is read as a certificate of profile 3, or the beginning of one. Prints 'at
-least L' if it is correct: no solution of FILE costs less than L, the greatest
-bound that its lines prove, or 0 if they prove none. So the certificate of an
-optimum gives that optimum. Prints 'no solution' if it proves that there is
-none, like the certificate of an UNSATISFIABLE result. Else NO, the first fault
-and its line are printed. A certificate of profile 1 or 2 is usually refused so:
-what it proves depends on its RESULT.
+PROOF is read as a certificate of profile 3, or the beginning of one. If it is
+correct, prints 'at least L': no solution of FILE costs less than L. L is the
+greatest bound that the lines of PROOF prove, or 0 if they prove none. So the
+certificate of an optimum gives the cost of that optimum. Prints 'no solution'
+if PROOF proves that there is none, as the certificate of an UNSATISFIABLE
+result does. If PROOF is not correct, prints NO, the first fault and its line.
+Certificates of profiles 1 and 2 usually get a NO: what they prove depends on
+their RESULT.
 
 Statuses:
    0  at least L, or no solution
@@ -116,7 +120,7 @@ Statuses:
    2  the command line is faulty
    3  a file cannot be read, the answer cannot be written, or memory ran out
 
-Example:
+Examples:
   wmax solve --profile 3 --proof a.lrat --best a.best a.wcnf
   wmax lower a.wcnf a.lrat
 
@@ -133,29 +137,35 @@ pub(crate) const EXPLAIN_NOTES: &str = "\
 With RESULT: prints its cost, each soft clause that its bits give up, each hard
 clause that they break, and the names of the true variables. The soft clauses
 come heaviest first, each with its line, its comment and the sum so far. The
-comment of a clause is the last one between the clause before it and this one.
+comment of a clause is the last one between it and the clause before it.
+
 If RESULT says UNSATISFIABLE: prints hard clauses that contradict each other.
-They are made few by leaving out each in turn, within an effort that is the same
-on every machine. If that is not enough to find any, it says so.
+It leaves out those that the contradiction does not need, within a limit of
+effort that is the same on every machine. If the limit is too low to find any
+contradiction, it says so.
+
 Without RESULT: prints how many variables, hard clauses and soft clauses FILE
 has, and the sum of the weights. If FILE is faulty: prints the faulty line and
-word, and how to correct it. With PROOF, if RESULT is correct: also prints what
-wmax lower prints, and the gap, which is the cost minus that bound. If PROOF is
-a regular file: also says why, by the form that it ends with: which clauses,
-counts and groups that form takes off the cost, and how often. Of more than ten
-it prints those that it takes off most often. Then it prints how many lines of
-each kind PROOF has, how many clauses are live after them (unless its ids leap
-far), and whether PROOF ends with the empty clause. A character that would
-command a terminal is shown as question marks.
+word, and how to correct it.
+
+With PROOF, if RESULT is correct: also prints what wmax lower prints, and the
+gap, which is the cost minus that bound. If PROOF is a regular file, it also
+says why: the last form of PROOF is the cost less the facts of some clauses,
+counts and groups. These are printed, each with how many times it is taken; if
+there are more than ten, those taken most often. Then it prints how many lines
+of each kind PROOF has, how many clauses are live after them (unless its ids
+leap far), and whether PROOF ends with the empty clause.
+
+Characters that would control a terminal are shown as question marks.
 
 Statuses:
    0  the bits are a solution of the cost that RESULT states, or it has no bits
-   1  they are not, there is a solution though RESULT says that there is none,
-      RESULT cannot be read (NO ResultForm), or PROOF is faulty
+   1  they are not; RESULT says that there is no solution, but there is one;
+      RESULT is no result (NO ResultForm); or PROOF is faulty
    2  FILE or the command line is faulty
    3  a file cannot be read, the output cannot be written, or memory ran out
 
-Example:
+Examples:
   wmax explain a.wcnf a.result
   wmax explain a.wcnf a.best a.lrat
   wmax explain a.wcnf
@@ -172,20 +182,22 @@ docs/FAULTS.md and the manual page list all.";
 /// Behind that of `wmax encode`.
 pub(crate) const ENCODE_NOTES: &str = "\
 In profiles 1 and 2 the formula is satisfiable exactly when some solution costs
-less than COST. So a certificate of the optimum COST refutes it. Other LRAT
-checkers can check a certificate against the formula, and any SAT solver that
-writes LRAT can make one. In profile 3 the formula has the hard clauses, and the
-soft ones of several literals, each of these with a fresh variable, whatever
-COST is. With --proof it also has the clauses that the lines of CERTIFICATE
-make, and --lrat writes the other lines as plain LRAT. They refute the formula
-if CERTIFICATE ends with the empty clause.
+less than COST. So a certificate of an optimum of cost COST refutes it. Other
+LRAT checkers can check a certificate against the formula, and any SAT solver
+that writes LRAT can make one.
+
+In profile 3 the formula has the hard clauses, and each soft clause of several
+literals with a fresh variable. It is the same for each COST. With --proof it
+also has the clauses that the lines of CERTIFICATE make, and --lrat writes the
+other lines as plain LRAT. They refute the formula if CERTIFICATE ends with the
+empty clause.
 
 Statuses:
    0  the formula is written
    2  FILE, CERTIFICATE or the command line is faulty
    3  a file cannot be read, the formula cannot be written, or memory ran out
 
-Example:
+Examples:
   wmax encode --profile 1 a.wcnf 3 > a.cnf
   wmax encode --profile 3 --proof a.lrat --lrat b.lrat a.wcnf 3 > b.cnf
 
@@ -201,14 +213,16 @@ docs/FAULTS.md and the manual page list all.";
 
 /// Behind that of the program.
 pub(crate) const NOTES: &str = "\
-Statuses: solve 30, 20, 10, 0, 1; check, lower and explain 0, 1; encode 0; all
-of them 2 and 3 for faults, and 141 if nobody reads the output any more, without
-a message. 'wmax COMMAND --help' says what they mean. FILE may
-be /dev/stdin or a pipe such as <(zcat a.wcnf.gz). The environment variable
-WMAX_PROFILE is the profile of solve, check and encode if --profile is not
-given.
+Statuses: solve ends with 30, 20, 10, 0 or 1; check, lower and explain with 0 or
+1; encode with 0. Each ends with 2 or 3 for faults, and with 141, without a
+message, if nobody reads its output any more. 'wmax COMMAND --help' says what
+they mean.
 
-Example:
+FILE may be /dev/stdin or a pipe such as <(zcat a.wcnf.gz). The environment
+variable WMAX_PROFILE is the profile of solve, check and encode if --profile is
+not given.
+
+Examples:
   wmax solve --profile 3 --proof a.lrat a.wcnf > a.result
   wmax check --profile 3 a.wcnf a.result a.lrat
   wmax explain a.wcnf a.result";

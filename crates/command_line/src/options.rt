@@ -175,7 +175,7 @@ const EXPLAIN_PARAMETERS: [Parameter<'static>; 3] = [
         form: ParameterForm::Word { required: false },
         values: ValueParser::String,
         default: &[],
-        help: "The certificate, of profile 3, or the beginning of one",
+        help: "A certificate of profile 3, or the beginning of one",
     },
 ];
 

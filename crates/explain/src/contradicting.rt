@@ -47,7 +47,7 @@ pub fn write_contradiction<W: Write>(
 ///
 /// # Errors
 ///
-/// `WriteFault` where the writer failed. It has then a beginning of that.
+/// `WriteFault` where the writer failed. It then has a prefix of that.
 pub fn write_open<W: Write>(writer: &mut W) -> Result<(), WriteFault>
     ensures { Writes result (W.contents writer.old) open_text (W.contents writer.new) }
 {
@@ -58,7 +58,7 @@ pub fn write_open<W: Write>(writer: &mut W) -> Result<(), WriteFault>
 ///
 /// # Errors
 ///
-/// `WriteFault` where the writer failed. It has then a beginning of that.
+/// `WriteFault` where the writer failed. It then has a prefix of that.
 pub fn write_refuted<W: Write>(writer: &mut W) -> Result<(), WriteFault>
     ensures { Writes result (W.contents writer.old) refuted_text (W.contents writer.new) }
 {

@@ -124,7 +124,7 @@ pub(crate) fn put_broken<W: Write>(sheet: &mut Sheet, writer: &mut W, hard: &[Cl
 }
 
 /// A line of the text with its number, and its comment.
-pub fn put_source<W: Write>(sheet: &mut Sheet, writer: &mut W, clause_line: &ClauseLine<'_>)
+pub(crate) fn put_source<W: Write>(sheet: &mut Sheet, writer: &mut W, clause_line: &ClauseLine<'_>)
     ensures { Displays (W.contents writer.old) sheet.old (source_text clause_line.now)
         (W.contents writer.new) sheet.new }
 {

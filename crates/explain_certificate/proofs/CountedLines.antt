@@ -10,9 +10,11 @@ use Rattle.lrat_cuts.specs.Verdict.{ended_part}
 use Rattle.lrat_cuts.proofs.Laws.{ended_none, ended_part-more}
 use Rattle.explain_certificate.specs.declared.holdings.LineCounts.{LineCounts}
 use Rattle.explain_certificate.specs.declared.holdings.LineKind.{LineKind}
-use Rattle.explain_certificate.specs.declared.holdings.LineKind.TheVariants.{Addition, Deletion, Count, Output}
-use Rattle.explain_certificate.specs.declared.holdings.LineKind.TheVariants.{Group, Form, Cut, Bound}
-use Rattle.explain_certificate.specs.Holdings.{count_of_lines, counted, counted_all, counted_if, kind_of}
+use Rattle.explain_certificate.specs.declared.holdings.LineKind.TheVariants.{Addition, Deletion}
+use Rattle.explain_certificate.specs.declared.holdings.LineKind.TheVariants.{Count, Output, Group}
+use Rattle.explain_certificate.specs.declared.holdings.LineKind.TheVariants.{Form, Cut, Bound}
+use Rattle.explain_certificate.specs.Holdings.{count_of_lines, counted, counted_all, counted_if}
+use Rattle.explain_certificate.specs.Holdings.{kind_of}
 
 -- the first line, and those behind it
 pub counts-first : (c : LineCounts) (text line rest : List ℕ) → IsFirstLine text line rest

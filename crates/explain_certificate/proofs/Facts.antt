@@ -21,7 +21,8 @@ fact_first {a} {b} {c} {s} {t} {u} f fs p q = record {
   details = p.0 ∷ q.details;
   each = ap suc q.each;
   shown = subst (λ z. Displays a s z c u)
-      (append_assoc (fact_text f) p.0 (facts_text fs q.details)) (more p.1 q.shown);
+      (append_assoc (fact_text (p.0).is_group f) (p.0).details (facts_text fs q.details))
+      (more p.1 q.shown);
 }
 
 -- whoever adds the facts that are left has added all

@@ -14,18 +14,18 @@ use Rattle.lrat_cuts.specs.LastForm.{ended_lines}
 use Rattle.explain_certificate.specs.declared.holdings.Holdings.{Holdings}
 use Rattle.explain_certificate.specs.declared.holdings.LineCounts.{LineCounts}
 use Rattle.explain_certificate.specs.declared.holdings.LineKind.{LineKind}
-use Rattle.explain_certificate.specs.declared.holdings.LineKind.TheVariants.{Addition, Deletion, Count, Output}
-use Rattle.explain_certificate.specs.declared.holdings.LineKind.TheVariants.{Group, Form, Cut, Bound}
+use Rattle.explain_certificate.specs.declared.holdings.LineKind.TheVariants.{Addition, Deletion}
+use Rattle.explain_certificate.specs.declared.holdings.LineKind.TheVariants.{Count, Output, Group}
+use Rattle.explain_certificate.specs.declared.holdings.LineKind.TheVariants.{Form, Cut, Bound}
 
 -- what a line brings that begins with a word
-abbrev pub kind_of_word : Option Word → Option LineKind
-kind_of_word None = None
-kind_of_word (Some words.Count) = Some Count
-kind_of_word (Some words.More) = Some Output
-kind_of_word (Some words.Group) = Some Group
-kind_of_word (Some words.Form) = Some Form
-kind_of_word (Some words.Cut) = Some Cut
-kind_of_word (Some words.Bound) = Some Bound
+abbrev pub kind_of_word : Word → LineKind
+kind_of_word words.Count = Count
+kind_of_word words.More = Output
+kind_of_word words.Group = Group
+kind_of_word words.Form = Form
+kind_of_word words.Cut = Cut
+kind_of_word words.Bound = Bound
 
 -- what a line brings that begins with a number, by what follows that
 abbrev pub plain_kind : List (List ℕ) → LineKind
@@ -35,11 +35,11 @@ plain_kind (t ∷ ts) = if bytes_eq t (codes "d") then Deletion else Addition
 -- what a line brings, by its tokens; a blank one brings nothing
 abbrev pub kind_of : List (List ℕ) → Option LineKind
 kind_of [] = None
-kind_of (t ∷ ts) = by (kind_of_word (word_of t))
+kind_of (t ∷ ts) = by (word_of t)
   where
-    by : Option LineKind → Option LineKind
+    by : Option Word → Option LineKind
     by None = Some (plain_kind ts)
-    by (Some kind) = Some kind
+    by (Some word) = Some (kind_of_word word)
 
 -- a line more of a kind
 abbrev pub counted : LineKind → LineCounts → LineCounts

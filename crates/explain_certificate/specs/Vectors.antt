@@ -7,16 +7,21 @@ use Rattle.lrat_live.specs.Listed.{listed_at}
 use Rattle.explain_certificate.specs.Holdings.{counts_of, live_up_to, no_lines}
 use Rattle.explain_certificate.specs.Reasons.{fact_text, facts_text}
 
--- a clause three times, and a count twice
-three_times : fact_text (record { weight = 3; is_numbered = false; number = 1 })
-    ≡ codes "less 3 times clause 1"
+-- a clause three times, a count twice, and a group once
+three_times : fact_text false (record { weight = 3; is_numbered = false; number = 1 })
+    ≡ codes "less clause 1, 3 times"
 unfolding digits
 three_times = refl
 
-twice : facts_text (record { weight = 2; is_numbered = true; number = 4 } ∷ []) (codes "!" ∷ [])
-    ≡ codes "less 2 times number 4!"
+twice : fact_text false (record { weight = 2; is_numbered = true; number = 4 })
+    ≡ codes "less count 4, 2 times"
 unfolding digits
 twice = refl
+
+once : facts_text (record { weight = 1; is_numbered = true; number = 5 } ∷ [])
+    (record { is_group = true; details = codes "!" } ∷ []) ≡ codes "less group 5, once!"
+unfolding digits
+once = refl
 
 -- three clauses, one of which goes, and a count; of a cut that no line feed ends nothing
 lines_of_four :

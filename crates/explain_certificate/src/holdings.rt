@@ -2,10 +2,10 @@
 ghost use Rattle.std.specs.Prelude.{◌≡◌, ◌+◌, ◌<◌, ◌^◌, IfSome};
 ghost use Rattle.text.specs.Text.{tokens_of};
 ghost use Rattle.text.specs.Writing.{Writes};
-ghost use Rattle.lrat_read.specs.Words.{word_of};
 ghost use Rattle.lrat_live.specs.Listed.{listed_at};
 ghost use Rattle.explain_certificate.specs.Holdings.{count_of_lines, counted, counts_of, end_text};
-ghost use Rattle.explain_certificate.specs.Holdings.{holdings_text, kind_of, kind_of_word, lines_text};
+ghost use Rattle.explain_certificate.specs.Holdings.{holdings_text, kind_of, kind_of_word};
+ghost use Rattle.explain_certificate.specs.Holdings.{lines_text};
 ghost use Rattle.explain_certificate.specs.Holdings.{live_text, live_up_to, proved_text};
 ghost use Rattle.explain_text.specs.Sheets.{Displays};
 
@@ -13,6 +13,7 @@ use cnf::limits::NUMBER_LIMIT;
 use explain_text::sheet::Sheet;
 use lrat_cuts::last_form::LastForm;
 use lrat_cuts::machine::CutsMachine;
+use lrat_read::words::{Word, known_word};
 use std::io::Write;
 use text::cutting::tokens;
 use text::output::WriteFault;
@@ -145,8 +146,8 @@ fn kind_of(line: &[u8]) -> Option<LineKind>
 {
     let mut words = tokens(line);
     let first = words.next()?;
-    if let Some(kind) = kind_of_word(first) {
-        return Some(kind);
+    if let Some(word) = known_word(first) {
+        return Some(kind_of_word(word));
     }
     match words.next() {
         Some([b'd']) => Some(LineKind::Deletion),
@@ -154,24 +155,17 @@ fn kind_of(line: &[u8]) -> Option<LineKind>
     }
 }
 
-/// What a line brings that begins with this word, if it is one.
-fn kind_of_word(token: &[u8]) -> Option<LineKind>
-    ensures { result ≡ kind_of_word (word_of token.now) }
+/// What a line brings that begins with this word.
+fn kind_of_word(word: Word) -> LineKind
+    ensures { result ≡ kind_of_word word }
 {
-    if token == b"cut".as_slice() {
-        Some(LineKind::Cut)
-    } else if token == b"form".as_slice() {
-        Some(LineKind::Form)
-    } else if token == b"bound".as_slice() {
-        Some(LineKind::Bound)
-    } else if token == b"count".as_slice() {
-        Some(LineKind::Count)
-    } else if token == b"more".as_slice() {
-        Some(LineKind::Output)
-    } else if token == b"group".as_slice() {
-        Some(LineKind::Group)
-    } else {
-        None
+    match word {
+        Word::Count => LineKind::Count,
+        Word::More => LineKind::Output,
+        Word::Group => LineKind::Group,
+        Word::Form => LineKind::Form,
+        Word::Cut => LineKind::Cut,
+        Word::Bound => LineKind::Bound,
     }
 }
 
@@ -200,7 +194,7 @@ fn count_live(machine: &CutsMachine, most: u64) -> Option<u64>
 ///
 /// # Errors
 ///
-/// `WriteFault` where the writer failed. It has then a beginning of that.
+/// `WriteFault` where the writer failed. It then has a prefix of that.
 pub fn write_holdings<W: Write>(holdings: &Holdings, writer: &mut W) -> Result<(), WriteFault>
     ensures { Writes result (W.contents writer.old) (holdings_text holdings.now)
         (W.contents writer.new) }

@@ -1,4 +1,5 @@
-//! What a certificate of forms and cuts says to a person: why nothing is cheaper, and what it holds.
+//! What a certificate of forms and cuts says to a person: why nothing is cheaper, and what it
+//! holds.
 #![tactic(auto)]
 
 pub mod holdings;

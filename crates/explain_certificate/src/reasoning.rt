@@ -1,8 +1,9 @@
 //! Why nothing is cheaper, as a person reads it.
-ghost use Rattle.std.specs.Prelude.{IfOk, OnErr, OnOk};
+ghost use Rattle.std.specs.Prelude.{true, IfOk, OnErr, OnOk};
 ghost use Rattle.explain_text.specs.Sheets.{Displays};
-ghost use Rattle.explain_certificate.specs.Reasons.{Adds, AddsFact, AddsFacts, AreHeaviest, BreaksListing};
-ghost use Rattle.explain_certificate.specs.Reasons.{WritesListing, fact_text, kind_text};
+ghost use Rattle.explain_certificate.specs.Reasons.{Adds, AddsFact, AddsFacts, AreHeaviest};
+ghost use Rattle.explain_certificate.specs.Reasons.{BreaksListing, WritesListing};
+ghost use Rattle.explain_certificate.specs.Reasons.{fact_text, kind_text, times_text};
 
 use crate::meanings::{Meaning, Place};
 use crate::reasons::{Reason, Saying, explain_facts, heaviest};
@@ -93,7 +94,7 @@ fn hard_places(alloc: Global, listed: &[Reason]) -> Result<Vec<u32>, AllocError>
 ///
 /// # Errors
 ///
-/// `WriteFault` where the writer failed. It has then a beginning of that.
+/// `WriteFault` where the writer failed. It then has a prefix of that.
 pub fn write_reasons<W: Write>(reasons: &Reasons<'_>, writer: &mut W) -> Result<(), WriteFault>
     ensures ok { OnOk result (WritesListing reasons.now
         (W.contents writer.old) (W.contents writer.new)) }
@@ -117,9 +118,23 @@ fn put_head<W: Write>(sheet: &mut Sheet, writer: &mut W, form: Option<(u64, Opti
     };
     sheet.put(writer, b"why: the last form shows ");
     put_worth(sheet, writer, worth);
+    sheet.put(writer, b"\nthe cost");
+    put_times(sheet, writer, scale);
     sheet.put(writer, b"\n");
-    sheet.put_number(writer, scale);
-    sheet.put(writer, b" times the cost\n");
+}
+
+/// How many times something is taken.
+fn put_times<W: Write>(sheet: &mut Sheet, writer: &mut W, times: u64)
+    ensures { Displays (W.contents writer.old) sheet.old (times_text times)
+        (W.contents writer.new) sheet.new }
+{
+    if times == 1 {
+        sheet.put(writer, b", once");
+        return;
+    }
+    sheet.put(writer, b", ");
+    sheet.put_number(writer, times);
+    sheet.put(writer, b" times");
 }
 
 /// What a form is worth.
@@ -151,7 +166,7 @@ fn put_reason<W: Write>(sheet: &mut Sheet, writer: &mut W, reasons: &Reasons<'_>
     ensures { AddsFact reason.now.fact
         (W.contents writer.old) sheet.old (W.contents writer.new) sheet.new }
 {
-    put_fact(sheet, writer, reason.fact);
+    put_fact(sheet, writer, reason.fact, is_group(reason.saying));
     put_saying(sheet, writer, reasons, reason.saying);
     put_meanings(sheet, writer, &reasons.lines, &reason.literals);
 }
@@ -170,26 +185,43 @@ fn put_meanings<W: Write>(
     }
 }
 
-/// How many times the form has which fact.
-fn put_fact<W: Write>(sheet: &mut Sheet, writer: &mut W, fact: WeightedFact)
-    ensures { Displays (W.contents writer.old) sheet.old (fact_text fact)
+/// Whether a fact that says this is that of a group.
+fn is_group(saying: Saying) -> bool {
+    matches!(saying, Saying::AtMostOne)
+}
+
+/// Which fact the form has, and how many times.
+fn put_fact<W: Write>(sheet: &mut Sheet, writer: &mut W, fact: WeightedFact, is_group: bool)
+    ensures { Displays (W.contents writer.old) sheet.old (fact_text is_group fact)
         (W.contents writer.new) sheet.new }
 {
     sheet.put(writer, b"less ");
-    sheet.put_number(writer, fact.weight());
-    put_kind(sheet, writer, fact.is_numbered());
+    put_kind(sheet, writer, fact.is_numbered(), is_group);
     sheet.put_number(writer, fact.number());
+    put_times(sheet, writer, fact.weight());
 }
 
 /// Whether a fact is that of a count or group, or that of a clause.
-fn put_kind<W: Write>(sheet: &mut Sheet, writer: &mut W, is_numbered: bool)
-    ensures { Displays (W.contents writer.old) sheet.old (kind_text is_numbered)
+fn put_kind<W: Write>(sheet: &mut Sheet, writer: &mut W, is_numbered: bool, is_group: bool)
+    ensures { Displays (W.contents writer.old) sheet.old (kind_text is_numbered is_group)
         (W.contents writer.new) sheet.new }
 {
     if is_numbered {
-        sheet.put(writer, b" times number ");
+        put_numbered(sheet, writer, is_group);
     } else {
-        sheet.put(writer, b" times clause ");
+        sheet.put(writer, b"clause ");
+    }
+}
+
+/// Whether a fact is that of a group, or that of a count.
+fn put_numbered<W: Write>(sheet: &mut Sheet, writer: &mut W, is_group: bool)
+    ensures { Displays (W.contents writer.old) sheet.old (kind_text true is_group)
+        (W.contents writer.new) sheet.new }
+{
+    if is_group {
+        sheet.put(writer, b"group ");
+    } else {
+        sheet.put(writer, b"count ");
     }
 }
 
@@ -208,7 +240,7 @@ fn put_saying<W: Write>(sheet: &mut Sheet, writer: &mut W, reasons: &Reasons<'_>
             sheet.put(writer, b" of these\n");
         }
         Saying::AtMostOne => sheet.put(writer, b": at most 1 of these\n"),
-        Saying::Gone => sheet.put(writer, b", which was deleted\n"),
+        Saying::Gone => sheet.put(writer, b": it was deleted\n"),
     }
 }
 
@@ -240,7 +272,7 @@ fn put_meaning<W: Write>(
             put_source_at(sheet, writer, &lines.soft, place);
         }
         Meaning::Reached(number, count) => {
-            sheet.put(writer, b"  number ");
+            sheet.put(writer, b"  count ");
             sheet.put_number(writer, number);
             sheet.put(writer, b" has ");
             sheet.put_number(writer, count);

@@ -1,5 +1,5 @@
-//! What a person is shown of a text: a sheet that takes it piece by piece, what a terminal would obey
-//! shown as question marks, and how a line that is faulty can be mended.
+//! What a person is shown of a text: a sheet that takes it piece by piece, with question marks for
+//! what a terminal would obey, and how a faulty line can be mended.
 #![tactic(auto)]
 
 mod advice;

@@ -15,7 +15,7 @@ use text::output::WriteFault;
 use wcnf::faults::ReadFault;
 
 /// How many bytes of a line or a word are shown.
-pub const MOST_SHOWN: usize = 100;
+pub(crate) const MOST_SHOWN: usize = 100;
 
 /// Writes the line that has the first fault of the text, and then the word at which it is faulty
 /// and what would mend it. A byte that would command a terminal is shown as a question mark; a long
@@ -23,7 +23,7 @@ pub const MOST_SHOWN: usize = 100;
 ///
 /// # Errors
 ///
-/// `WriteFault` where the writer failed. It has then a beginning of that.
+/// `WriteFault` where the writer failed. It then has a prefix of that.
 pub fn write_mending<W: Write>(
     text: &[u8],
     fault: ReadFault,

@@ -10,9 +10,9 @@ use wmax_commands::checking::check;
 use wmax_commands::encoding::encode;
 use wmax_commands::faults::tell_fault;
 use wmax_commands::lower_bounds::lower;
-use wmax_commands::solving::solve;
 use wmax_explaining::explaining::explain;
 use wmax_onlooker::standard_error::Messages;
+use wmax_solving::solving::solve;
 
 /// Does what the command line asks for; the exit status.
 ///

@@ -36,7 +36,7 @@ impl From<RunFault> for Fault<'_> {
 
 impl<'a> Fault<'a> {
     /// Why this file cannot be read whole.
-    pub(crate) fn of_file(fault: RunFault, path: &'a str) -> Self
+    pub fn of_file(fault: RunFault, path: &'a str) -> Self
         ensures { result ≡ file_fault fault path.entry }
     {
         match fault {
@@ -47,7 +47,7 @@ impl<'a> Fault<'a> {
 
     /// What becomes of a fault of FILE, which is at this path: where it cannot be read, it is
     /// named.
-    pub(crate) fn of_text(self, path: &'a str) -> Self
+    pub fn of_text(self, path: &'a str) -> Self
         ensures { result ≡ fault_of_text self.entry path.entry }
     {
         match self {
@@ -92,7 +92,7 @@ pub(crate) fn tell_packed<E: Write>(messages: &mut Messages<'_, E>, text: &[u8])
 
 /// Tells why a command that reads FILE from this path has no answer; the exit status. `first` are
 /// the first bytes of FILE.
-pub(crate) fn tell_text_fault<E: Write>(
+pub fn tell_text_fault<E: Write>(
     messages: &mut Messages<'_, E>,
     fault: Fault<'_>,
     first: &[u8],

@@ -1,15 +1,12 @@
-//! The commands of the program `wmax` except for `explain`: what a command line asks for is done
-//! with the files that it names, and what comes of it is printed.
+//! The commands of the program `wmax` that search for nothing: a result is checked, a lower bound
+//! told, a formula printed. And what all commands share: what is asked for, the profile that is
+//! taken, and why there is no answer.
 #![tactic(auto)]
 
 pub mod arguments;
 pub mod checking;
 pub mod encoding;
 pub mod faults;
-mod inputs;
 pub mod lower_bounds;
 mod plain_encoding;
-mod profiles;
-mod refusals;
-mod resuming;
-pub mod solving;
+pub mod profiles;

@@ -10,7 +10,7 @@ use std::rt::Env;
 use wmax_onlooker::standard_error::Messages;
 
 /// The name of the profile of forms and cuts.
-pub(crate) const CUTS: &str = "3";
+pub const CUTS: &str = "3";
 
 /// The variable of the environment that names the profile where no `--profile` does.
 const VARIABLE: &str = "WMAX_PROFILE";

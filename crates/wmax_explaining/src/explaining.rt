@@ -173,7 +173,8 @@ fn read_inside<'a, 't, R: Files + AllocGlobal>(
 ///
 /// # Errors
 ///
-/// `AllocError` where memory was refused, or the text is faulty.
+/// `AllocError` where memory was refused, where the text is faulty, or where its formula has more
+/// than 2^32 - 2 literals.
 fn look_inside<'t>(
     alloc: Global,
     text: &'t [u8],

@@ -69,8 +69,8 @@ pub enum FirstText {
 
 impl<'a, R: Files> Keeper<'a, R> {
     /// Writes a first text, which says that nothing is known, to see that it can be written. If
-    /// nothing stands there, it stays: at once, or once the search begins. None where nothing can be
-    /// written.
+    /// nothing stands there, it stays: at once, or once the search begins. None where nothing can
+    /// be written.
     pub fn start(
         rt: &'a R,
         kept: Option<BestPaths<'a>>,

@@ -1,8 +1,8 @@
 //! The lines of `--progress`: how far a run is, once a second, at each better solution and at the
 //! end of the search, and that the certificate is being written.
 use crate::standard_error::Messages;
-use cdcl::watch::SearchReport;
-use improve::watch::{Raised, Way};
+use cdcl::watch::{SearchReport, Way};
+use improve::watch::Raised;
 use report::finding::Finding;
 use std::alloc::AllocError;
 use std::fs;
@@ -295,7 +295,7 @@ impl<'a, R: Clock + Files + AllocGlobal> Meter<'a, R> {
     }
 }
 
-/// What the way is called that a lower bound came.
+/// What the form is called that shows a lower bound.
 fn name_of(way: Way) -> &'static str {
     match way {
         Way::Cores => "cores",

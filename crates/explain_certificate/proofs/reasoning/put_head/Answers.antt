@@ -6,5 +6,5 @@ pub returns : goal.returns
 returns g c = (
   _,
   more c.put-2.ensures (more c.put_worth.ensures.1 (more c.put-3.ensures
-      (more c.put_number.ensures c.put-4.ensures))),
+      (more c.put_times.ensures c.put-4.ensures))),
 )

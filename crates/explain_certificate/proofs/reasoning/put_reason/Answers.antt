@@ -5,5 +5,7 @@ use Rattle.explain_certificate.proofs.reasoning.put_reason.Goals as goal
 
 pub returns : goal.returns
 returns g c =
-    let said = adds_on c.put_saying.ensures c.put_meanings.ensures in
-    (said.0, more c.put_fact.ensures said.1)
+    let said = adds_on c.put_saying.ensures c.put_meanings.ensures in (
+      record { is_group = c.is_group.result; details = said.0 },
+      more c.put_fact.ensures said.1,
+    )

@@ -2,9 +2,8 @@
 //! an earlier run that it replaces.
 ghost use Rattle.std.specs.Prelude.{◌≡◌, IfOk, IfErr, IfSome, IsSome, OnOk, Some, option_map};
 ghost use Rattle.explain.specs.Judging.{TellsBits};
-ghost use Rattle.wmax_commands.specs.Inputs.{undercuts};
+ghost use Rattle.wmax_solving.specs.Inputs.{undercuts};
 
-use crate::arguments::SolveRequest;
 use crate::refusals::{KeptFileFault, Refused};
 use adder::profiles::Profile;
 use cnf::types::Instance;
@@ -19,6 +18,7 @@ use std::fs::{File, OpenFile};
 use std::io::Read;
 use std::rt::Files;
 use wcnf::reading::read_from;
+use wmax_commands::arguments::SolveRequest;
 use wmax_onlooker::beginning::Beginning;
 use wmax_onlooker::file_id::{FileId, find_file_id, find_path_id, find_place};
 use wmax_onlooker::files::{UNREADABLE, read_file};

@@ -1,6 +1,6 @@
 //! The certificate of an earlier run, with which a search goes on.
 ghost use Rattle.std.specs.Prelude.{◌≡◌, IfOk, IsSome};
-ghost use Rattle.wmax_commands.specs.Resuming.{IsFor, is_enough};
+ghost use Rattle.wmax_solving.specs.Resuming.{IsFor, is_enough};
 
 use crate::inputs::{FirstSolution, Inputs, Source};
 use crate::refusals::{Refused, ResumeFault};

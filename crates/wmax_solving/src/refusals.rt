@@ -1,15 +1,15 @@
 //! Why there is no run of `wmax solve`, beside the faults that every command has, and what is said
 //! of it.
 ghost use Rattle.std.specs.Prelude.{◌≡◌};
-ghost use Rattle.wmax_commands.specs.Refusals.{kept_status};
+ghost use Rattle.wmax_solving.specs.Refusals.{kept_status};
 
-use crate::checking::show;
-use crate::faults::Fault;
 use command_line::words::{BEST_OPTION, FROM_OPTION, PROOF_OPTION, RESUME_OPTION};
 use lrat_check::verdicts::Verdict;
 use report::earlier::CannotResume;
 use report::fault::RunFault;
 use std::io::Write;
+use wmax_commands::checking::show;
+use wmax_commands::faults::Fault;
 use wmax_onlooker::standard_error::Messages;
 
 /// Why there is no run.
@@ -27,6 +27,10 @@ pub(crate) enum Refused<'a> {
 }
 
 impl From<CannotResume> for ResumeFault {
+    ghost use Rattle.wmax_solving.specs.Refusals.{resume_fault};
+
+    ghost from_gives = { λ why made. made ≡ resume_fault why };
+
     fn from(why: CannotResume) -> Self {
         match why {
             CannotResume::Lacking(cost) => ResumeFault::Lacking(cost),
@@ -37,7 +41,7 @@ impl From<CannotResume> for ResumeFault {
 
 impl From<RunFault> for Refused<'_> {
     ghost use Rattle.wmax_commands.specs.declared.faults.Fault.TheVariants.{Run};
-    ghost use Rattle.wmax_commands.specs.declared.refusals.Refused.TheVariants.{Fault as FaultOf};
+    ghost use Rattle.wmax_solving.specs.declared.refusals.Refused.TheVariants.{Fault as FaultOf};
 
     ghost from_gives = { λ fault made. made ≡ FaultOf (Run fault) };
 

@@ -3,9 +3,9 @@ use Rattle.std.specs.Prelude.{ℕ, Bool, ⊤, Option, Some, None, nat_le}
 use Rattle.cnf.specs.Problem.{Problem}
 use Rattle.cnf.specs.declared.limits.TheConstants.{NUMBER_LIMIT}
 use Rattle.cuts_log.specs.Starts.{IsReached}
-use Rattle.wmax_commands.specs.declared.inputs.FirstSolution.{FirstSolution}
-use Rattle.wmax_commands.specs.declared.resuming.Origin.{Origin}
-use Rattle.wmax_commands.specs.declared.resuming.Origin.TheVariants.{Blank, Behind, Shown}
+use Rattle.wmax_solving.specs.declared.inputs.FirstSolution.{FirstSolution}
+use Rattle.wmax_solving.specs.declared.resuming.Origin.{Origin}
+use Rattle.wmax_solving.specs.declared.resuming.Origin.TheVariants.{Blank, Behind, Shown}
 
 -- lines were judged by the instance that was read
 abbrev pub IsFor : Option Problem → Origin → Type 0
