@@ -1,13 +1,13 @@
-"""Planning in Python: variables by name, clauses, counts and sums, an optimum that was checked.
+"""Planning in Python: variables with names, clauses, counts and sums, and optima that are checked.
 
-One file, of the standard library alone, for Python 3.9 or later on Unix: copy it beside your
-program, put its folder on PYTHONPATH, or `pip install` its folder. It runs `wmax solve`, and `wmax
-check` on what that found.
+One file that needs only the standard library of Python 3.9 or later, on Unix. Copy it next to your
+program, put its folder on PYTHONPATH, or `pip install` its folder. It runs `wmax solve`, and checks
+what that has found with `wmax check` or `wmax lower`.
 
 >>> import wmax
 >>> shopping = wmax.Instance()
 >>> tea, coffee, milk = shopping.variables("tea", "coffee", "milk")
->>> shopping.hard(tea, coffee)               # one of them at least
+>>> shopping.hard(tea, coffee)               # at least one of them
 >>> shopping.hard(-coffee, milk)             # coffee needs milk
 >>> shopping.soft(3, -tea, about="tea costs 3")
 >>> shopping.soft(2, -coffee, about="coffee costs 2")
@@ -18,17 +18,17 @@ check` on what that found.
 >>> [(part.weight, part.about) for part in found.given_up]
 [(3, 'tea costs 3')]
 
-A hard clause has to hold. A soft one costs its weight where it does not. A clause holds where one
-of its literals is true; `-tea` is 'no tea'. So 'if coffee then milk' is `hard(-coffee, milk)`, and
-'not both' is `hard(-tea, -coffee)`, or `at_most(1, [tea, coffee])`. Python's `or`, `and` and `not`
-cannot say this: they raise an error that says what to write.
+A clause holds if one of its literals is true; `-tea` means 'no tea'. A hard clause has to hold. A
+soft clause costs its weight if it does not hold. So 'if coffee then milk' is `hard(-coffee, milk)`,
+and 'not both' is `hard(-tea, -coffee)`, or `at_most(1, [tea, coffee])`. Python's `or`, `and` and
+`not` cannot be used for this: they raise an error that says what to write instead.
 
 >>> shopping.hard(tea or coffee)
 Traceback (most recent call last):
 wmax.WrongType: a literal has no value before solve: 'a or b' is hard(a, b), 'a and b' is hard(a) \
 and hard(b), 'not a' is -a; a solution has the value, solution[a]
 
-Sums have weights: a bag holds at most 10 kg, and each thing that stays at home costs something.
+Sums have weights. Here a bag holds at most 10 kg, and each thing left at home costs something.
 
 >>> bag = wmax.Instance()
 >>> tent, stove, book = bag.variables("tent", "stove", "book")
@@ -37,16 +37,17 @@ Sums have weights: a bag holds at most 10 kg, and each thing that stays at home 
 >>> bag.solve().true_names
 ['tent', 'book']
 
-Where the hard constraints contradict each other, `because` says which of them do.
+If the hard constraints contradict each other, `because` lists some that do.
 
 >>> bag.at_least(2, [tent, stove], about="both are needed")
 >>> try: bag.solve()
 ... except wmax.Unsatisfiable as error: print([reason.about for reason in error.because])
 ['at most 10: 6 tent, 5 stove, 3 book', 'both are needed']
 
-`solve` gives a `Solution` whose `is_optimum` says whether it is the cheapest: then `wmax check` has
-said YES to its certificate. All else comes as an exception below `WmaxError`. `python3 -m wmax FILE`
-solves an instance of a file, and says what its solution gives up.
+`solve` returns a `Solution`. If its `is_optimum` is True, nothing is cheaper: `wmax check` has said
+YES to the certificate, or `wmax lower` has shown that nothing costs less. If there is no solution to
+return, an exception is raised, of a class derived from `WmaxError`. `python3 -m wmax FILE` solves
+the instance in FILE, and says what its solution gives up.
 """
 from __future__ import annotations
 
@@ -247,7 +248,7 @@ class Solution:
     """
 
     cost: int  # the weights of the soft clauses that are given up, together
-    is_optimum: bool  # nothing is cheaper: the certificate of an optimum, or of a bound as great, was checked
+    is_optimum: bool  # nothing is cheaper: `wmax check` said YES, or `wmax lower` gave a bound as great as the cost
     lower: Optional[int]  # nothing costs less, which was checked; None where nothing is proved
     status: Optional[int]  # the exit status of `wmax solve`; None where it was stopped, as by Ctrl-C
     is_interrupted: bool  # whether Ctrl-C stopped it
@@ -275,9 +276,9 @@ class Solution:
 
 
 class Optima(List[Solution]):
-    """Solutions of least cost."""
+    """Solutions of least cost, as `Instance.optima` returns them."""
 
-    is_complete = False  # whether there are no others, which was checked
+    is_complete = False  # whether it was checked that there are no others
 
 
 class _Clause(NamedTuple):
@@ -382,8 +383,8 @@ class Instance:
     def soft(self, weight: int, *literals: Literal, about: str = "") -> None:
         """It costs `weight` if none of these literals is true.
 
-        `about` says so in words, as in `hard`, and `wmax explain` shows it. If it is left out, it is
-        the clause in the names of its variables.
+        `about` says so in words, as in `hard`, and `wmax explain` shows it. By default it is the
+        clause, spelled with the names of its variables.
         WrongType, WrongValue: the weight is no whole number from 1 on, or all together reach 2^62.
         """
         if isinstance(weight, float):
@@ -403,38 +404,41 @@ class Instance:
     # Counts and sums
 
     def at_most(self, most: int, literals: Weighted, *, when: Optional[Literal] = None, about: str = "") -> None:
-        """At most so many of these literals are true: always, or where `when` is.
+        """At most `most` of these literals are true. If `when` is given, this has to hold only if `when` is true.
 
-        With weights, as in `at_most(10, {tent: 6, stove: 5})`, those of the true ones sum to `most`
-        at most; then both may be below 0. A literal that stands twice in a list counts twice.
+        With weights, as in `at_most(10, {tent: 6, stove: 5})`, the weights of the true literals sum
+        to at most `most`; then weights and `most` may be negative. A literal that stands twice in a
+        list counts twice.
 
-        Few clauses say a count directly; where they would be many, a totalizer does (O. Bailleux and
-        Y. Boufkhad: Efficient CNF Encoding of Boolean Cardinality Constraints, 2003), which stops
-        counting above `most`. Weights go into a generalized totalizer (S. Joshi, R. Martins and V.
-        Manquinho: Generalized Totalizer Encoding for Pseudo-Boolean Constraints, 2015). Where it
-        would have ten times as many clauses, or more, an adder network takes its place (N. Eén and
-        N. Sörensson: Translating Pseudo-Boolean Constraints into SAT, 2006).
+        A count that takes few clauses is written as plain clauses. Otherwise it becomes a totalizer
+        that stops counting above `most` (O. Bailleux and Y. Boufkhad: Efficient CNF Encoding of
+        Boolean Cardinality Constraints, 2003). A sum with weights becomes a generalized totalizer
+        (S. Joshi, R. Martins and V. Manquinho: Generalized Totalizer Encoding for Pseudo-Boolean
+        Constraints, 2015). If that would be large, with more than ten times the clauses of an adder
+        network, it becomes the adder network (N. Eén and N. Sörensson: Translating Pseudo-Boolean
+        Constraints into SAT, 2006).
 
-        WrongType, WrongValue: `most` is no whole number, or without weights below 0; or one of the
-        others is not what it should be. A warning comes with more than 200,000 clauses.
+        WrongType, WrongValue: `most` is not a whole number, or it is negative and there are no
+        weights; or another argument is not what it should be. More than 200,000 clauses give a
+        warning.
         """
         self._limit("at most", None, most, literals, when, about)
 
     def at_least(self, least: int, literals: Weighted, *, when: Optional[Literal] = None, about: str = "") -> None:
-        """At least so many of these literals are true, or their weights sum to so much, as in `at_most`."""
+        """At least `least` of these literals are true, or their weights sum to at least that. The rest is as in `at_most`."""
         self._limit("at least", least, None, literals, when, about)
 
     def exactly(self, number: int, literals: Weighted, *, when: Optional[Literal] = None, about: str = "") -> None:
-        """Just so many of these literals are true, or their weights sum to just that, as in `at_most`."""
+        """Exactly `number` of these literals are true, or their weights sum to that. The rest is as in `at_most`."""
         self._limit("exactly", number, number, literals, when, about)
 
     equal = exactly
 
     def count(self, literals: Iterable[Literal], most: Optional[int] = None) -> List[Literal]:
-        """Literals that say how many of these are true: the one at place k, 'more than k are'.
+        """Literals that say how many of these are true: the one at index k says 'more than k are'.
 
-        As many as there are literals, or `most`. So what it costs if more than two are true, each
-        further one 5, is `for more in plan.count(literals)[2:]: plan.soft(5, -more)`.
+        There are as many as `literals` has, or `most`. If each true literal after the second one
+        costs 5, write `for more in plan.count(literals)[2:]: plan.soft(5, -more)`.
         """
         listed = self._listed(literals)
         most = len(listed) if most is None else _whole("most", most, 0)
@@ -525,28 +529,29 @@ class Instance:
               program: Union[str, "os.PathLike[str]", None] = None, folder: Union[str, "os.PathLike[str]", None] = None,
               resume: bool = False, warm: bool = True,
               progress: Union[bool, Callable[[Step], Any], None] = None) -> Solution:
-        """A solution of least cost, whose certificate `wmax check` has said YES to.
+        """A solution of least cost, after a check that nothing is cheaper; or the best one within a limit.
 
-        time_limit  seconds, after which `wmax solve` ends. What it has found by then is given,
-                    with `is_optimum` False. The check of what is proved comes on top. Ctrl-C does the
-                    same.
-        conflicts   the effort of `wmax solve --conflicts`: the same number, the same answer, if the run
-                    begins with the same solution
-        profile     how 'cheaper' is said; else the last one that the program's help names. In profile 3
-                    a search that ends before an optimum has proved a lower bound, which is checked
-        program     the path of `wmax`; else WMAX in the environment, ../wmax as seen from this
+        time_limit  seconds after which `wmax solve` ends. Then the best solution so far is returned,
+                    with `is_optimum` False, or True if the lower bound that was proved is as great as
+                    its cost. Checking takes time on top of this. Ctrl-C has the same effect.
+        conflicts   the limit on effort of `wmax solve --conflicts`: the same number gives the same
+                    answer, if the run begins with the same solution
+        profile     how 'cheaper' is encoded; by default the last one that the program's help names. In
+                    profile 3 a search that ends before an optimum has proved a lower bound, which is
+                    checked
+        program     the path of `wmax`; by default WMAX in the environment, ../wmax as seen from this
                     file, or `wmax` on PATH
-        folder      where the files stay: instance.wcnf, instance.result, instance.lrat,
-                    instance.best (the last result that was kept meanwhile) and instance.lock; it is
-                    made if need be. Else they are removed, also where an exception ends this, or, in
-                    the main thread, SIGTERM.
+        folder      where the files are kept: instance.wcnf, instance.result, instance.lrat,
+                    instance.best (the best result so far) and instance.lock. It is made if need be. By
+                    default they are removed at the end, also if an exception ends the call or, in the
+                    main thread, SIGTERM does
         resume      whether to go on from what an earlier call left in the folder: from its solution,
                     and in profile 3 with its certificate, so that no bound is lost. What does not fit
                     this instance is moved to instance.best.earlier or instance.lrat.earlier
-        warm        whether to begin with the last solution of this instance, if the hard clauses that
-                    came since hold in it
-        progress    a function that is called with a `Step` at each change and twice a second, or True:
-                    a line on standard error, if that is a terminal
+        warm        whether to begin with the last solution of this instance, if it satisfies the hard
+                    clauses that were added since
+        progress    a function that is called with a `Step` at each change and twice a second; or True
+                    for a line on standard error, if that is a terminal
 
         Unsatisfiable: the hard clauses cannot all hold, which was checked.
         NoSolutionFound: time or effort ran out, or Ctrl-C came, before a solution.
@@ -600,12 +605,13 @@ class Instance:
                         run.history, bits, self)
 
     def optima(self, most: int = 10, *, over: Optional[Iterable[Literal]] = None, **how: Any) -> Optima:
-        """Solutions of least cost, at most so many, each of them certified.
+        """At most `most` solutions of least cost. Each was checked to be an optimum.
 
-        Each two differ in one of the literals `over`: if they are not given, in a variable with a
-        name, or in any if none has one. `how` is what `solve` takes. Where time or effort run out, or
-        Ctrl-C comes, those that were found are given. `is_complete` is true if there are no others.
-        Errors as in `solve`, of the first one.
+        Any two of them differ in at least one of the literals `over`. By default these are the
+        variables with names, or all variables if none has a name. `how` is passed on to `solve`. If
+        time or effort runs out, or Ctrl-C comes, those found so far are returned. `is_complete` says
+        whether it was checked that there are no others. The search for the first one may raise what
+        `solve` does.
         """
         most = _whole("most", most, 1)
         numbers = [it.number for it in (self._literals.values() if over is None else self._listed(over))]
