@@ -295,50 +295,50 @@ reasoned() {
 clause=(': line 2: h 1 2 0' '    c one of both')
 given_up=('  given up: line 4: 3 -1 0' '    c tea' '  given up: line 5: 4 -2 0')
 lines proof 'form 1 3 1 0' 'cut 0'
-reasoned 'a clause of FILE' 3 0 'why: the last form shows at least 3' '1 times the cost' "less 3 times clause 1${clause[0]}" "${clause[1]}"
+reasoned 'a clause of FILE' 3 0 'why: the last form shows at least 3' 'the cost, once' "less clause 1, 3 times${clause[0]}" "${clause[1]}"
 lines proof 'form 2 6 1 0' 'bound 3 0'
-reasoned 'a clause, for twice the cost' 3 0 'why: the last form shows at least 3' '2 times the cost' "less 6 times clause 1${clause[0]}" \
+reasoned 'a clause, for twice the cost' 3 0 'why: the last form shows at least 3' 'the cost, 2 times' "less clause 1, 6 times${clause[0]}" \
     "${clause[1]}"
 lines proof 'form 1 1 1 0' 'form + 2 1 0' 'bound 3 0'
-reasoned 'a clause in two lines' 3 0 'why: the last form shows at least 3' '1 times the cost' "less 2 times clause 1${clause[0]}" \
-    "${clause[1]}" "less 1 times clause 1${clause[0]}" "${clause[1]}"
+reasoned 'a clause in two lines' 3 0 'why: the last form shows at least 3' 'the cost, once' "less clause 1, 2 times${clause[0]}" \
+    "${clause[1]}" "less clause 1, once${clause[0]}" "${clause[1]}"
 lines proof 'form 1 0' 'cut -2 0' '3 1 0 2 1 0' 'cut 0'
-reasoned 'no fact' 3 0 'why: the last form shows at least 3' '1 times the cost'
+reasoned 'no fact' 3 0 'why: the last form shows at least 3' 'the cost, once'
 lines proof 'count 1 1 2 0' '4 3 0 2 3 1 0' 'form 1 3 -1 0' 'cut 0'
-reasoned 'a core' 3 0 'why: the last form shows at least 3' '1 times the cost' 'less 3 times number 1: at least 1 of these' "${given_up[@]}"
+reasoned 'a core' 3 0 'why: the last form shows at least 3' 'the cost, once' 'less count 1, 3 times: at least 1 of these' "${given_up[@]}"
 holds 'a core' 1 0 1 0 0 1 1 0 5 'ends with the empty clause: it proves at least 3'
 lines proof 'count 1 1 2 0' 'form 1 3 -1 0' 'bound 0 0'
-reasoned 'a count of which nothing is known' 0 3 'why: the last form shows at least 0' '1 times the cost' \
-    'less 3 times number 1: at least 0 of these' "${given_up[@]}"
+reasoned 'a count of which nothing is known' 0 3 'why: the last form shows at least 0' 'the cost, once' \
+    'less count 1, 3 times: at least 0 of these' "${given_up[@]}"
 lines proof 'count 1 1 2 0' '4 3 0 2 3 1 0' 'count 1 3 1 0' 'form 1 1 -2 0'
-reasoned 'an output of a count that is no fact' 0 3 'why: the last form shows nothing' '1 times the cost' \
-    'less 1 times number 2: at least 0 of these' '  literal 3' "${given_up[@]:0:2}"
+reasoned 'an output of a count that is no fact' 0 3 'why: the last form shows nothing' 'the cost, once' \
+    'less count 2, once: at least 0 of these' '  literal 3' "${given_up[@]:0:2}"
 lines proof 'count 1 1 2 0' '4 3 0 2 3 1 0' 'count 1 3 1 0' 'form 1 1 -2 2 -1 0'
-reasoned 'an output of a count that is a fact too' 0 3 'why: the last form shows at least 1' '1 times the cost' \
-    'less 2 times number 1: at least 1 of these' "${given_up[@]}" 'less 1 times number 2: at least 0 of these' '  number 1 has 1 or more' \
+reasoned 'an output of a count that is a fact too' 0 3 'why: the last form shows at least 1' 'the cost, once' \
+    'less count 1, 2 times: at least 1 of these' "${given_up[@]}" 'less count 2, once: at least 0 of these' '  count 1 has 1 or more' \
     "${given_up[@]:0:2}"
 lines proof 'count 1 1 2 0' '' 'more 1 0' '6 3 0 2 3 1 0' '6 d 2 0' 'form 1 3 -1 0' 'form + 1 -1 0' 'bound 2 0'
-reasoned 'a count that grows' 2 1 'why: the last form shows at least 3' '1 times the cost' \
-    'less 3 times number 1: at least 1 of these' "${given_up[@]}" 'less 1 times number 1: at least 1 of these' "${given_up[@]}"
+reasoned 'a count that grows' 2 1 'why: the last form shows at least 3' 'the cost, once' \
+    'less count 1, 3 times: at least 1 of these' "${given_up[@]}" 'less count 1, once: at least 1 of these' "${given_up[@]}"
 holds 'a count that grows' 1 1 1 1 0 2 0 1 5 'does not end: so far it proves at least 2'
 lines proof 'group -1 -2 0 1 0' 'form 1 3 -1 0' 'cut 0'
-reasoned 'a group' 3 0 'why: the last form shows at least 3' '1 times the cost' 'less 3 times number 1: at most 1 of these' '  literal -1' '  literal -2'
+reasoned 'a group' 3 0 'why: the last form shows at least 3' 'the cost, once' 'less group 1, 3 times: at most 1 of these' '  literal -1' '  literal -2'
 holds 'a group' 0 0 0 0 1 1 1 0 2 'ends with the empty clause: it proves at least 3'
 lines proof '2 1 2 0 1 0' 'form 1 3 2 0' 'cut 0'
-reasoned 'a clause that was added' 3 0 'why: the last form shows at least 3' '1 times the cost' 'less 3 times clause 2: at least 1 of these' \
+reasoned 'a clause that was added' 3 0 'why: the last form shows at least 3' 'the cost, once' 'less clause 2, 3 times: at least 1 of these' \
     "${given_up[@]}"
 lines proof '2 1 2 0 1 0' 'form 1 3 2 0' '2 d 2 0' 'cut 0'
-reasoned 'a clause that was deleted' 3 0 'why: the last form shows at least 3' '1 times the cost' 'less 3 times clause 2, which was deleted'
+reasoned 'a clause that was deleted' 3 0 'why: the last form shows at least 3' 'the cost, once' 'less clause 2, 3 times: it was deleted'
 lines proof 'form 1 3 1 0' '1 d 1 0' 'cut 0'
-reasoned 'a clause of FILE that was deleted' 3 0 'why: the last form shows at least 3' '1 times the cost' "less 3 times clause 1${clause[0]}" \
+reasoned 'a clause of FILE that was deleted' 3 0 'why: the last form shows at least 3' 'the cost, once' "less clause 1, 3 times${clause[0]}" \
     "${clause[1]}"
 : > "$work/proof"
 reasoned 'no form' 0 3 'why: there is no form'
 holds 'no line' 0 0 0 0 0 0 0 0 1 'does not end: so far it proves at least 0'
 lines proof 'form 0 0'
-reasoned 'nothing is shown' 0 3 'why: the last form shows nothing' '0 times the cost'
+reasoned 'nothing is shown' 0 3 'why: the last form shows nothing' 'the cost, 0 times'
 printf 'form 1 3 1 0\nbound 3 0\nform 1 0' > "$work/proof"
-reasoned 'what no line feed ends' 3 0 'why: the last form shows at least 3' '1 times the cost' "less 3 times clause 1${clause[0]}" "${clause[1]}"
+reasoned 'what no line feed ends' 3 0 'why: the last form shows at least 3' 'the cost, once' "less clause 1, 3 times${clause[0]}" "${clause[1]}"
 holds 'what no line feed ends' 0 0 0 0 0 1 0 1 1 'does not end: so far it proves at least 3'
 lines proof 'form 1 3 1 0' 'cut 0'
 mkfifo "$work/fifo"
@@ -350,7 +350,7 @@ lines worse 'o 4' 's SATISFIABLE' 'v 01'
 call explain text worse proof
 set_apart
 expect 'a gap' 0 "$(printf '%s\n' 'cost 4' 'given up: 1 of 2 soft clauses' '+ 4 = 4, line 5: 4 -2 0' 'at least 3' 'gap 1' \
-    'why: the last form shows at least 3' '1 times the cost' "less 3 times clause 1${clause[0]}" "${clause[1]}")" ''
+    'why: the last form shows at least 3' 'the cost, once' "less clause 1, 3 times${clause[0]}" "${clause[1]}")" ''
 lines wrong 'o 3' 's SATISFIABLE' 'v 01'
 call explain text wrong proof
 ok 'a wrong result has no gap' [ "$status" = 1 -a -z "$(grep -E 'at least|gap|why' <<< "$out")" ]
@@ -367,8 +367,8 @@ lines text 'h 1 2 0' 'h 3 -3 0' 'h 3 0' '2 1 -1 0' '3 -1 0' '2 -2 1 -2 0' '4 -1 
 lines result 'o 2' 's OPTIMUM FOUND' 'v 011'
 paid=$'cost 2\ngiven up: 1 of 4 soft clauses\n+ 2 = 2, line 6: 2 -2 1 -2 0'
 lines proof 'count 1 1 5 0' 'form 1 4 2 3 3 2 1 1 -1 0'
-reasoned 'which clauses are meant' 0 2 'why: the last form shows at least 0' '1 times the cost' 'less 4 times clause 2: line 3: h 3 0' \
-    'less 3 times clause 3: line 6: 2 -2 1 -2 0' 'less 2 times clause 1: line 1: h 1 2 0' 'less 1 times number 1: at least 0 of these' \
+reasoned 'which clauses are meant' 0 2 'why: the last form shows at least 0' 'the cost, once' 'less clause 2, 4 times: line 3: h 3 0' \
+    'less clause 3, 3 times: line 6: 2 -2 1 -2 0' 'less clause 1, 2 times: line 1: h 1 2 0' 'less count 1, once: at least 0 of these' \
     '  given up: line 5: 3 -1 0' '  given up: line 7: 4 -1 0' '  given up: line 6: 2 -2 1 -2 0'
 # no solution
 lines text 'h 1 0' 'h -1 0' '3 1 0'
@@ -377,7 +377,7 @@ lines proof 'form 0 1 1 1 2 0' 'cut 0'
 call explain text result proof
 set_apart
 expect 'no solution, by a form' 0 "$said"$'\n2 of 2 hard clauses contradict each other:\nline 1: h 1 0\nline 2: h -1 0\nno solution
-why: the last form shows that there is no solution\n0 times the cost\nless 1 times clause 1: line 1: h 1 0\nless 1 times clause 2: line 2: h -1 0' ''
+why: the last form shows that there is no solution\nthe cost, 0 times\nless clause 1, once: line 1: h 1 0\nless clause 2, once: line 2: h -1 0' ''
 # a form of twelve facts
 awk 'BEGIN { for (i = 1; i <= 12; i++) { print "h " 2 * i - 1, 2 * i, 0; print i, 1 - 2 * i, 0; print i, -2 * i, 0 } }' > "$work/text"
 printf 'o 78\ns OPTIMUM FOUND\nv 101010101010101010101010\n' > "$work/result"
@@ -387,15 +387,16 @@ set_apart
 ok 'twelve facts: the status' [ "$status$err" = 0 ]
 ok 'twelve facts: the ten with the greatest weights' [ "$(grep -A 99 '^why' <<< "$out")" = "$(
     echo 'why: the last form shows at least 78'
-    echo '1 times the cost'
-    for i in $(seq 12 -1 3); do echo "less $i times clause $i: line $((3 * i - 2)): h $((2 * i - 1)) $((2 * i)) 0"; done
+    echo 'the cost, once'
+    for i in $(seq 12 -1 3); do echo "less clause $i, $i times: line $((3 * i - 2)): h $((2 * i - 1)) $((2 * i)) 0"; done
     echo 'less 2 further facts')" ]
 # what is listed of the certificate of a search stands in its last form
 call explain "$PWD/tests/program/cuts/network_20_1.wcnf" "$PWD/tests/program/cuts/network_20_1.result" "$PWD/tests/program/cuts/network_20_1.lrat"
 ok "a search: $status" [ "$status" = 0 ]
 form=$(awk '/^form [0-9]/ { facts = "" } /^form/ { for (i = 3; i < NF; i += 2) facts = facts $i " " $(i + 1) "\n" } END { printf "%s", facts }' \
     tests/program/cuts/network_20_1.lrat)
-listed=$(sed -n 's/^less \([0-9]*\) times clause \([0-9]*\).*/\1 \2/p; s/^less \([0-9]*\) times number \([0-9]*\).*/\1 -\2/p' <<< "$out")
+listed=$(sed -nE 's/^(less [a-z]+ [0-9]+), once/\1, 1 times/; s/^less clause ([0-9]+), ([0-9]+) times.*/\2 \1/p
+    s/^less (count|group) ([0-9]+), ([0-9]+) times.*/\3 -\2/p' <<< "$out")
 ok 'a search: its facts' [ "$(sort <<< "$form")" = "$(sort <<< "$listed")" ]
 set_apart
 ok 'a search: its lines' [ "$(head -n 8 <<< "$held")" = "$(awk '
