@@ -1,12 +1,12 @@
 #!/usr/bin/env bash
 # No law and no definition stands twice, no two laws have the same type up to the names of variables, and each lemma is
-# named: by another lemma, an answer or a line of code. Exceptions stand in tests/tree/said_twice_allowed.
+# named: by another lemma, an answer or a line of code.
 source "$(dirname "$0")/../lib"
 
 # stands_once FOLDER: the list of this folder has no row
 stands_once() {
     local rows
-    rows=$(python3 tests/tree/said_twice --types "$1" | grep -E '^(twice|alone|alike|idle) [^0-9]') || return 0
+    rows=$(python3 tests/tree/said_twice --types "$1" | grep -E '^(twice|alone|alike) [^0-9]') || return 0
     printf '%s\n' "$rows"
     return 1
 }
@@ -37,9 +37,4 @@ ok 'a law with the same type and another body is passed over' [ \
     "$(python3 tests/tree/said_twice --types "$work" | grep alike | sed -n 1p)" = \
     'alike planted/proofs/First.antt:1 adds; planted/proofs/Second.antt:1 swaps' ]
 ok 'a row of `alike` is no fault' [ -n "$(stands_once "$work" | grep alike)" ]
-mkdir -p "$work/tests/tree"
-lines tests/tree/said_twice_allowed 'planted::First::adds planted::Second::swaps # one is quoted' 'planted::First::it'
-ok 'an exception is listed, or one that is none is not' [ \
-    "$(python3 tests/tree/said_twice --types "$work" | grep -E 'alike p|idle')" = \
-    'idle said_twice_allowed:2 planted::First::it' ]
 totals

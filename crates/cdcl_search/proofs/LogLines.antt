@@ -3,7 +3,7 @@ use Rattle.std.proofs.Common.{◌≡◌, ℕ, ◌+◌, Bool, true, false, List, 
 use Rattle.std.proofs.Common.{Some, inl, inr, refl, sym, ◌∙◌, ap, subst, arith}
 use Rattle.std.specs.Prelude.{nat_eq, if◌then◌else◌, All}
 use Rattle.std.specs.List.{AllByRecursion, IsDistinct}
-use Rattle.std.proofs.lemmas.List.Elements.{All-nil, All-push, All-from_recursion}
+use Rattle.std.proofs.lemmas.List.Elements.{All-push, All-from_recursion}
 use Rattle.cnf.specs.Literal.{Literal, negation}
 use Rattle.cnf.specs.Refute.{Refutes}
 use Rattle.cnf.specs.Lrat.{Addition, Deletion, Live, with_clause, without_ids, Step}
@@ -14,7 +14,7 @@ use Rattle.lrat_log.specs.Log.{group_ids, numbered_line}
 use Rattle.lrat_log.specs.Steps.{live_after, log_live, added_count, IsBaseOf}
 use Rattle.lrat_log.specs.Steps.{AddsNoEmptyClause, IsOwnGroup}
 use Rattle.lrat_log.specs.Axioms.{IsNewClause, IsOpenStep, StaysOpenLogOver}
-use Rattle.lrat_log.proofs.Laws.{open_steps_push}
+use Rattle.lrat_log.proofs.Laws.{axiom_kept, open_steps_push}
 use Rattle.cdcl_search.specs.Hinting.{plain_hints}
 use Rattle.lrat_log.proofs.Laws.{stops_push, live_more, base_front}
 use Rattle.lrat_log.proofs.Laws.{refutes_covered, ids_covered}
@@ -135,22 +135,6 @@ log_add variables given ls l stays unrefuted a =
           )),
     ))
 
--- a clause from outside
-log_axiom : (variables : ℕ) (given : Given) (ls : List LogLine) (c : List Literal)
-    → StaysOpenLogOver variables given ls → AddsNoEmptyClause ls → IsNewClause c
-    → StaysOpenLogOver variables given (ls ++ axiom_line c ∷ [])
-log_axiom variables given ls c stays unrefuted new =
-    log_push variables given ls (axiom_line c) stays unrefuted (All-nil IsOwnGroup)
-    (λ more base above.
-    let live = live_of (given ++ more) base ls in (
-      with_clause live (base + added_count ls + 1) c,
-      inl (record {
-        kind = refl;
-        addable = next_addable (given ++ more) base ls c new;
-        live = refl;
-      }),
-    ))
-
 -- a line that adds, under which a log stays one
 pub record AddsLine (variables : ℕ) (given : Given) (ls : List LogLine) (l : LogLine) : Type 0 where
   pub names : List Name
@@ -174,7 +158,7 @@ from_outside variables given ls c new = record {
   names = [];
   adds = refl;
   plain = refl;
-  stays = λ stays unrefuted. log_axiom variables given ls c stays unrefuted new;
+  stays = λ stays unrefuted. axiom_kept variables given ls c stays unrefuted new;
 }
 
 -- a deletion of live names

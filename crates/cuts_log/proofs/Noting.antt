@@ -3,7 +3,8 @@ use Rattle.std.proofs.Common.{◌≡◌, ℕ, ◌+◌, ◌-◌, ◌<◌, Bool, t
 use Rattle.std.proofs.Common.{refl, sym, ◌∙◌, ap, append-nil, append_assoc, length-append}
 use Rattle.std.proofs.Common.{subst, arith, Option}
 use Rattle.std.proofs.lemmas.Bool.{false≢true}
-use Rattle.text.specs.Writing.{AppendsPart}
+use Rattle.text.specs.Writing.{AppendsPart, joined}
+use Rattle.text.proofs.Laws.{spaced-joined}
 use Rattle.bound.specs.Weighted.{weighted_cnf}
 use Rattle.lrat_log.specs.declared.log.TheConstants.{LINE_LIMIT}
 use Rattle.lrat_log.specs.Steps.{added_count}
@@ -11,12 +12,11 @@ use Rattle.lrat_cuts.specs.Cuts.{CutsState, cuts_start}
 use Rattle.cnf.specs.Problem.{Problem}
 use Rattle.cuts_log.specs.Books.{BookState, IsBegun, IsBook, before_of, begun_book, book_text}
 use Rattle.cuts_log.specs.Books.{failed_book, log_lines, resumed_book, seen_next}
-use Rattle.cuts_log.specs.Events.{Event, joined, lines_in, lines_of, tokens_at}
+use Rattle.cuts_log.specs.Events.{Event, lines_in, lines_of, tokens_at}
 use Rattle.cuts_log.specs.Outs.{OutState, Says, feed, fresh, with_feed}
 use Rattle.cuts_log.specs.Starts.{added_at, earlier_lines}
 use Rattle.cuts_log.proofs.EarlierLines.{lines_before-added}
 use Rattle.cuts_log.proofs.EventLines.{added-append, lines_of-push, text_of-push}
-use Rattle.cuts_log.proofs.OpenLines.{spaced-joined}
 use Rattle.cuts_log.proofs.Saying.{begun_part, says-none, says_as, says_behind, says_feed}
 use Rattle.cuts_log.proofs.Starting.{none_earlier}
 

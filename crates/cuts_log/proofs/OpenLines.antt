@@ -1,19 +1,18 @@
 -- Lines with and without their line feeds.
-use Rattle.std.proofs.Common.{◌≡◌, ℕ, ◌+◌, ◌^◌, ◌<◌, ◌≤◌, Bool, true, false, List, [], ◌∷◌, ◌++◌}
-use Rattle.std.proofs.Common.{length, map}
+use Rattle.std.proofs.Common.{◌≡◌, ℕ, ◌+◌, ◌^◌, ◌<◌, Bool, true, false, List, [], ◌∷◌, ◌++◌}
+use Rattle.std.proofs.Common.{map}
 use Rattle.std.proofs.Common.{refl, sym, ◌∙◌, ap, subst, arith, append_assoc, append-nil, inl, inr}
 use Rattle.std.specs.Prelude.{◌==◌, if◌then◌else◌}
-use Rattle.std.specs.List.{AllByRecursion, flat_map, list_all}
+use Rattle.std.specs.List.{AllByRecursion, flat_map}
 use Rattle.std.specs.Fmt.{decimal}
-use Rattle.std.proofs.lemmas.Bool.{and_parts, ne_eqb}
-use Rattle.std.proofs.lemmas.List.Elements.{All-cons, All-nil, recursion_from_All}
+use Rattle.std.proofs.lemmas.List.Elements.{All-nil, recursion_from_All}
 use lib.Chars.{codes}
 use Rattle.cnf.specs.Lrat.{Addition, Deletion, IsId}
 use Rattle.text.specs.LratText.{group_tokens, line_tokens}
 use Rattle.text.specs.Pieces.{IsEnded}
-use Rattle.text.specs.Text.{IsNoFeed, is_digit, literal_text}
-use Rattle.text.specs.Writing.{spaced}
-use Rattle.text.proofs.Laws.{digit_bounds, is_number-decimal}
+use Rattle.text.specs.Text.{IsNoFeed, literal_text}
+use Rattle.text.specs.Writing.{joined, spaced}
+use Rattle.text.proofs.Laws.{spaced-joined}
 use Rattle.lrat_log.specs.declared.lines.Hint.{Hint}
 use Rattle.lrat_log.specs.declared.lines.Hint.TheVariants.{Plain as PlainHint, Group}
 use Rattle.lrat_log.specs.declared.lines.Name.{Name}
@@ -21,27 +20,12 @@ use Rattle.lrat_log.specs.declared.lines.Name.TheVariants.{Formula, Added}
 use Rattle.lrat_log.specs.declared.log.TheConstants.{LINE_LIMIT}
 use Rattle.lrat_log.specs.Log.{HasNumber, IsLine, LogLine, group_ids, id_of, is_delete, leading_ids}
 use Rattle.lrat_log.specs.Log.{name_of, number_in, numbered_line}
-use Rattle.lrat_log.proofs.Laws.{IsWord, words_append, words_clause, zero_word}
+use Rattle.lrat_log.proofs.Laws.{dashed_word, joined_text, no_feed, number_word, words_append}
+use Rattle.lrat_log.proofs.Laws.{words_clause, zero_word}
 use Rattle.cuts_log.specs.declared.standing.Standing.{Standing}
-use Rattle.cuts_log.specs.Events.{Event, Plain, Word, joined, open_text, tokens_at}
+use Rattle.cuts_log.specs.Events.{Event, Plain, Word, open_text, tokens_at}
 use Rattle.cuts_log.specs.Stands.{TakesAll}
 use Rattle.cuts_log.proofs.LineWords.{AreWords, word_words}
-
-pub joined-last : (ts : List (List ℕ)) (u : List ℕ)
-    → joined (ts ++ u ∷ []) ≡ flat_map (λ t. t ++ 32 ∷ []) ts ++ u
-joined-last [] u = refl
-joined-last (t ∷ []) u = sym (append_assoc t (32 ∷ []) u)
-    ∙ ap (λ x. x ++ u) (sym (append-nil (t ++ 32 ∷ [])))
-joined-last (t ∷ v ∷ ts) u =
-    ap (λ x. t ++ 32 ∷ x) (joined-last (v ∷ ts) u)
-    ∙ sym (append_assoc t (32 ∷ []) (flat_map (λ x. x ++ 32 ∷ []) (v ∷ ts) ++ u))
-    ∙ sym (append_assoc (t ++ 32 ∷ []) (flat_map (λ x. x ++ 32 ∷ []) (v ∷ ts)) u)
-
-pub spaced-joined : (ts : List (List ℕ)) → spaced ts ≡ joined ts ++ 10 ∷ []
-spaced-joined [] = refl
-spaced-joined (t ∷ []) = refl
-spaced-joined (t ∷ u ∷ ts) = ap (λ x. t ++ 32 ∷ x) (spaced-joined (u ∷ ts))
-    ∙ sym (append_assoc t (32 ∷ joined (u ∷ ts)) (10 ∷ []))
 
 -- Lines with their line feeds.
 pub ended-more : (a b : List ℕ) → IsEnded a → IsEnded b → IsEnded (a ++ b)
@@ -55,50 +39,7 @@ ended_lines (ts ∷ tss) =
     ended-more (spaced ts) (flat_map spaced tss) (inr (joined ts, spaced-joined ts))
     (ended_lines tss)
 
--- And one without.
-abbrev IsAbove : List ℕ → Type 0
-IsAbove x = AllByRecursion (λ b. 32 ≤ b) x
-
-word_above : (bs rest : List ℕ) → AllByRecursion (λ c. 33 ≤ c) bs → IsAbove rest
-    → IsAbove (bs ++ rest)
-word_above [] rest h r = r
-word_above (b ∷ bs) rest h r = (omega (arith, h.0), word_above bs rest h.1 r)
-
-joined_above : (ts : List (List ℕ)) → AreWords ts → IsAbove (joined ts)
-joined_above [] h = tt
-joined_above ([] ∷ ts) h = absurd h.0
-joined_above ((b ∷ bs) ∷ []) h =
-    subst IsAbove (append-nil (b ∷ bs)) (word_above (b ∷ bs) [] h.0 tt)
-joined_above ((b ∷ bs) ∷ u ∷ ts) h =
-    word_above (b ∷ bs) (32 ∷ joined (u ∷ ts)) h.0 (omega arith, joined_above (u ∷ ts) h.1)
-
-above_feed : (x : List ℕ) → IsAbove x → IsNoFeed x
-above_feed [] h = All-nil (λ b. (b == 10) ≡ false)
-above_feed (b ∷ x) h =
-    All-cons (λ c. (c == 10) ≡ false) b x (ne_eqb b 10 (λ e. absurd (omega (arith, h.0))))
-    (above_feed x h.1)
-
 -- the tokens of an addition or a deletion
-digits_above : (ds : List ℕ) → list_all is_digit ds ≡ true → AllByRecursion (λ c. 33 ≤ c) ds
-digits_above [] e = tt
-digits_above (b ∷ ds) e =
-    let p = and_parts (is_digit b) (list_all is_digit ds) e in
-    (omega (arith, digit_bounds b p.0), digits_above ds p.1)
-
-digits_word : (ds : List ℕ) → list_all is_digit ds ≡ true → 0 < length ds → IsWord ds
-digits_word [] e h = absurd (omega arith)
-digits_word (b ∷ ds) e h = digits_above (b ∷ ds) e
-
-number_word : (n : ℕ) → n < 2 ^ 64 → IsWord (decimal n)
-number_word n h = let k = is_number-decimal n h in digits_word (decimal n) k.digits k.nonempty
-
-word_bytes : (ds : List ℕ) → IsWord ds → AllByRecursion (λ c. 33 ≤ c) ds
-word_bytes [] h = tt
-word_bytes (b ∷ ds) h = h
-
-dashed_word : (n : ℕ) → n < 2 ^ 64 → IsWord (45 ∷ decimal n)
-dashed_word n h = (omega arith, word_bytes (decimal n) (number_word n h))
-
 module _ (base : ℕ) (small : base < LINE_LIMIT) where
   id_small : (n : Name) → IsId (number_in n) → id_of base n < 2 ^ 64
   id_small (Formula i) h = omega (arith, h.1)
@@ -165,8 +106,8 @@ pub open_feed : (cost base before : ℕ) (old new : Standing) (es : List Event) 
     → before < LINE_LIMIT → TakesAll cost old es new → IsNoFeed (open_text base before es)
 open_feed cost base before old new [] small few h = All-nil (λ b. (b == 10) ≡ false)
 open_feed cost base before old new (Plain l ∷ es) small few h =
-    above_feed (joined (tokens_at base before (Plain l)))
-    (joined_above (tokens_at base before (Plain l)) (plain_words base small before l few h.1.0))
+    no_feed (joined (tokens_at base before (Plain l)))
+    (joined_text (tokens_at base before (Plain l)) (plain_words base small before l few h.1.0))
 open_feed cost base before old new (Word w made ∷ es) small few h =
-    above_feed (joined (tokens_at base before (Word w made)))
-    (joined_above (tokens_at base before (Word w made)) (word_words w h.1.numbers))
+    no_feed (joined (tokens_at base before (Word w made)))
+    (joined_text (tokens_at base before (Word w made)) (word_words w h.1.numbers))

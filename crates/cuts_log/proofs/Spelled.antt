@@ -7,7 +7,8 @@ use Rattle.std.specs.Fmt.{decimal}
 use lib.Chars.{codes}
 use Rattle.cnf.specs.Literal.{Literal}
 use Rattle.text.specs.Text.{literal_text}
-use Rattle.text.proofs.Laws.{flat_map-append}
+use Rattle.text.specs.Writing.{joined}
+use Rattle.text.proofs.Laws.{flat_map-append, joined-last}
 use Rattle.text.specs.LratText.{group_tokens, line_tokens}
 use Rattle.cnf.specs.Lrat.{Addition, Deletion}
 use Rattle.lrat_log.specs.declared.lines.Hint.{Hint}
@@ -17,11 +18,9 @@ use Rattle.lrat_log.proofs.Laws.{hints_spaced, literals_spaced, with_spaces}
 use Rattle.lrat_read.specs.Words.{NamedFact, CountLine, MoreLine, GroupLine, FormLine}
 use Rattle.lrat_read.specs.Words.{CutLine, BoundLine}
 use Rattle.lrat_read.specs.WordTokens.{fact_tokens, scale_token, word_tokens}
-use Rattle.cuts_log.specs.Events.{joined}
 use Rattle.cuts_log.specs.Facts.{fact_text, facts_text, ids_text, numbers_text}
 use Rattle.cuts_log.specs.Facts.{scale_text, spelled}
 use Rattle.forms.specs.declared.types.NamedFact.{NamedFact as FormFact}
-use Rattle.cuts_log.proofs.OpenLines.{joined-last}
 
 facts_spaced : (fs : List NamedFact) → with_spaces (flat_map fact_tokens fs) ≡ facts_text fs
 facts_spaced [] = refl

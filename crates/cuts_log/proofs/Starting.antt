@@ -72,10 +72,3 @@ resumes_right p s lines reached open_end some h = record {
   last = h.last;
   unrefuted = h.unrefuted;
 }
-
--- where a log may start, it can go on
-pub start_resumable : (p : Problem) (s : CutsState) → IsStart p s
-    → IsResumable s (weighted_cnf p).clauses
-    (length (earlier_lines (length (weighted_cnf p).clauses) s))
-start_resumable p s h =
-    record { formula = h.formula; last = h.last; count = refl; unrefuted = h.unrefuted }

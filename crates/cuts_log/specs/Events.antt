@@ -1,10 +1,10 @@
 -- The lines of a log of forms and cuts, and how they are spelled.
-use Rattle.std.specs.Prelude.{ℕ, ◌+◌, List, [], ◌∷◌, ◌++◌, map, Option}
+use Rattle.std.specs.Prelude.{ℕ, ◌+◌, List, [], ◌∷◌, map, Option}
 use Rattle.std.specs.List.{flat_map}
 use Rattle.cnf.specs.Literal.{Literal}
 use Rattle.cnf.specs.Problem.{Problem}
 use Rattle.text.specs.LratText.{line_tokens}
-use Rattle.text.specs.Writing.{spaced}
+use Rattle.text.specs.Writing.{joined, spaced}
 use Rattle.lrat_log.specs.Log.{LogLine, axiom_line, numbered_line}
 use Rattle.lrat_log.specs.Steps.{added_count}
 use Rattle.lrat_read.specs.Words.{WordLine}
@@ -34,12 +34,6 @@ lines_in (Word w made) = map axiom_line made
 
 abbrev pub lines_of : List Event → List LogLine
 lines_of es = flat_map lines_in es
-
--- tokens with single spaces
-abbrev pub joined : List (List ℕ) → List ℕ
-joined [] = []
-joined (t ∷ []) = t
-joined (t ∷ u ∷ ts) = t ++ 32 ∷ joined (u ∷ ts)
 
 -- the tokens of a line, where `before` clauses were added before it
 abbrev pub tokens_at : ℕ → ℕ → Event → List (List ℕ)

@@ -4,7 +4,8 @@ ghost use Rattle.lrat_log.specs.declared.log.TheConstants.{LINE_LIMIT};
 ghost use Rattle.lrat_log.specs.Steps.{added_count};
 ghost use Rattle.cuts_log.specs.Outs.{Says};
 ghost use Rattle.lrat_cuts.specs.Cuts.{cuts_start};
-ghost use Rattle.cuts_log.specs.Events.{Event, TraceState, joined, lines_in, tokens_at};
+ghost use Rattle.cuts_log.specs.Events.{Event, lines_in, tokens_at};
+ghost use Rattle.text.specs.Writing.{joined};
 
 use crate::out::Out;
 use crate::spelling::{

@@ -1,9 +1,7 @@
 // How the lines of a certificate are spelled: their tokens with single spaces. The line feed of a
 // line comes later.
-ghost use Rattle.std.specs.Prelude.{◌≡◌, ◌∷◌, ◌++◌, ◌<◌, [], false, map};
+ghost use Rattle.std.specs.Prelude.{◌≡◌, ◌<◌, false, map};
 ghost use Rattle.std.specs.List.{flat_map};
-ghost use Rattle.std.specs.Fmt.{decimal};
-ghost use Rattle.text.specs.Text.{literal_text};
 ghost use Rattle.cnf.specs.Lrat.{Addition, Deletion};
 ghost use Rattle.text.specs.LratText.{line_tokens};
 ghost use Rattle.lrat_log.specs.Log.{group_ids, id_of, leading_ids, name_of};
@@ -13,7 +11,7 @@ ghost use Rattle.lrat_read.specs.WordTokens.{word_tokens};
 ghost use Rattle.lrat_read.specs.Words.{CountLine as SpelledCount, MoreLine as SpelledMore};
 ghost use Rattle.lrat_read.specs.Words.{FormLine as SpelledForm, CutLine as SpelledCut};
 ghost use Rattle.lrat_read.specs.Words.{BoundLine as SpelledBound, GroupLine as SpelledGroup};
-ghost use Rattle.cuts_log.specs.Events.{joined};
+ghost use Rattle.text.specs.Writing.{joined};
 ghost use Rattle.cuts_log.specs.Outs.{Says};
 ghost use Rattle.cuts_log.specs.Facts.{fact_text, ids_text, numbers_text, scale_text};
 ghost use Rattle.cuts_log.specs.Facts.{spelled};

@@ -1,22 +1,25 @@
 -- Logs that take clauses from outside, beside those that take none.
 use Rattle.std.proofs.Common.{◌≡◌, ℕ, ◌+◌, true, false, List, [], ◌∷◌, ◌++◌, Some, inl, inr}
 use Rattle.std.proofs.Common.{refl, sym, ◌∙◌, ap, subst, arith, append_assoc, append-nil}
-use Rattle.std.specs.Prelude.{nat_eq, map}
+use Rattle.std.specs.Prelude.{All, nat_eq, map}
 use Rattle.std.specs.List.{AllByRecursion, IsDistinct}
 use Rattle.std.proofs.lemmas.Bool.{both_ways, cond-false, false≢true}
+use Rattle.std.proofs.lemmas.List.Elements.{All-nil, All-push}
 use Rattle.cnf.specs.Literal.{Literal}
 use Rattle.cnf.specs.Lrat.{ProofLine, Addition, Deletion, Live, Step, Chain, IsAddable, with_clause}
 use Rattle.cnf.specs.Lrat.{without_ids}
 use Rattle.lrat_log.specs.declared.lines.Kind.{Kind}
 use Rattle.lrat_log.specs.declared.lines.Kind.TheVariants.{Learned, Unit, Resolvent, Definition}
 use Rattle.lrat_log.specs.declared.lines.Kind.TheVariants.{Weaker, Delete, Empty, Axiom}
-use Rattle.lrat_log.specs.Log.{LogLine, Given, start_over, is_delete, is_axiom, id_of, name_of}
-use Rattle.lrat_log.specs.Log.{leading_ids, group_ids, numbered_line, numbered_on, numbered_lines}
+use Rattle.lrat_log.specs.Log.{LogLine, Given, axiom_line, start_over, is_delete, is_axiom, id_of}
+use Rattle.lrat_log.specs.Log.{name_of, leading_ids, group_ids, numbered_line, numbered_on}
+use Rattle.lrat_log.specs.Log.{numbered_lines}
 use Rattle.lrat_log.specs.Steps.{live_after, IsLogOver, StaysLogOver, added_count}
+use Rattle.lrat_log.specs.Steps.{AddsNoEmptyClause, IsOwnGroup}
 use Rattle.lrat_log.specs.Axioms.{IsOpenStep, OpenChain, IsOpenLogOver, StaysOpenLogOver}
-use Rattle.lrat_log.specs.Axioms.{TakesNoAxiom, FollowByRup}
-use Rattle.lrat_log.proofs.Additions.{after_line, count_step, numbered_on-append}
-use Rattle.lrat_log.proofs.Growing.{chain_join}
+use Rattle.lrat_log.specs.Axioms.{IsNewClause, TakesNoAxiom, FollowByRup}
+use Rattle.lrat_log.proofs.Additions.{after_line, count_step, last_numbered, numbered_on-append}
+use Rattle.lrat_log.proofs.Growing.{chain_join, stops_push}
 
 -- a line from outside adds
 pub axiom_adds : (k : Kind) → is_axiom k ≡ true → is_delete k ≡ false
@@ -157,6 +160,35 @@ open_steps_push given base ls l after w s =
     subst (OpenChain base 0 start (ls ++ l ∷ []))
     (live_end start after (numbered_lines base (ls ++ l ∷ []))
     (live_chain base 0 start after (ls ++ l ∷ []) whole)) whole
+
+-- a clause from outside at the end of a log
+pub axiom_kept : (variables : ℕ) (given : Given) (ls : List LogLine) (c : List Literal)
+    → StaysOpenLogOver variables given ls → AddsNoEmptyClause ls → IsNewClause c
+    → StaysOpenLogOver variables given (ls ++ axiom_line c ∷ [])
+axiom_kept variables given ls c stays unrefuted new more small =
+    let all = given ++ more in
+    let old = stays more small in
+    record {
+      steps =
+          λ base above.
+          let live : Live = live_after (start_over all base) (numbered_lines base ls) in
+          let id = base + added_count ls + 1 in
+          let last = last_numbered base 0 ls (start_over all base) (omega arith) in
+          open_steps_push all base ls (axiom_line c) (with_clause live id c) (old.steps base above)
+          (inl (record {
+            kind = refl;
+            addable = record {
+              rising = omega (arith, last);
+              no_repeat = new.no_repeat;
+              no_tautology = new.no_tautology;
+              small = new.small;
+            };
+            live = refl;
+          }));
+      stops = stops_push ls (axiom_line c) unrefuted;
+      groups = All-push (λ k. All IsOwnGroup k.hints) ls (axiom_line c) old.groups
+          (All-nil IsOwnGroup);
+    }
 
 -- a log to which lines came, none from outside
 pub own_log : (given : Given) (front more : List LogLine) → IsLogOver given front

@@ -10,19 +10,19 @@ use Rattle.std.specs.Fmt.{decimal}
 use Rattle.std.proofs.lemmas.Bool.{and_parts, ne_eqb}
 use Rattle.std.proofs.lemmas.List.{append-nil}
 use Rattle.std.proofs.lemmas.List.Splits.{slice_split_at, length-slice_split}
-use Rattle.std.proofs.lemmas.List.Elements.{All-from_recursion, recursion_from_All, All-head}
-use Rattle.std.proofs.lemmas.List.Elements.{All-tail}
+use Rattle.std.proofs.lemmas.List.Elements.{All-cons, All-from_recursion, All-head, All-nil}
+use Rattle.std.proofs.lemmas.List.Elements.{All-tail, recursion_from_All}
 use lib.Chars.{codes}
 use Rattle.cnf.specs.Literal.{Literal}
 use Rattle.text.specs.Text.{is_blank, begins_with_token, put_byte, tokens_of, token_lines}
-use Rattle.text.specs.Text.{literal_text, is_digit}
-use Rattle.text.specs.Writing.{spaced}
+use Rattle.text.specs.Text.{IsNoFeed, literal_text, is_digit}
+use Rattle.text.specs.Writing.{joined, spaced}
 use Rattle.cnf.specs.Lrat.{ProofLine, Addition, Deletion, CandidateHints}
 use Rattle.text.specs.LratText.{group_tokens}
 use Rattle.cnf.specs.Lrat.{IsId}
 use Rattle.text.specs.LratText.{line_tokens, has_tokens, HasNumbers, IsTextOf}
 use Rattle.cnf.proofs.Laws.{GroupHasIds}
-use Rattle.text.proofs.Laws.{digit_bounds, is_number-decimal, parts-cons}
+use Rattle.text.proofs.Laws.{digit_bounds, is_number-decimal, parts-cons, spaced-joined}
 use Rattle.lrat_log.specs.declared.lines.Hint.{Hint}
 use Rattle.lrat_log.specs.declared.lines.Hint.TheVariants.{Plain, Group}
 use Rattle.lrat_log.specs.declared.lines.Name.{Name}
@@ -37,18 +37,6 @@ use Rattle.lrat_log.proofs.Additions.{additions_cons, count_step}
 abbrev pub IsWord : List ℕ → Type 0
 IsWord [] = ⊥
 IsWord (b ∷ bs) = (33 ≤ b) × AllByRecursion (λ c. 33 ≤ c) bs
-
--- the line without its line feed
-abbrev pub joined : List (List ℕ) → List ℕ
-joined [] = []
-joined (t ∷ []) = t
-joined (t ∷ u ∷ ts) = t ++ 32 ∷ joined (u ∷ ts)
-
-pub spaced-joined : (ts : List (List ℕ)) → spaced ts ≡ joined ts ++ 10 ∷ []
-spaced-joined [] = refl
-spaced-joined (t ∷ []) = refl
-spaced-joined (t ∷ u ∷ ts) = ap (λ x. t ++ 32 ∷ x) (spaced-joined (u ∷ ts))
-    ∙ sym (append_assoc t (32 ∷ joined (u ∷ ts)) (10 ∷ []))
 
 not_blank : (b : ℕ) → 33 ≤ b → is_blank b ≡ false
 not_blank b h =
@@ -85,7 +73,7 @@ word_text : (bs rest : List ℕ) → AllByRecursion (λ c. 33 ≤ c) bs → IsLi
 word_text [] rest h k = k
 word_text (b ∷ bs) rest h k = (omega (arith, h.0), word_text bs rest h.1 k)
 
-joined_text : (ts : List (List ℕ)) → AllByRecursion IsWord ts → IsLineText (joined ts)
+pub joined_text : (ts : List (List ℕ)) → AllByRecursion IsWord ts → IsLineText (joined ts)
 joined_text [] h = tt
 joined_text ([] ∷ ts) h = absurd h.0
 joined_text ((b ∷ bs) ∷ []) h =
@@ -101,15 +89,16 @@ no_return (b ∷ x) (suc i) h = no_return x i h.1
 abbrev is_feed : ℕ → Bool
 is_feed b = b == 10
 
-no_feed : (x : List ℕ) → IsLineText x → AllByRecursion (λ b. is_feed b ≡ false) x
-no_feed [] h = tt
-no_feed (b ∷ x) h = (ne_eqb b 10 (λ e. absurd (omega (arith, h.0))), no_feed x h.1)
+pub no_feed : (x : List ℕ) → IsLineText x → IsNoFeed x
+no_feed [] h = All-nil (λ b. (b == 10) ≡ false)
+no_feed (b ∷ x) h =
+    All-cons (λ c. (c == 10) ≡ false) b x (ne_eqb b 10 (λ e. absurd (omega (arith, h.0))))
+    (no_feed x h.1)
 
 line_first : (x rest : List ℕ) → IsLineText x → lines (x ++ 10 ∷ rest) ≡ x ∷ lines rest
 line_first x rest h =
     let stripped : strip_carriage_return x ≡ x = rw (no_return x (length x - 1) h) refl in
-    ap lines_of_parts (slice_split_at is_feed x 10 rest
-    (All-from_recursion (λ b. is_feed b ≡ false) x (no_feed x h)) refl)
+    ap lines_of_parts (slice_split_at is_feed x 10 rest (no_feed x h) refl)
     ∙ parts-cons x (slice_split is_feed rest) (omega (arith, length-slice_split is_feed rest))
     ∙ ap (λ y. y ∷ lines rest) stripped
 
@@ -159,20 +148,22 @@ digits_word : (ds : List ℕ) → list_all is_digit ds ≡ true → 0 < length d
 digits_word [] e h = absurd (omega arith)
 digits_word (b ∷ ds) e h = digits_text (b ∷ ds) e
 
+pub number_word : (n : ℕ) → n < 2 ^ 64 → IsWord (decimal n)
+number_word n h = let k = is_number-decimal n h in digits_word (decimal n) k.digits k.nonempty
+
 pub decimal_word : (n : ℕ) → n < 2 ^ 62 → IsWord (decimal n)
-decimal_word n h = let k = is_number-decimal n (omega arith) in
-    digits_word (decimal n) k.digits k.nonempty
+decimal_word n h = number_word n (omega (arith, h))
 
 word_from : (ds : List ℕ) → IsWord ds → AllByRecursion (λ c. 33 ≤ c) ds
 word_from [] h = tt
 word_from (b ∷ ds) h = h
 
-dashed_word : (n : ℕ) → n < 2 ^ 62 → IsWord (45 ∷ decimal n)
-dashed_word n h = (omega arith, word_from (decimal n) (decimal_word n h))
+pub dashed_word : (n : ℕ) → n < 2 ^ 64 → IsWord (45 ∷ decimal n)
+dashed_word n h = (omega arith, word_from (decimal n) (number_word n h))
 
 pub literal_word : (s : Bool) (v : ℕ) → v < 2 ^ 62 → IsWord (if s then 45 ∷ decimal v else decimal
     v)
-literal_word true v h = dashed_word v h
+literal_word true v h = dashed_word v (omega (arith, h))
 literal_word false v h = decimal_word v h
 
 pub words_append : (xs ys : List (List ℕ)) → AllByRecursion IsWord xs → AllByRecursion IsWord ys
@@ -193,7 +184,7 @@ words_groups : (gs : List CandidateHints) → AllByRecursion GroupHasIds gs
     → AllByRecursion IsWord (flat_map group_tokens gs)
 words_groups [] h = tt
 words_groups (g ∷ gs) h = (
-  dashed_word g.candidate h.0.0.1,
+  dashed_word g.candidate (omega (arith, h.0.0.1)),
   words_append (map decimal g.hints) (flat_map group_tokens gs)
       (words_decimal g.hints (recursion_from_All IsId g.hints h.0.1)) (words_groups gs h.1),
 )

@@ -274,7 +274,7 @@ pub fn render(log: &Log, base: u64) -> Result<Vec<u8>, AllocError>
 /// # Errors
 ///
 /// `WriteFault` where the writer answered `Err`, or took none of the bytes that it was given. It
-/// has then a beginning of the text, and is not called again.
+/// then has a beginning of the text, and is not called again.
 pub fn write_to<W: Write>(log: &Log, base: u64, writer: &mut W) -> Result<(), WriteFault>
     requires room { base + added_count log.now < NUMBER_LIMIT }
     requires ids { HasSmallIds base log.now }

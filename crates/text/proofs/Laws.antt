@@ -11,6 +11,7 @@ pub use Rattle.text.proofs.Numbers.{literal_of-text, number_of-decimal, number_o
 pub use Rattle.text.proofs.Numbers.{text-literal_of}
 pub use Rattle.text.proofs.Passing.{first_fault, part-more, passed-more, passed-nil}
 pub use Rattle.text.proofs.Passing.{passed_fault, passed_part, passed_part-more, passed_whole}
-pub use Rattle.text.proofs.Passing.{part-kept, puts_after, spaced-last, writes-part}
+pub use Rattle.text.proofs.Passing.{joined-last, part-kept, puts_after, spaced-joined, spaced-last}
+pub use Rattle.text.proofs.Passing.{writes-part}
 pub use Rattle.text.proofs.Passing.{writes_after, writes_as}
 pub use Rattle.text.proofs.Passing.{writes_kept, writes_next}

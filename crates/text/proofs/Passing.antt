@@ -4,7 +4,7 @@ use Rattle.std.proofs.Common.{OnErr, refl, sym, ◌∙◌, ap, subst, append_ass
 use Rattle.std.specs.Io.KnownBytes.{Appends, Keeps}
 use Rattle.std.proofs.KnownBytes.{Appends-kept, Appends-nil, Appends-trans}
 use Rattle.std.specs.List.{flat_map}
-use Rattle.text.specs.Writing.{spaced, AppendsPart, PassesOn, Writes, Puts}
+use Rattle.text.specs.Writing.{spaced, joined, AppendsPart, PassesOn, Writes, Puts}
 
 pub passed-nil : (a : Option (List ℕ)) (held : List ℕ) → PassesOn a held [] a held
 passed-nil a held = record { written = []; appended = Appends-nil a; split = append-nil held }
@@ -115,12 +115,24 @@ first_fault a b h x rest all p e =
     (part-more a b (h ++ x) rest p))
 
 -- tokens with a last one
+pub spaced-joined : (ts : List (List ℕ)) → spaced ts ≡ joined ts ++ 10 ∷ []
+spaced-joined [] = refl
+spaced-joined (t ∷ []) = refl
+spaced-joined (t ∷ u ∷ ts) = ap (λ x. t ++ 32 ∷ x) (spaced-joined (u ∷ ts))
+    ∙ sym (append_assoc t (32 ∷ joined (u ∷ ts)) (10 ∷ []))
+
+pub joined-last : (ts : List (List ℕ)) (u : List ℕ)
+    → joined (ts ++ u ∷ []) ≡ flat_map (λ t. t ++ 32 ∷ []) ts ++ u
+joined-last [] u = refl
+joined-last (t ∷ []) u = sym (append_assoc t (32 ∷ []) u)
+    ∙ ap (λ x. x ++ u) (sym (append-nil (t ++ 32 ∷ [])))
+joined-last (t ∷ v ∷ ts) u =
+    ap (λ x. t ++ 32 ∷ x) (joined-last (v ∷ ts) u)
+    ∙ sym (append_assoc t (32 ∷ []) (flat_map (λ x. x ++ 32 ∷ []) (v ∷ ts) ++ u))
+    ∙ sym (append_assoc (t ++ 32 ∷ []) (flat_map (λ x. x ++ 32 ∷ []) (v ∷ ts)) u)
+
 pub spaced-last : (ts : List (List ℕ)) (u : List ℕ)
     → spaced (ts ++ u ∷ []) ≡ flat_map (λ t. t ++ 32 ∷ []) ts ++ (u ++ 10 ∷ [])
-spaced-last [] u = refl
-spaced-last (t ∷ []) u = sym (append_assoc t (32 ∷ []) (u ++ 10 ∷ []))
-    ∙ ap (λ x. x ++ (u ++ 10 ∷ [])) (sym (append-nil (t ++ 32 ∷ [])))
-spaced-last (t ∷ v ∷ ts) u =
-    ap (λ x. t ++ 32 ∷ x) (spaced-last (v ∷ ts) u)
-    ∙ sym (append_assoc t (32 ∷ []) (flat_map (λ x. x ++ 32 ∷ []) (v ∷ ts) ++ (u ++ 10 ∷ [])))
-    ∙ sym (append_assoc (t ++ 32 ∷ []) (flat_map (λ x. x ++ 32 ∷ []) (v ∷ ts)) (u ++ 10 ∷ []))
+spaced-last ts u = spaced-joined (ts ++ u ∷ [])
+    ∙ ap (λ x. x ++ 10 ∷ []) (joined-last ts u)
+    ∙ append_assoc (flat_map (λ t. t ++ 32 ∷ []) ts) u (10 ∷ [])

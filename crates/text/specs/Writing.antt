@@ -9,6 +9,12 @@ spaced [] = 10 ∷ []
 spaced (t ∷ []) = t ++ 10 ∷ []
 spaced (t ∷ u ∷ ts) = t ++ 32 ∷ spaced (u ∷ ts)
 
+-- the same without the line feed
+abbrev pub joined : List (List ℕ) → List ℕ
+joined [] = []
+joined (t ∷ []) = t
+joined (t ∷ u ∷ ts) = t ++ 32 ∷ joined (u ∷ ts)
+
 -- the text begins with part
 abbrev pub Begins : List ℕ → List ℕ → Type 0
 Begins part text = (rest : List ℕ) × (text ≡ part ++ rest)

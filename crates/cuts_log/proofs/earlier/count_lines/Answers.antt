@@ -1,5 +1,5 @@
 -- An addition that is live and empty is one of those that the lines add.
-use Rattle.std.proofs.Common.{◌≡◌, suc, ◌+◌, ◌-◌, ◌<◌, [], Option, Some, None, ap, sym, ◌∙◌, arith}
+use Rattle.std.proofs.Common.{◌≡◌, suc, ◌+◌, ◌-◌, ◌<◌, Option, Some, None, ap, ◌∙◌, arith}
 use Rattle.std.proofs.Common.{rules}
 use Rattle.std.specs.Prelude.{IfNone}
 use Rattle.lrat_live.specs.Listed.{listed_at}

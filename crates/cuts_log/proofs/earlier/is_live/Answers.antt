@@ -1,7 +1,6 @@
 -- The clause that is found is the one at the place, or another; or there is none.
-use Rattle.std.proofs.Common.{◌≡◌, Some, None, sym, ◌∙◌, ap, rules, arith}
+use Rattle.std.proofs.Common.{◌≡◌, Some, sym, ◌∙◌, ap, rules}
 use Rattle.std.specs.Option.{option_copied}
-use Rattle.std.specs.Prelude.{Option}
 use Rattle.std.proofs.lemmas.Bool.{false≢true}
 use Rattle.std.proofs.lemmas.Slice.Eq.{slice_eq-Decides}
 use Rattle.cuts_log.proofs.earlier.is_live.Goals as goal

@@ -1,5 +1,5 @@
 -- The line feed that was due is put first.
-use Rattle.std.proofs.Common.{◌≡◌, true, false, refl, sym, ◌∙◌, ap}
+use Rattle.std.proofs.Common.{true, false, refl, sym, ◌∙◌, ap}
 use Rattle.std.proofs.lemmas.Bool.{true≢false}
 use Rattle.cuts_log.specs.Books.{BookState}
 use Rattle.cuts_log.proofs.Noting.{flushes}

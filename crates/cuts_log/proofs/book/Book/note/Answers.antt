@@ -1,9 +1,8 @@
 -- The line's text is put behind what was put.
-use Rattle.std.proofs.Common.{◌≡◌, ◌+◌, ◌<◌, ◌++◌, false, length, refl, sym, ◌∙◌, ap, arith}
+use Rattle.std.proofs.Common.{◌≡◌, ◌+◌, ◌<◌, false, length, refl, sym, ◌∙◌, ap, arith}
 use Rattle.lrat_log.specs.declared.log.TheConstants.{LINE_LIMIT}
 use Rattle.cuts_log.specs.Books.{BookState}
-use Rattle.cuts_log.specs.Events.{joined, lines_in, tokens_at}
-use Rattle.cuts_log.specs.Outs.{Says, feed}
+use Rattle.cuts_log.specs.Events.{lines_in}
 use Rattle.cuts_log.proofs.Noting.{fails_at, notes}
 use Rattle.cuts_log.proofs.Saying.{says-more}
 use Rattle.cuts_log.proofs.book.Book.note.Goals as goal

@@ -7,7 +7,7 @@ use Rattle.cuts_log.specs.Books.{resumed_book}
 use Rattle.cuts_log.specs.Given.{all_live}
 use Rattle.cuts_log.specs.Starts.{IsResumable}
 use Rattle.cuts_log.proofs.Starting.{resumes_right}
-use Rattle.cuts_log.proofs.log.go_on.Goals as goal
+use Rattle.cuts_log.proofs.log.resuming.go_on.Goals as goal
 
 pub returns-clause-begun : goal.returns-clause-begun
 returns-clause-begun g c =
