@@ -6,6 +6,7 @@ ghost use Rattle.cdcl_search.specs.Invariant.{zero_of};
 ghost use Rattle.cdcl_search.specs.Running.{Runs};
 ghost use Rattle.cdcl.specs.Guiding.{FindsCore};
 
+use crate::assumptions::Assumptions;
 use crate::budget::Budget;
 use cdcl_search::cores::{Refusal, learn_core};
 use cdcl_search::input::Input;
@@ -17,8 +18,8 @@ use std::alloc::AllocError;
 
 /// The core that an assumption gives which is false: some of the assumptions, which cannot hold
 /// together. Its clause is learned at level 0, for a unit of the budget, unless some live clause
-/// has no literals but its. None where the literal is no assumption that is false, and where it
-/// rests on more than assumptions.
+/// has no literals but its. None where they did not stop the search at one that is false, and where
+/// that rests on more than assumptions.
 ///
 /// # Errors
 ///
@@ -28,8 +29,7 @@ pub fn find_core<S: Sink>(
     input: &Input,
     sink: &mut S,
     budget: &mut Budget,
-    assumptions: &[Lit],
-    falsified: Lit,
+    assumptions: &Assumptions,
 ) -> Result<Option<Vec<Lit>>, AllocError>
     requires runs { Runs search.old input.now (S.lines sink.old) }
     requires noted { length (zero_of search.old.engine.trail) ≤ search.old.noted }
@@ -38,10 +38,13 @@ pub fn find_core<S: Sink>(
         (S.lines sink.new) budget.old budget.new }
     ensures follows { (first : S) → S.follows first sink.old → S.follows first sink.new }
 {
-    if !is_refused(&search.engine, assumptions, falsified) {
+    let Some(falsified) = assumptions.falsified() else {
+        return Ok(None);
+    };
+    if !is_refused(&search.engine, assumptions.lits(), falsified) {
         return Ok(None);
     }
-    let refusal = search.refuse(assumptions, falsified)?;
+    let refusal = search.refuse(assumptions.lits(), falsified)?;
     match refusal {
         Refusal::Shown(core) => Ok(Some(core)),
         Refusal::Follows(core, clause) => {

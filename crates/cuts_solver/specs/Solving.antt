@@ -30,7 +30,7 @@ use Rattle.cdcl.specs.declared.guided.GuidedEnd.TheVariants.{Satisfied as HasMod
 use Rattle.cdcl.specs.declared.guided.GuidedEnd.TheVariants.{Refuted as HasNone}
 use Rattle.cdcl.specs.declared.guided.GuidedEnd.TheVariants.{Stopped as HasStopped}
 use Rattle.cdcl.specs.declared.guided.GuidedEnd.TheVariants.{Spent as HasSpent}
-use Rattle.cuts_solver.specs.declared.solver.TheConstants.{IDS_A_LINE, IDS_OF_COUNTS}
+use Rattle.cuts_solver.specs.declared.solver.resuming.TheConstants.{IDS_A_LINE, IDS_OF_COUNTS}
 use Rattle.cuts_solver.specs.declared.solver.SolverEnd.{SolverEnd}
 use Rattle.cuts_solver.specs.declared.solver.SolverEnd.TheVariants.{Satisfied, Refuted, Stopped}
 use Rattle.cuts_solver.specs.declared.solver.SolverEnd.TheVariants.{Spent}

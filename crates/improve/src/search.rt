@@ -125,30 +125,37 @@ pub fn improve_watched<T: Progress, W: Watch>(
     }
 }
 
-/// As `improve_watched`, but the first solution is given: the bits satisfy the hard clauses, and
-/// there may be more of them than variables. It is made cheaper by the local search, told for one
-/// unit of the budget, and never dearer than what was given. No solution of the hard clauses is
-/// searched for, so their log is empty. The search below its cost tries its values first. Where
-/// nothing is left of the budget, nothing is found.
+/// Where a search begins that need look for no first solution.
+#[derive(Drop)]
+pub struct Beginning {
+    /// A solution: it satisfies the hard clauses. There may be more bits than variables.
+    pub bits: Vec<bool>,
+    /// How soft clauses are relaxed.
+    pub profile: Profile,
+}
+
+/// As `improve_watched`, but the first solution is given. It is made cheaper by the local search,
+/// told for one unit of the budget, and never dearer than what was given. No solution of the hard
+/// clauses is searched for, so their log is empty. The search below its cost tries its values
+/// first. Where nothing is left of the budget, nothing is found.
 ///
 /// # Errors
 ///
 /// Those of `improve`.
 pub fn improve_from<T: Progress, W: Watch>(
     instance: &Instance,
-    bits: Vec<bool>,
+    beginning: Beginning,
     budget: &mut Budget,
     progress: &mut T,
-    profile: Profile,
     watch: &mut W,
 ) -> Result<Found, ImproveFault>
     requires failures { CanFail (T.state progress.old) }
-    requires solution { AreFeasible instance.now bits.items }
+    requires solution { AreFeasible instance.now beginning.bits.items }
     ensures follows { (first : T) → T.follows first progress.old → T.follows first progress.new }
     ensures shown { AreShown instance.now (T.state progress.old) (T.state progress.new)
         (W.seen watch.old) (W.seen watch.new) }
     ensures waives { WaivesAs budget.old budget.new (W.waived watch.old) (W.waived watch.new) }
-    ensures improves { Improves profile instance.now result
+    ensures improves { Improves beginning.profile instance.now result
         (T.state progress.old) (T.state progress.new)
         budget.old budget.new }
 {
@@ -156,6 +163,7 @@ pub fn improve_from<T: Progress, W: Watch>(
     if budget.left() == 0 {
         return Ok(conclude_nothing(instance, hard));
     }
+    let Beginning { bits, profile } = beginning;
     let first = price_polished(instance, bits);
     budget.count_answer();
     let start = Start {

@@ -8,6 +8,7 @@ use crate::found::CutsFound;
 use crate::parts::numbered_in;
 use crate::session::Session;
 use crate::walks::Walks;
+use adder::relaxations::Relaxation;
 use cdcl::budget::Budget;
 use cnf::types::Instance;
 use cuts_solver::solver::CutsSolver;
@@ -31,6 +32,8 @@ pub struct CutsTask<'i> {
     pub proved: u64,
     /// About how many clauses were learned or cut by the lines before; 0 where there are none.
     pub learned: u64,
+    /// What each soft clause costs, by `bound::weighted::weights`, if that was made before.
+    pub weights: Option<Vec<Relaxation>>,
 }
 
 /// Looks for an optimum with a solver of the instance: for solutions, each cheaper than those
@@ -68,6 +71,7 @@ pub fn improve_by_cuts<W: Write + Drop, T: Progress, K: Watch>(
         start,
         proved,
         learned,
+        weights,
     } = task;
     if start.is_some() && budget.left() == 0 {
         return Ok(CutsFound {
@@ -91,7 +95,7 @@ pub fn improve_by_cuts<W: Write + Drop, T: Progress, K: Watch>(
         walks: &mut walks,
         fault: None,
     };
-    match session.run(start) {
+    match session.run(start, weights) {
         Ok(is_proved) => Ok(CutsFound { best, is_proved }),
         Err(fault) => {
             drop(best);

@@ -1,11 +1,12 @@
 // The course of a search: its beginning, its rounds and its end.
-ghost use Rattle.std.specs.Prelude.{◌≡◌, ◌<◌, ◌⊎◌, true, false, None, IfOk, IfErr, IfSome, OnOk};
+ghost use Rattle.std.specs.Prelude.{◌≡◌, ◌<◌, ◌⊎◌, true, None, IfOk, IfErr, IfSome, OnOk};
 ghost use Rattle.cdcl_order.specs.Budgets.{WaivesAs, left_of};
 ghost use Rattle.improve.specs.Watch.{AreShown};
 ghost use Rattle.improve_cuts.specs.ByCuts.{BeginsOn, BeginsWith, SameOrigin, FindsByCuts};
 ghost use Rattle.improve_cuts.specs.Sessions.{EndsWithout, HasCome, IsFaultOf, found_by};
 
 use crate::session::Session;
+use adder::relaxations::Relaxation;
 use bound::weighted::weights;
 use cuts_cores::desk::{Desk, DeskFault};
 use cuts_policy::rounds::search;
@@ -27,14 +28,19 @@ impl<'i, 's, 'b, 'p, 'k, 'm, 'w, W: Write + Drop, T: Progress, K: Watch> Session
     T,
     K,
 > {
-    /// Runs the search, which begins with this solution, if there is one. Whether it is proved that
-    /// nothing is cheaper than the best solution; else the budget is spent.
+    /// Runs the search, which begins with this solution, if there is one. `made` says what each soft
+    /// clause costs, if that was made before. Whether it is proved that nothing is cheaper than the
+    /// best solution; else the budget is spent.
     ///
     /// # Errors
     ///
     /// `Memory` where memory was refused or a write of the log has failed, `Progress` where a cost
     /// could not be told.
-    pub fn run(&mut self, start: Option<Solution>) -> Result<bool, ImproveFault>
+    pub fn run(
+        &mut self,
+        start: Option<Solution>,
+        made: Option<Vec<Relaxation>>,
+    ) -> Result<bool, ImproveFault>
         requires works { (self.old.fault ≡ None) × (self.old.best.now ≡ None) }
         requires left { IfSome start (λ _. 0 < left_of self.old.budget.now) }
         requires begun { BeginsOn self.old.instance.now start self.old.solver.now }
@@ -58,7 +64,7 @@ impl<'i, 's, 'b, 'p, 'k, 'm, 'w, W: Write + Drop, T: Progress, K: Watch> Session
             self.old.budget.now self.new.budget.now }
     {
         self.begin(start);
-        let ended = self.search_rounds();
+        let ended = self.search_rounds(made);
         self.end(ended)
     }
 
@@ -98,14 +104,14 @@ impl<'i, 's, 'b, 'p, 'k, 'm, 'w, W: Write + Drop, T: Progress, K: Watch> Session
     }
 
     /// Searches until nothing is cheaper, or the budget is spent. All lines are written then.
-    fn search_rounds(&mut self) -> Result<(), DeskFault>
+    fn search_rounds(&mut self, made: Option<Vec<Relaxation>>) -> Result<(), DeskFault>
         ensures ended { OnOk result ((self.new.solver.now.refuted ≡ true)
             ⊎ (left_of self.new.budget.now ≡ 0)) }
         ensures follows { (first : _)
             → ⟦<Session<'i, 's, 'b, 'p, 'k, 'm, 'w, W, T, K> as Desk>⟧.follows first self.old
             → ⟦<Session<'i, 's, 'b, 'p, 'k, 'm, 'w, W, T, K> as Desk>⟧.follows first self.new }
     {
-        let weights = match self.solver.take_weights() {
+        let weights = match made {
             Some(weights) => weights,
             None => weights(self.instance)?,
         };

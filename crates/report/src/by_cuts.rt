@@ -1,17 +1,17 @@
 //! The run by forms and cuts: a text in, a result out, and a certificate that is written while the
 //! search goes on.
-ghost use Rattle.std.specs.Prelude.{◌≡◌, ◌<◌, ℕ, List, Option, Err, true};
+ghost use Rattle.std.specs.Prelude.{◌≡◌, ◌<◌, ℕ, List, Option, Err, true, length};
 ghost use Rattle.std.specs.Prelude.{IfOk, IfErr, IfSome, IsSome};
 ghost use Rattle.cdcl_order.specs.Budgets.{WaivesAs};
 ghost use Rattle.cuts_log.specs.Judging.{IsEarlier};
 ghost use Rattle.cuts_log.specs.Logs.{problem_of, start_of};
 ghost use Rattle.cuts_log.specs.Starts.{IsReached};
-ghost use Rattle.cuts_solver.specs.Solving.{IsRightText};
+ghost use Rattle.cuts_solver.specs.Solving.{CanResume, IsRightText};
 ghost use Rattle.improve_cuts.specs.ByCuts.{BeginsOn};
 ghost use Rattle.report.specs.ByCuts.{EndsBehind, EndsByCuts, IsSeenByCuts, LeavesBehind};
 ghost use Rattle.report.specs.ByCuts.{LeavesByCuts};
 ghost use Rattle.cnf.specs.declared.limits.TheConstants.{NUMBER_LIMIT};
-ghost use Rattle.report.specs.Earlier.{EndsAt, IsDearer, IsRightUpTo};
+ghost use Rattle.report.specs.Earlier.{EndsAt, IsDearer, IsRightUpTo, room_for};
 ghost use Rattle.report.specs.Running.{ReadsOnlyAs};
 
 mod beginning;
@@ -132,7 +132,7 @@ impl<'s, 'b, 'o, 'w, O: Write, K: RunWatch> Run<'s, 'b, 'o, 'w, O, K> {
             (K.waived self.old.watch.now) (K.waived self.new.watch.now) }
     {
         instance.limits();
-        let Ok(solver) = CutsSolver::new(instance, count_room(instance), proof) else {
+        let Ok(started) = CutsSolver::new(instance, count_room(instance), proof) else {
             return CutsRun {
                 proof: None,
                 ended: Err(RunFault::Memory),
@@ -144,8 +144,9 @@ impl<'s, 'b, 'o, 'w, O: Write, K: RunWatch> Run<'s, 'b, 'o, 'w, O, K> {
             start,
             proved: 0,
             learned: 0,
+            weights: Some(started.weights),
         };
-        self.run_by_cuts(CutsSearch { alloc, task }, solver)
+        self.run_by_cuts(CutsSearch { alloc, task }, started.solver)
     }
 
     /// As `solve_read_by_cuts`, with a certificate that goes on behind the lines of an earlier one:
@@ -199,6 +200,8 @@ impl<'s, 'b, 'o, 'w, O: Write, K: RunWatch> Run<'s, 'b, 'o, 'w, O, K> {
             → cost < NUMBER_LIMIT) }
         ensures dear { IfErr result (λ e. (cost : ℕ) → e ≡ CannotResume.Lacking cost
             → IfSome self.old.start.now (λ bits. IsDearer instance.now cost bits.items)) }
+        ensures unfit { IfErr result (λ e. e ≡ CannotResume.Unfit
+            → CanResume instance.now earlier.machine (room_for (length instance.now.soft)) → ⊥) }
     {
         instance.limits();
         let start = first_solution(instance, self.start.take());
@@ -216,6 +219,7 @@ impl<'s, 'b, 'o, 'w, O: Write, K: RunWatch> Run<'s, 'b, 'o, 'w, O, K> {
             start,
             proved: earlier.proved(),
             learned: earlier.learned(),
+            weights: None,
         };
         let search = CutsSearch { alloc, task };
         if earlier.has_ended() {
@@ -283,6 +287,7 @@ impl<'s, 'b, 'o, 'w, O: Write, K: RunWatch> Run<'s, 'b, 'o, 'w, O, K> {
             start,
             proved: 0,
             learned: 0,
+            weights: None,
         };
         Ok(self.run_at_once(CutsSearch { alloc, task }, proof))
     }

@@ -19,7 +19,7 @@ use cdcl::budget::Budget;
 use cnf::types::Instance;
 use improve::found::{Found, ImproveFault};
 use improve::progress::Progress;
-use improve::search::{improve_from, improve_watched};
+use improve::search::{Beginning, improve_from, improve_watched};
 use std::alloc::Global;
 use std::io::{Read, Write};
 use wcnf::reading::read_from;
@@ -184,7 +184,13 @@ fn search<T: Progress, K: RunWatch>(
     match start {
         Some(bits) => {
             if is_solution(instance, &bits) {
-                improve_from(instance, bits, budget, progress, profile, watch)
+                improve_from(
+                    instance,
+                    Beginning { bits, profile },
+                    budget,
+                    progress,
+                    watch,
+                )
             } else {
                 improve_watched(instance, budget, progress, profile, watch)
             }

@@ -8,6 +8,11 @@ use Rattle.cdcl.proofs.Guiding.{finds_none, finds_fails, open_writes, paid_nothi
 use Rattle.cdcl.proofs.Guiding.{waived_kept, waived_of}
 use Rattle.cdcl.proofs.core_finding.find_core.Goals as goal
 
+pub returns-in_default-clause-finds : goal.returns-in_default-clause-finds
+returns-in_default-clause-finds g c =
+    finds_none c.args.search.now c.args.search.now c.args.input.now c.args.assumptions.now
+    (g.S.Sink.lines c.args.sink.now) c.args.budget.now c.requires.runs refl
+
 pub returns-then-not-is_refused-clause-finds : goal.returns-then-not-is_refused-clause-finds
 returns-then-not-is_refused-clause-finds g c =
     finds_none c.args.search.now c.args.search.now c.args.input.now c.args.assumptions.now
@@ -39,7 +44,8 @@ returns-in-Shown-clause-finds g c =
       shown = subst (λ (s : Search). IsShown (s.store).slots asked c.in-Shown.core.items)
           (sym same)
           (subst (IsRefusal c.args.search.now asked) c.in-Shown.is
-          c.in_ok-refusal.ensures.refusal);
+          (subst (λ x. IsRefusal c.args.search.now x c.in_ok-refusal.refusal) c.lits-2.ensures
+          c.in_ok-refusal.ensures.refusal));
       pays = paid_nothing p.given ls b;
       kept = refl;
       err = tt;
@@ -69,7 +75,8 @@ returns-in_ok-learn_core-in-Follows-clause-finds g c =
     let paid = c.count_learned.new.self in
     let refusal =
     subst (IsRefusal c.args.search.now c.args.assumptions.now) c.in-Follows.is
-    c.in_ok-refusal.ensures.refusal in
+    (subst (λ x. IsRefusal c.args.search.now x c.in_ok-refusal.refusal) c.lits-2.ensures
+    c.in_ok-refusal.ensures.refusal) in
     let learns = c.in_ok-learn_core-in-Follows.ensures.learns in
     record {
       runs = learns.runs;

@@ -16,7 +16,7 @@ conclude_nothing-requires-clause-hard g c =
 
 pub conclude_nothing-requires-clause-open : goal.conclude_nothing-requires-clause-open
 conclude_nothing-requires-clause-open g c =
-    solved_open c.args.instance.now c.args.bits.items c.requires.solution
+    solved_open c.args.instance.now c.args.beginning.bits.items c.requires.solution
 
 pub lower-requires-clause-hard : goal.lower-requires-clause-hard
 lower-requires-clause-hard g c =
@@ -29,8 +29,8 @@ returns-then-left-eq0-clause-improves g c =
     let r = c.conclude_nothing in
     let empty = ap learned_count c.new-hard.ensures in
     let none : left_of now ≡ 0 = omega (arith, c.left.ensures.left) in
-    found_end c.args.profile p _ _ now now refl [] (sym (append-nil _)) (Ok r.result) tt
-    (All-nil (IsCostOfSome p)) refl tt (r.ensures.found c.args.profile) (omega arith)
+    found_end c.args.beginning.profile p _ _ now now refl [] (sym (append-nil _)) (Ok r.result) tt
+    (All-nil (IsCostOfSome p)) refl tt (r.ensures.found c.args.beginning.profile) (omega arith)
     (on_work_weaker (Ok r.result) _ (λ w. now.learned ≡ now.learned + work_count w)
     (λ w x. omega (arith, x, empty)) r.ensures.work)
     (on_work_weaker (Ok r.result) _ (λ w. left_of now ≡ 0) (λ w x. none) r.ensures.work)

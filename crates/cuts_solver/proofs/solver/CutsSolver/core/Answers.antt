@@ -1,14 +1,9 @@
 use Rattle.std.proofs.Common.{◌≡◌, true, false, refl, sym, ◌∙◌, ap, subst}
-use Rattle.cuts_log.specs.Logs.{SameLog, lines_seen}
-use Rattle.cdcl.proofs.Laws.{paid_nothing}
+use Rattle.cuts_log.specs.Logs.{SameLog}
 use Rattle.cuts_solver.specs.Solving.{SolverState}
 use Rattle.cuts_solver.proofs.Searching.{searched_fails, searched_on}
 use Rattle.cuts_solver.proofs.Working.{same_log}
 use Rattle.cuts_solver.proofs.solver.CutsSolver.core.Goals as goal
-
-pub returns-in_default-clause-pays : goal.returns-in_default-clause-pays
-returns-in_default-clause-pays g c =
-    let s = c.args.self.now in paid_nothing (s.input).given (lines_seen s.log) c.args.budget.now
 
 pub invariant_of-self : goal.invariant_of-self
 invariant_of-self g c =

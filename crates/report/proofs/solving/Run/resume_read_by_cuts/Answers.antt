@@ -1,9 +1,9 @@
 -- The run is one behind the lines that were judged, or has ended with them.
-use Rattle.std.proofs.Common.{◌≡◌, ℕ, ◌<◌, ◌≤◌, ◌∙◌, Err, false, inl, inr, sym, subst}
-use Rattle.std.specs.Prelude.{IfSome, Result}
+use Rattle.std.proofs.Common.{◌≡◌, ℕ, ◌<◌, ◌≤◌, ◌∙◌, Err, arith, false, inl, inr, sym, subst}
+use Rattle.std.specs.Prelude.{IfNone, IfSome, Result}
 use Rattle.cnf.specs.declared.limits.TheConstants.{NUMBER_LIMIT}
 use Rattle.cuts_log.specs.Logs.{start_of}
-use Rattle.cuts_solver.specs.Solving.{instance_of}
+use Rattle.cuts_solver.specs.Solving.{CanResume, instance_of}
 use Rattle.improve_cuts.specs.ByCuts.{BeginsWith}
 use Rattle.report.specs.declared.earlier.CannotResume.{CannotResume}
 use Rattle.report.specs.declared.earlier.CannotResume.TheVariants.{Lacking, Unfit}
@@ -155,3 +155,22 @@ returns-in-Err-clause-dear g c = λ cost is.
     subst (λ o. IfSome o (λ bits. IsDearer p cost bits.items)) c.take.ensures.value
     (start_dearer p cost c.take.result first (λ v. v.items) c.first_solution-start.ensures.cost
     dear)
+
+-- what a search cannot go on with
+other : (a : CannotResume) (cost : ℕ) → a ≡ Lacking cost → a ≡ Unfit → ⊥
+other a cost lacking unfit = absurd (cc)
+
+pub returns-in-Err-clause-unfit : goal.returns-in-Err-clause-unfit
+returns-in-Err-clause-unfit g c = λ is can.
+    let some = subst (λ z. 0 < z) (sym c.worth.ensures.worth) (can.start).some in
+    elim (c.in-Err.ensures.refused) [
+      | inl zero ↦ absurd (omega (arith, some, zero))
+      | inr h ↦ absurd (other c.in-Err.refusal c.worth.result h.1 is)
+    ]
+
+pub returns-in-Ok-None-clause-unfit : goal.returns-in-Ok-None-clause-unfit
+returns-in-Ok-None-clause-unfit g c = λ is can.
+    let p = c.args.instance.now in
+    let refused = subst (λ o. IfNone o (CanResume p c.args.earlier.machine c.count_room.result → ⊥))
+    c.in-Ok-None.field-0-is c.in-Ok-None.ensures.refused in
+    refused (subst (CanResume p c.args.earlier.machine) (sym c.count_room.ensures) can)

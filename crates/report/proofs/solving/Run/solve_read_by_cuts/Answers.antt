@@ -19,7 +19,7 @@ pub returns-clause-ok : goal.returns-clause-ok
 returns-clause-ok g c text r =
     let n = c.in-Ok.ensures in
     let e = c.run_by_cuts in
-    let b = nothing_before c.in-Ok.solver.log (n.start ∙ ap cuts_start (sym n.problem)) in
+    let b = nothing_before c.in-Ok.started.solver.log (n.start ∙ ap cuts_start (sym n.problem)) in
     ends_as g.P.Write.contents e.result.proof e.result.ended [] text
     (g.O.Write.contents c.args.self.now.out.now) (g.O.Write.contents e.new.self.out.now)
     e.new.self.budget.now _ _ n.origin c.args.self.now.budget.now _ _ n.cost
@@ -29,7 +29,7 @@ pub returns-clause-fault : goal.returns-clause-fault
 returns-clause-fault g c text r =
     let n = c.in-Ok.ensures in
     let e = c.run_by_cuts in
-    let b = nothing_before c.in-Ok.solver.log (n.start ∙ ap cuts_start (sym n.problem)) in
+    let b = nothing_before c.in-Ok.started.solver.log (n.start ∙ ap cuts_start (sym n.problem)) in
     leaves_as g.P.Write.contents e.result.proof e.result.ended [] text
     (g.O.Write.contents c.args.self.now.out.now) (g.O.Write.contents e.new.self.out.now)
     e.new.self.budget.now _ _ n.origin (e.ensures.fault text r [] b)

@@ -1,7 +1,7 @@
 use Rattle.std.proofs.Common.{subst, sym}
 use Rattle.std.proofs.lemmas.Result.{on_ok_weaker}
 use Rattle.cdcl_search.specs.Running.{Runs}
-use Rattle.cuts_solver.proofs.solver.give_cut.Goals as goal
+use Rattle.cuts_solver.proofs.solver.proposing.give_cut.Goals as goal
 
 pub returns : goal.returns
 returns g c =

@@ -1,5 +1,5 @@
 -- One addition after the other comes.
-use Rattle.std.proofs.Common.{◌≡◌, ℕ, suc, ◌+◌, ◌-◌, ◌<◌, true, false, ◌++◌, inl, inr, subst, sym}
+use Rattle.std.proofs.Common.{◌≡◌, suc, ◌+◌, ◌-◌, true, ◌++◌, inl, inr, subst, sym}
 use Rattle.std.proofs.Common.{◌∙◌, ap, arith, rules}
 use Rattle.std.specs.Prelude.{IfSome}
 use Rattle.std.proofs.lemmas.Bool.{cases_eq}
@@ -7,7 +7,7 @@ use Rattle.lrat_live.specs.Listed.{listed_at}
 use Rattle.cdcl_search.specs.Running.{Runs}
 use Rattle.cuts_log.specs.Starts.{added_at, lines_before, lines_for}
 use Rattle.cuts_solver.specs.Solving.{CanCome}
-use Rattle.cuts_solver.proofs.solver.take_earlier.Goals as goal
+use Rattle.cuts_solver.proofs.solver.resuming.take_earlier.Goals as goal
 
 pub loop-number-preserved : goal.loop-number-preserved
 loop-number-preserved c =

@@ -5,7 +5,7 @@ use Rattle.lrat_live.specs.Listed.{listed_at}
 use Rattle.cdcl_search.specs.Running.{Runs}
 use Rattle.cuts_log.specs.Starts.{added_at, lines_before}
 use Rattle.cuts_solver.specs.Solving.{CanCome}
-use Rattle.cuts_solver.proofs.solver.take_earlier.Given as goal
+use Rattle.cuts_solver.proofs.solver.resuming.take_earlier.Given as goal
 
 abbrev pub invariant-loop-number : goal.invariant-loop-number
 invariant-loop-number l = record {

@@ -5,7 +5,7 @@ use Rattle.lrat_log.specs.Log.{LogLine, axiom_line}
 use Rattle.cdcl_search.specs.Running.{Runs}
 use Rattle.cuts_log.specs.Logs.{lines_seen}
 use Rattle.cuts_log.specs.Made.{IsMadeClause}
-use Rattle.cuts_solver.proofs.solver.give_made.Given as goal
+use Rattle.cuts_solver.proofs.solver.proposing.give_made.Given as goal
 
 abbrev pub invariant-loop-clause : goal.invariant-loop-clause
 invariant-loop-clause g l = (front : List LogLine) × Runs l.search l.input front

@@ -3,7 +3,7 @@ use Rattle.std.proofs.Common.{append_assoc}
 use Rattle.std.specs.List.{AllByRecursion}
 use Rattle.lrat_log.specs.Log.{axiom_line}
 use Rattle.cuts_log.specs.Made.{IsMadeClause}
-use Rattle.cuts_solver.proofs.solver.give_made.Goals as goal
+use Rattle.cuts_solver.proofs.solver.proposing.give_made.Goals as goal
 
 pub loop-clause-preserved : goal.loop-clause-preserved
 loop-clause-preserved g c =

@@ -10,7 +10,7 @@ use Rattle.lrat_log.specs.Log.{LogLine, axiom_line}
 use Rattle.cdcl_search.specs.Running.{Runs}
 use Rattle.cuts_log.specs.Starts.{lines_for}
 use Rattle.cuts_solver.specs.Solving.{CanCome}
-use Rattle.cuts_solver.proofs.solver.take_addition.Goals as goal
+use Rattle.cuts_solver.proofs.solver.resuming.take_addition.Goals as goal
 
 pub returns-in-Some-clause-takes : goal.returns-in-Some-clause-takes
 returns-in-Some-clause-takes c =
