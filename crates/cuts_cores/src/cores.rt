@@ -19,6 +19,7 @@ mod settling;
 use crate::counting::Counting;
 use crate::desk::{Desk, DeskFault, Trial};
 use crate::items::Items;
+use crate::ordering::least_common_first;
 use crate::resuming::resume_cores;
 use crate::shortening::{Shortened, negations, shorten};
 use crate::tables::at;
@@ -284,8 +285,9 @@ impl Cores {
         Ok(Course::GoesOn)
     }
 
-    /// Takes the cores one after the other, as long as all their literals have a rest. The turn is
-    /// over where nothing came of them, and no more than `start` clauses were learned.
+    /// Takes the cores one after the other, those that have the least in common with the others
+    /// first, as long as all their literals have a rest. The turn is over where nothing came of
+    /// them, and no more than `start` clauses were learned.
     fn take_all<D: Desk>(
         &mut self,
         desk: &mut D,
@@ -295,7 +297,8 @@ impl Cores {
         ensures follows { (first : D) → D.follows first desk.old → D.follows first desk.new }
     {
         let mut is_idle = true;
-        for core in cores.iter() {
+        let order = least_common_first(desk.allocator(), cores, desk.last())?;
+        for core in &order {
             if !self.is_open(desk, core) {
                 is_idle = false;
                 continue;

@@ -8,6 +8,7 @@ pub mod cores;
 mod counting;
 pub mod desk;
 mod items;
+mod ordering;
 mod resuming;
 mod shortening;
 pub mod tables;
