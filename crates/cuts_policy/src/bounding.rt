@@ -1,7 +1,12 @@
 // The present form as a bound of the search, as pseudo-Boolean solvers use theirs (Chai and
 // Kuehlmann, "A fast pseudo-Boolean constraint solver", 2003): where what is true already costs
-// too much, that is a conflict, and its clause is a cut. Conflicts alone: what the bound implies is
-// left to propagation after the next cut.
+// too much, that is a conflict, and its clause is a cut.
+//
+// What would be too much beside what is true is false: the bound implies that. It is decided, the
+// dearest first, on a level of its own, and no reason is made for it. Where analysis ends at such a
+// decision, what is learned makes the literal true, and the cut is the next conflict: so a reason
+// is made where it is asked for. Against conflicts alone that takes 0.92 of the conflicts, and 0.74
+// on networks (docs/EXPERIMENTS.md).
 //
 // The sum is kept by the trail: what comes to the trail is looked at once, and what leaves it is
 // taken off again. A cut has the first costly literals of the trail that are too much together,
@@ -43,6 +48,10 @@ pub(crate) struct BoundGuide {
     sum: u128,
     // The costly ones among them, in the order of the trail.
     paid: Vec<Paid>,
+    // The literals that cost something, the dearest first.
+    costly: Vec<Lit>,
+    // Of those before this place each has a value.
+    next: usize,
     // The last cut: literals that are false; none before the first one.
     cut: Vec<Lit>,
     // At how many propagations of the search it stops, less `EACH` for each literal of a cut; at 0
@@ -58,12 +67,15 @@ impl BoundGuide {
             return Ok(None);
         };
         let alloc = desk.allocator();
+        let weights = open_weights(desk, limit.saturating_add(1))?;
         Ok(Some(BoundGuide {
-            weights: open_weights(desk, limit.saturating_add(1))?,
+            costly: dearest_first(desk, &weights)?,
+            weights,
             limit,
             seen: 0,
             sum: 0,
             paid: Vec::new(alloc),
+            next: 0,
             cut: Vec::new(alloc),
             until,
         }))
@@ -86,6 +98,22 @@ impl BoundGuide {
         }
         self.seen = trail.len();
         Ok(())
+    }
+
+    /// The dearest literal without a value, where it is too much beside what is true.
+    fn too_dear(&mut self, search: &Search) -> Option<Lit> {
+        let room = (self.limit as u128).saturating_sub(self.sum);
+        for place in self.next..self.costly.len() {
+            let lit = at(&self.costly, place);
+            if at(&self.weights, lit.index()) as u128 <= room {
+                return None;
+            }
+            if is_open(search, lit) {
+                return Some(lit);
+            }
+            self.next = place;
+        }
+        None
     }
 
     /// How many of the first costly literals are too much together, and by how much more than need
@@ -205,6 +233,27 @@ fn open_weights<D: Desk>(desk: &D, most: u64) -> Result<Vec<u64>, AllocError> {
     Ok(weights)
 }
 
+/// The literals that cost something by these weights, the dearest first.
+fn dearest_first<D: Desk>(desk: &D, weights: &[u64]) -> Result<Vec<Lit>, AllocError> {
+    let mut costly = Vec::new(desk.allocator());
+    for variable in 1..desk.forms().variables().saturating_add(1) {
+        let lit = Lit::new(variable, false);
+        if at(weights, lit.index()) > 0 {
+            costly.push(lit)?;
+        }
+        if at(weights, lit.negation().index()) > 0 {
+            costly.push(lit.negation())?;
+        }
+    }
+    costly.sort_by_key(|lit| u64::MAX.saturating_sub(at(weights, lit.index())))?;
+    Ok(costly)
+}
+
+/// Whether the literal has no value, and may get one.
+fn is_open(search: &Search, lit: Lit) -> bool {
+    lit.variable() <= search.engine.variables() && search.engine.value(lit).is_none()
+}
+
 /// The level of the literal, if it has one.
 fn level_of(search: &Search, lit: Lit) -> Option<u32> {
     if lit.variable() > search.engine.variables() {
@@ -222,7 +271,10 @@ impl Guide for BoundGuide {
         }
         self.look(search.engine.trail())?;
         if self.sum <= self.limit as u128 {
-            return Ok(Advice::Free);
+            return Ok(match self.too_dear(search) {
+                Some(lit) => Advice::Decide(lit.negation()),
+                None => Advice::Free,
+            });
         }
         let levels = self.make_cut(search)?;
         let work = (self.cut.len() as u64).saturating_mul(EACH);
@@ -249,5 +301,6 @@ impl Guide for BoundGuide {
             self.paid.pop();
         }
         self.seen = self.seen.min(assigned);
+        self.next = 0;
     }
 }
