@@ -1,8 +1,9 @@
 // The order in which the cores of one search are taken. A core takes all that is left of one of its
-// literals at least, and so closes the others that this literal stands in. Those that have the least
-// in common with the others come first, as in greedy methods for independent sets: that leaves the
-// most of them open. Against the order in which they were found that takes 0.9 of the conflicts. The
-// shortest first was as good in sum, but took 1.4 times as many on set covers (docs/EXPERIMENTS.md).
+// literals at least, and so closes the others that this literal stands in. Those that have the
+// least in common with the others come first, as in greedy methods for independent sets: that
+// leaves the most of them open. Against the order in which they were found that takes 0.9 of the
+// conflicts. The shortest first was as good in sum, but took 1.4 times as many on set covers
+// (docs/EXPERIMENTS.md).
 
 use crate::tables::{at, set};
 use cnf::clause_list::ClauseList;

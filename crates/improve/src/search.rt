@@ -125,7 +125,7 @@ pub fn improve_watched<T: Progress, W: Watch>(
     }
 }
 
-/// Where a search begins that need look for no first solution.
+/// What a search begins with that has a first solution already.
 #[derive(Drop)]
 pub struct Beginning {
     /// A solution: it satisfies the hard clauses. There may be more bits than variables.

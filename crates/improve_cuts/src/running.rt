@@ -28,9 +28,9 @@ impl<'i, 's, 'b, 'p, 'k, 'm, 'w, W: Write + Drop, T: Progress, K: Watch> Session
     T,
     K,
 > {
-    /// Runs the search, which begins with this solution, if there is one. `made` says what each soft
-    /// clause costs, if that was made before. Whether it is proved that nothing is cheaper than the
-    /// best solution; else the budget is spent.
+    /// Runs the search, which begins with this solution, if there is one. `made` says what each
+    /// soft clause costs, if that was made before. Whether it is proved that nothing is cheaper
+    /// than the best solution; else the budget is spent.
     ///
     /// # Errors
     ///

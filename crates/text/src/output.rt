@@ -108,8 +108,8 @@ impl Block {
     ///
     /// # Errors
     ///
-    /// `WriteFault` where the writer failed. The writer then has a beginning of what the block held,
-    /// and the block is empty.
+    /// `WriteFault` where the writer failed. The writer then has a beginning of what the block
+    /// held, and the block is empty.
     pub fn flush<W: Write>(&mut self, writer: &mut W) -> Result<(), WriteFault>
         ensures writes { Writes result (W.contents writer.old) self.old (W.contents writer.new) }
         ensures empty { self.new ≡ [] }
