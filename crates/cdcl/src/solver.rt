@@ -4,9 +4,10 @@ ghost use Rattle.std.specs.Prelude.{OnErr, IsErr, ◌↔◌, ◌⊎◌, ◌<◌}
 ghost use Rattle.cnf.specs.Clause.{has_repeat, is_tautology};
 ghost use Rattle.lrat_log.specs.Steps.{IsLogOver, learned_count, IsShortLine};
 ghost use Rattle.cdcl_order.specs.Budgets.{WaivesAs};
+ghost use Rattle.cdcl.specs.declared.guided.GuidedEnd.TheVariants.{Refuted, Stopped};
 ghost use Rattle.cdcl.specs.declared.outcome.Outcome.TheVariants.{Unsat};
 ghost use Rattle.cdcl_search.specs.Running.{Runs, IsInput, StaysOpen};
-ghost use Rattle.cdcl.specs.Guiding.{IsRefutedAtOnce};
+ghost use Rattle.cdcl.specs.Guiding.{GuidedEnds, IsRefutedAtOnce};
 ghost use Rattle.cdcl.specs.Outcomes.{IsAnswer, PaysFor};
 ghost use Rattle.cdcl.specs.Solving.{Solves, given_to, SameGiven, GivesMore};
 ghost use Rattle.cdcl.specs.Solving.{lines_since};
@@ -15,7 +16,7 @@ ghost use Rattle.cdcl_search.specs.Giving.{IsFreshName, IsFrozen};
 use crate::answers::bits;
 use crate::budget::Budget;
 use crate::guide::Undirected;
-use crate::guided::{GuidedEnd, search_guided};
+use crate::guided::{Course, GuidedEnd};
 use crate::outcome::{Outcome, SolveFault};
 use crate::tally::Tally;
 use crate::watch::{SearchWatch, Unwatched};
@@ -24,6 +25,7 @@ use cdcl_search::giving::{ask_variables, give};
 use cdcl_search::input::Input;
 use cdcl_search::search::Search;
 use cdcl_search::starting::{start, store_of};
+use cnf::marks::Marks;
 use cnf::types::{Formula, Lit};
 use eliminate::elimination::eliminate;
 use lrat_log::lines::Name;
@@ -307,7 +309,7 @@ fn answer<S: Sink, W: SearchWatch>(
     ensures same_seen { W.seen watch.new ≡ W.seen watch.old }
     ensures waives { WaivesAs budget.old budget.new (W.waived watch.old) (W.waived watch.new) }
 {
-    let end = search_guided(search, input, tally, &mut Undirected, budget, watch)?;
+    let end = search_undirected(search, input, tally, budget, watch)?;
     match end {
         GuidedEnd::Satisfied => {
             let bits = bits(search, input)?;
@@ -318,4 +320,33 @@ fn answer<S: Sink, W: SearchWatch>(
         GuidedEnd::Spent => Ok(Outcome::Limit),
         GuidedEnd::Stopped => unreachable!(),
     }
+}
+
+/// Searches from level 0 until it has an answer or the budget is spent.
+fn search_undirected<S: Sink, W: SearchWatch>(
+    search: &mut Search,
+    input: &Input,
+    sink: &mut S,
+    budget: &mut Budget,
+    watch: &mut W,
+) -> Result<GuidedEnd, AllocError>
+    requires runs { Runs search.old input.now (S.lines sink.old) }
+    ensures search { GuidedEnds result search.new input.now (S.lines sink.old) (S.lines sink.new)
+        budget.old budget.new }
+    ensures at_once { IfOk result (λ end.
+        IsRefutedAtOnce input.now (S.lines sink.old) → end ≡ Refuted) }
+    ensures stops { result ≡ Ok Stopped → ⊥ }
+    ensures sink_follows { (first : S) → S.follows first sink.old → S.follows first sink.new }
+    ensures same_seen { W.seen watch.new ≡ W.seen watch.old }
+    ensures waives { WaivesAs budget.old budget.new (W.waived watch.old) (W.waived watch.new) }
+{
+    let mut marks = Marks::empty(search.store.allocator());
+    let mut course = Course {
+        search,
+        input,
+        sink,
+        budget,
+        marks: &mut marks,
+    };
+    course.run(&mut Undirected, watch)
 }

@@ -211,15 +211,31 @@ impl Cores {
         };
         let start = desk.learned();
         let mut guide = Assumptions::new(alloc, assumed, share, Passed::new(alloc, room));
-        match desk.assume(&mut guide)? {
+        let trial = desk.assume(&mut guide);
+        self.follow(desk, trial, guide.passed(), start)
+    }
+
+    /// What follows from a search of the stratum: `passed` are the cores that it went past, and
+    /// `start` clauses were learned before it.
+    fn follow<D: Desk>(
+        &mut self,
+        desk: &mut D,
+        trial: Result<Trial, DeskFault>,
+        passed: &Passed,
+        start: u64,
+    ) -> Result<Course, DeskFault>
+        ensures follows { (first : D) → D.follows first desk.old → D.follows first desk.new }
+    {
+        match trial? {
             Trial::Refuted | Trial::Spent => Ok(Course::Ended),
             Trial::Met => self.after_solution(desk),
             Trial::Core(lits) => {
+                let alloc = desk.allocator();
                 let mut one = ClauseList::new(alloc);
                 one.push(&negations(alloc, &lits)?)?;
                 self.take_all(desk, &one, start)
             }
-            Trial::Stopped => self.take_all(desk, &guide.passed().clauses, start),
+            Trial::Stopped => self.take_all(desk, &passed.clauses, start),
         }
     }
 

@@ -146,7 +146,10 @@ fn find_core<D: Desk>(
     let alloc = desk.allocator();
     let assumed = negations_without(alloc, lits, without)?;
     let mut guide = Assumptions::new(alloc, assumed, share, Passed::new(alloc, 0));
-    match desk.assume(&mut guide)? {
+    let trial = desk.assume(&mut guide);
+    // By a call: that is proved once, and not field by field at each exit.
+    drop(guide);
+    match trial? {
         Trial::Core(core) => Ok(Shortened::Core(negations(alloc, &core)?)),
         Trial::Met | Trial::Stopped => Ok(Shortened::Open),
         Trial::Refuted | Trial::Spent => Ok(Shortened::Ended),

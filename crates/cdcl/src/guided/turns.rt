@@ -26,22 +26,27 @@ use std::alloc::AllocError;
 
 /// What a search that a guide leads works on. Each reference has a lifetime of its own.
 #[derive(Drop)]
-pub(crate) struct Course<'q, 'i, 's, 'b, 'm, S: Sink> {
+pub struct Course<'q, 'i, 's, 'b, 'm, S: Sink> {
     /// The search itself.
-    pub(crate) search: &'q mut Search,
+    pub search: &'q mut Search,
     /// What it was given.
-    pub(crate) input: &'i Input,
+    pub input: &'i Input,
     /// What its lines go to.
-    pub(crate) sink: &'s mut S,
+    pub sink: &'s mut S,
     /// What it may spend.
-    pub(crate) budget: &'b mut Budget,
+    pub budget: &'b mut Budget,
     /// By which it sees whether the literals of a clause from outside are of different variables.
-    pub(crate) marks: &'m mut Marks,
+    pub marks: &'m mut Marks,
 }
 
 impl<'q, 'i, 's, 'b, 'm, S: Sink> Course<'q, 'i, 's, 'b, 'm, S> {
-    /// As `search_guided`, with all that this course is of.
-    pub(super) fn run<G: Guide, W: SearchWatch>(
+    /// Searches from level 0, led by the guide, until it has an answer or the budget is spent.
+    ///
+    /// # Errors
+    ///
+    /// `AllocError` where memory was refused, here or by the guide or the sink: the search cannot
+    /// go on. The log stays open.
+    pub fn run<G: Guide, W: SearchWatch>(
         &mut self,
         guide: &mut G,
         watch: &mut W,

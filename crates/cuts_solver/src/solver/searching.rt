@@ -14,8 +14,9 @@ use cdcl::assumptions::Assumptions;
 use cdcl::budget::Budget;
 use cdcl::core_finding::find_core;
 use cdcl::guide::Guide;
-use cdcl::guided::{GuidedEnd, search_guided};
+use cdcl::guided::{Course, GuidedEnd};
 use cdcl::watch::SearchWatch;
+use cnf::marks::Marks;
 use cnf::types::Lit;
 use cuts_log::law::texts_are_right;
 use std::alloc::AllocError;
@@ -57,14 +58,15 @@ impl<W: Write + Drop> CutsSolver<W> {
         ensures follows { (first : G) → G.follows first guide.old → G.follows first guide.new }
     {
         self.failed = true;
-        let end = search_guided(
-            &mut self.search,
-            &self.input,
-            &mut self.log,
-            guide,
+        let mut marks = Marks::empty(self.search.store.allocator());
+        let mut course = Course {
+            search: &mut self.search,
+            input: &self.input,
+            sink: &mut self.log,
             budget,
-            watch,
-        )?;
+            marks: &mut marks,
+        };
+        let end = course.run(guide, watch)?;
         if self.log.has_failed() {
             return Err(AllocError);
         }

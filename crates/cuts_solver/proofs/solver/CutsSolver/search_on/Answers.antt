@@ -17,21 +17,21 @@ invariant_of-self g c =
       failed = c.self.inside.failed;
     } in
     let new : SolverState = record {
-      search = c.search_guided.new.search;
+      search = c.run.new.self.search.now;
       input = c.self.inside.input;
-      log = c.search_guided.new.sink;
+      log = c.run.new.self.sink.now;
       refuted = c.self.inside.refuted;
       failed = true;
     } in
-    let same = c.search_guided.ensures.sink_follows old.log (same_log old.log) in
+    let same = c.run.ensures.sink_follows old.log (same_log old.log) in
     let e = c.in_err-end.ensures.search in
-    searched_fails old new c.args.budget.now c.search_guided.new.budget c.self.invariant same refl
+    searched_fails old new c.args.budget.now c.run.new.self.budget.now c.self.invariant same refl
     e.pays (e.err).stays refl refl
 
 pub returns-in_err-end-clause-same : goal.returns-in_err-end-clause-same
 returns-in_err-end-clause-same g c =
-    subst (λ (s : SolverState). SameLog s.log c.search_guided.new.sink) c.self.view_is
-    (c.search_guided.ensures.sink_follows c.self.inside.log (same_log c.self.inside.log))
+    subst (λ (s : SolverState). SameLog s.log c.run.new.self.sink.now) c.self.view_is
+    (c.run.ensures.sink_follows c.self.inside.log (same_log c.self.inside.log))
 
 pub invariant_of-self-then-has_failed : goal.invariant_of-self-then-has_failed
 invariant_of-self-then-has_failed g c =
@@ -43,22 +43,22 @@ invariant_of-self-then-has_failed g c =
       failed = c.self.inside.failed;
     } in
     let new : SolverState = record {
-      search = c.search_guided.new.search;
+      search = c.run.new.self.search.now;
       input = c.self.inside.input;
-      log = c.search_guided.new.sink;
+      log = c.run.new.self.sink.now;
       refuted = c.self.inside.refuted;
       failed = true;
     } in
-    let same = c.search_guided.ensures.sink_follows old.log (same_log old.log) in
+    let same = c.run.ensures.sink_follows old.log (same_log old.log) in
     let e = c.in_ok-end.ensures.search in
-    let left = c.search_guided.new.budget in
+    let left = c.run.new.self.budget.now in
     searched_fails old new c.args.budget.now left c.self.invariant same refl e.pays
     (ended_stays new left c.in_ok-end.end e.ends) refl refl
 
 pub returns-then-has_failed-clause-same : goal.returns-then-has_failed-clause-same
 returns-then-has_failed-clause-same g c =
-    subst (λ (s : SolverState). SameLog s.log c.search_guided.new.sink) c.self.view_is
-    (c.search_guided.ensures.sink_follows c.self.inside.log (same_log c.self.inside.log))
+    subst (λ (s : SolverState). SameLog s.log c.run.new.self.sink.now) c.self.view_is
+    (c.run.ensures.sink_follows c.self.inside.log (same_log c.self.inside.log))
 
 pub invariant_of-self-then-is_refutation : goal.invariant_of-self-then-is_refutation
 invariant_of-self-then-is_refutation g c =
@@ -70,17 +70,17 @@ invariant_of-self-then-is_refutation g c =
       failed = c.self.inside.failed;
     } in
     let new : SolverState = record {
-      search = c.search_guided.new.search;
+      search = c.run.new.self.search.now;
       input = c.self.inside.input;
-      log = c.search_guided.new.sink;
+      log = c.run.new.self.sink.now;
       refuted = true;
       failed = false;
     } in
-    let same = c.search_guided.ensures.sink_follows old.log (same_log old.log) in
+    let same = c.run.ensures.sink_follows old.log (same_log old.log) in
     let works : old.failed ≡ false =
     ap (λ (s : SolverState). s.failed) c.self.view_is ∙ c.requires.works in
     let e = c.in_ok-end.ensures.search in
-    let left = c.search_guided.new.budget in
+    let left = c.run.new.self.budget.now in
     let is = c.is_refutation.ensures.yes c.if-is_refutation.true in
     let ended =
     subst (IsGuidedEnd new.search new.input (lines_seen new.log) left) is e.ends in
@@ -92,8 +92,8 @@ invariant_of-self-then-is_refutation g c =
 
 pub returns-then-is_refutation-clause-same : goal.returns-then-is_refutation-clause-same
 returns-then-is_refutation-clause-same g c =
-    subst (λ (s : SolverState). SameLog s.log c.search_guided.new.sink) c.self.view_is
-    (c.search_guided.ensures.sink_follows c.self.inside.log (same_log c.self.inside.log))
+    subst (λ (s : SolverState). SameLog s.log c.run.new.self.sink.now) c.self.view_is
+    (c.run.ensures.sink_follows c.self.inside.log (same_log c.self.inside.log))
 
 pub invariant_of-self-2 : goal.invariant_of-self-2
 invariant_of-self-2 g c =
@@ -105,19 +105,19 @@ invariant_of-self-2 g c =
       failed = c.self.inside.failed;
     } in
     let new : SolverState = record {
-      search = c.search_guided.new.search;
+      search = c.run.new.self.search.now;
       input = c.self.inside.input;
-      log = c.search_guided.new.sink;
+      log = c.run.new.self.sink.now;
       refuted = c.self.inside.refuted;
       failed = false;
     } in
-    let same = c.search_guided.ensures.sink_follows old.log (same_log old.log) in
+    let same = c.run.ensures.sink_follows old.log (same_log old.log) in
     let works : old.failed ≡ false =
     ap (λ (s : SolverState). s.failed) c.self.view_is ∙ c.requires.works in
     let going : old.refuted ≡ false =
     ap (λ (s : SolverState). s.refuted) c.self.view_is ∙ c.requires.going in
     let e = c.in_ok-end.ensures.search in
-    let left = c.search_guided.new.budget in
+    let left = c.run.new.self.budget.now in
     let no = c.is_refutation.ensures.no c.if-is_refutation.false in
     searched_on old new c.args.budget.now left c.self.invariant works same refl e.pays
     (sym c.has_failed.ensures ∙ c.if-has_failed.false) refl going
@@ -125,5 +125,5 @@ invariant_of-self-2 g c =
 
 pub returns-clause-same : goal.returns-clause-same
 returns-clause-same g c =
-    subst (λ (s : SolverState). SameLog s.log c.search_guided.new.sink) c.self.view_is
-    (c.search_guided.ensures.sink_follows c.self.inside.log (same_log c.self.inside.log))
+    subst (λ (s : SolverState). SameLog s.log c.run.new.self.sink.now) c.self.view_is
+    (c.run.ensures.sink_follows c.self.inside.log (same_log c.self.inside.log))
