@@ -95,7 +95,10 @@ pub fn improve_by_cuts<W: Write + Drop, T: Progress, K: Watch>(
         walks: &mut walks,
         fault: None,
     };
-    match session.run(start, weights) {
+    let ended = session.run(start, weights);
+    // By a call: that is proved once, and not field by field at each exit.
+    drop(walks);
+    match ended {
         Ok(is_proved) => Ok(CutsFound { best, is_proved }),
         Err(fault) => {
             drop(best);

@@ -1,6 +1,6 @@
 -- A certificate that an earlier run has left.
 use Rattle.std.specs.Prelude.{◌≡◌, ℕ, ◌+◌, ◌*◌, ◌^◌, ◌<◌, ◌≤◌, min, Bool, true, List}
-use Rattle.std.specs.Prelude.{Option, None, IfSome, Ok, Err}
+use Rattle.std.specs.Prelude.{Option, None, IfSome, Err}
 use Rattle.cnf.specs.Problem.{Problem}
 use Rattle.lrat_cuts.specs.Verdict.{ended_part, judged_text}
 use Rattle.lrat_check.specs.Checks.{CostsAtLeast}

@@ -51,8 +51,16 @@ impl Earlier {
         ensures { IfOk result (IsJudgedAs instance.now (R.remaining proof.old)) }
     {
         let mut checker = CutsChecker::new(instance, None)?;
-        judge(&mut checker, proof)?;
+        // By calls where it is dropped: that is proved once, and not field by field at each exit.
+        match judge(&mut checker, proof) {
+            Ok(()) => {}
+            Err(fault) => {
+                drop(checker);
+                return Err(CheckFault::from(fault));
+            }
+        }
         if let Some((cause, line)) = checker.refused() {
+            drop(checker);
             return Ok(Judged::Wrong(cause, line));
         }
         match checker.into_ended()? {

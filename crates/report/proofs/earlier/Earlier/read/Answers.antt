@@ -11,7 +11,7 @@ use Rattle.report.proofs.earlier.Earlier.read.Goals as goal
 pub returns-in-Some : goal.returns-in-Some
 returns-in-Some g c =
     let p = c.args.instance.now in
-    let m = c.in_ok-judge.ensures.judges in
+    let m = c.in-Ok.ensures.judges in
     let j = m.judged None p [] c.in_ok-checker.ensures.judged in
     wrong_for c.judge.new.checker p m.bytes (g.R.Read.remaining c.args.proof.now)
     (g.R.Read.remaining c.judge.new.proof) j m.read (c.in-Some.cause, c.in-Some.line)
@@ -20,7 +20,7 @@ returns-in-Some g c =
 pub returns : goal.returns
 returns g c =
     let p = c.args.instance.now in
-    let m = c.in_ok-judge.ensures.judges in
+    let m = c.in-Ok.ensures.judges in
     let j = m.judged None p [] c.in_ok-checker.ensures.judged in
     let known = subst (λ (x : Option MachineState). IfSome x (λ n. (q : Problem)
     (bytes : List ℕ) → HasJudged c.judge.new.checker None q bytes
@@ -29,4 +29,4 @@ returns g c =
     right_for c.judge.new.checker p m.bytes (g.R.Read.remaining c.args.proof.now)
     (g.R.Read.remaining c.judge.new.proof) j m.read c.in-Some-2.machine.state
     (known p m.bytes j)
-    (c.in_ok-judge.ensures.whole (sym c.refused.ensures.refused ∙ c.in_default.is))
+    (c.in-Ok.ensures.whole (sym c.refused.ensures.refused ∙ c.in_default.is))
