@@ -1,4 +1,5 @@
 // What the search finds.
+use crate::solutions::Solution;
 use lrat_log::log::Log;
 
 /// What the budget was spent on. Each line that was learned cost a unit, and none adds the empty
@@ -41,6 +42,16 @@ pub enum Found {
     Nothing {
         work: Work,
     },
+}
+
+/// The end of a search by forms and cuts, whose log is where its lines went.
+#[derive(Drop)]
+pub struct CutsFound {
+    /// The cheapest solution that was met, if any was: its cost was told last.
+    pub best: Option<Solution>,
+    /// Whether nothing is cheaper than that one; without one, whether there is none at all. If not,
+    /// the budget is spent.
+    pub is_proved: bool,
 }
 
 /// Why a search ended without an answer. Only the costs told remain of it.

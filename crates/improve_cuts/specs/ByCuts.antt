@@ -12,7 +12,7 @@ use Rattle.improve.specs.Improving.{IsSolution, EndsWith, AreFalling, IsCostOfSo
 use Rattle.improve.specs.declared.found.ImproveFault.{ImproveFault}
 use Rattle.improve.specs.declared.found.ImproveFault.TheVariants.{Progress}
 use Rattle.improve.specs.declared.solutions.Solution.{Solution}
-use Rattle.improve_cuts.specs.declared.found.CutsFound.{CutsFound}
+use Rattle.improve.specs.declared.found.CutsFound.{CutsFound}
 
 -- a search begins with a solution that costs at most what cuts hold for; or they hold in all
 abbrev pub BeginsWith : Problem → (held : ℕ) → Option Solution → Type 0

@@ -18,7 +18,7 @@ use Rattle.improve.specs.declared.found.ImproveFault.TheVariants.{Progress as Ca
 use Rattle.improve.specs.Watch.{better_of, costs_shown}
 use Rattle.improve.specs.declared.solutions.Solution.{Solution}
 use Rattle.improve_cuts.specs.ByCuts.{SameOrigin, IsProved}
-use Rattle.improve_cuts.specs.declared.found.CutsFound.{CutsFound}
+use Rattle.improve.specs.declared.found.CutsFound.{CutsFound}
 
 -- what a session works on, as it stands
 pub record SessionState : Type 0 where

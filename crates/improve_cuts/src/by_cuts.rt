@@ -4,7 +4,6 @@ ghost use Rattle.improve.specs.Progress.{CanFail};
 ghost use Rattle.improve.specs.Watch.{AreShown};
 ghost use Rattle.improve_cuts.specs.ByCuts.{BeginsOn, SameOrigin, FindsByCuts};
 
-use crate::found::CutsFound;
 use crate::parts::numbered_in;
 use crate::session::Session;
 use crate::walks::Walks;
@@ -12,7 +11,7 @@ use adder::relaxations::Relaxation;
 use cdcl::budget::Budget;
 use cnf::types::Instance;
 use cuts_solver::solver::CutsSolver;
-use improve::found::ImproveFault;
+use improve::found::{CutsFound, ImproveFault};
 use improve::progress::Progress;
 use improve::solutions::Solution;
 use improve::watch::Watch;

@@ -2,7 +2,6 @@
 #![tactic(auto)]
 
 pub mod by_cuts;
-pub mod found;
 mod parts;
 mod running;
 mod session;

@@ -15,7 +15,7 @@ use Rattle.improve.specs.declared.found.ImproveFault.TheVariants.{Progress}
 use Rattle.improve.specs.declared.solutions.Solution.{Solution}
 use Rattle.improve.proofs.Laws.{cost_of_solution}
 use Rattle.improve_cuts.specs.ByCuts.{FindsByCuts, IsCutsFound}
-use Rattle.improve_cuts.specs.declared.found.CutsFound.{CutsFound}
+use Rattle.improve.specs.declared.found.CutsFound.{CutsFound}
 use Rattle.report.specs.ByCuts.{IsShownByCuts, SearchesByCuts}
 use Rattle.report.specs.Earlier.{EndsAt}
 

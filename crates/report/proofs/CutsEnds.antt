@@ -35,21 +35,24 @@ use Rattle.improve.specs.Improving.{AreFalling}
 use Rattle.improve.specs.Watch.{better_of, costs_shown}
 use Rattle.improve.specs.declared.solutions.Solution.{Solution}
 use Rattle.improve_cuts.specs.ByCuts.{IsBestOf, HasNone, IsProved, IsCutsFound}
-use Rattle.improve_cuts.specs.declared.found.CutsFound.{CutsFound}
-use Rattle.report.specs.declared.status.CutsStatus.{CutsStatus}
-use Rattle.report.specs.declared.fault.RunFault.{RunFault}
-use Rattle.report.specs.declared.fault.RunFault.TheVariants.{Read, Memory, Output, ProofOutput}
-use Rattle.report.specs.Told.{cost_lines}
-use Rattle.report.specs.Best.{IsTrueOf, end_of}
-use Rattle.report.specs.Running.{result_text, told_in, AreHonest, NeedsProof, IsTrueLimit}
-use Rattle.report.specs.ByCuts.{status_by, said_with, said_of_cuts, said_text, cost_held_by}
+use Rattle.improve.specs.declared.found.CutsFound.{CutsFound}
+use Rattle.report_text.specs.declared.status.CutsStatus.{CutsStatus}
+use Rattle.report_text.specs.declared.fault.RunFault.{RunFault}
+use Rattle.report_text.specs.declared.fault.RunFault.TheVariants.{Read, Memory, Output, ProofOutput}
+use Rattle.report_text.specs.Told.{cost_lines}
+use Rattle.report_text.specs.Best.{IsTrueOf, end_of}
+use Rattle.report_text.specs.Answering.{result_text}
+use Rattle.report.specs.Running.{told_in, AreHonest, NeedsProof, IsTrueLimit}
+use Rattle.report_text.specs.Answering.{status_by}
+use Rattle.report_text.specs.Best.{said_with, said_of_cuts}
+use Rattle.report.specs.ByCuts.{said_text, cost_held_by}
 use Rattle.report.specs.ByCuts.{IsRightBehind, ChecksByCuts, EndsBehind}
 use Rattle.report.specs.ByCuts.{LeavesResultBehind, LeavesBehind, IsSeenByCuts, SearchesByCuts}
 use Rattle.report.specs.ByCuts.{IsShownByCuts, GrowsRightly, AnswersByCuts, LeavesAnswerByCuts}
 use Rattle.report.proofs.CutsTexts.{grown_kept}
 use Rattle.report.proofs.Ends.{honest_costs, solution_at}
-use Rattle.report.proofs.ResultTexts.{optimum_text, satisfiable_text, falls_in, text_says}
-use Rattle.report.proofs.ResultTexts.{begun, not_past}
+use Rattle.report_text.proofs.ResultTexts.{optimum_text, satisfiable_text, falls_in, text_says}
+use Rattle.report_text.proofs.ResultTexts.{begun, not_past}
 
 -- a checker says yes to a certificate that ends so
 

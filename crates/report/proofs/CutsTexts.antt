@@ -24,8 +24,8 @@ use Rattle.improve.specs.declared.solutions.Solution.{Solution}
 use Rattle.improve.proofs.Laws.{cost_of_solution, cost_small}
 use Rattle.improve_cuts.specs.ByCuts.{BeginsWith, SameOrigin}
 use Rattle.cdcl_order.specs.Budgets.{BudgetState}
-use Rattle.report.specs.declared.status.CutsStatus.{CutsStatus}
-use Rattle.report.specs.declared.fault.RunFault.{RunFault}
+use Rattle.report_text.specs.declared.status.CutsStatus.{CutsStatus}
+use Rattle.report_text.specs.declared.fault.RunFault.{RunFault}
 use Rattle.report.specs.ByCuts.{EndsBehind, GrowsRightly, LeavesBehind}
 use Rattle.report.specs.Earlier.{IsRightUpTo}
 

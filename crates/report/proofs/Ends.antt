@@ -28,17 +28,18 @@ use Rattle.improve.specs.declared.found.Found.TheVariants.{Optimum, Unsat, Best,
 use Rattle.improve.specs.Improving.{AreFalling, IsCostOfSome, IsSolution, IsAcceptedOver}
 use Rattle.improve.specs.Improving.{IsClauseCount, IsBoundWork}
 use Rattle.cnf.proofs.Laws.{extends_own}
-use Rattle.report.specs.declared.status.Status.{Status}
-use Rattle.report.specs.declared.fault.RunFault.{RunFault}
-use Rattle.report.specs.declared.fault.RunFault.TheVariants.{Read, Memory, Output, ProofOutput}
-use Rattle.report.specs.Told.{cost_lines}
-use Rattle.report.specs.Answering.{status_of, end_text, proof_text, HasIdRoom, HasProofRoom}
-use Rattle.report.specs.Answering.{IsSpelledProof, HasProof, LeavesAnswer, Answers}
-use Rattle.report.specs.Running.{result_text, told_in, AreHonest, AreChecked, IsTrueAnswer}
+use Rattle.report_text.specs.declared.status.Status.{Status}
+use Rattle.report_text.specs.declared.fault.RunFault.{RunFault}
+use Rattle.report_text.specs.declared.fault.RunFault.TheVariants.{Read, Memory, Output, ProofOutput}
+use Rattle.report_text.specs.Told.{cost_lines}
+use Rattle.report_text.specs.Answering.{status_of, end_text, proof_text, HasIdRoom, HasProofRoom}
+use Rattle.report_text.specs.Answering.{IsSpelledProof, HasProof, LeavesAnswer, Answers}
+use Rattle.report_text.specs.Answering.{result_text}
+use Rattle.report.specs.Running.{told_in, AreHonest, AreChecked, IsTrueAnswer}
 use Rattle.report.specs.Running.{NeedsProof, EndsAs, LeavesResult, LeavesProof, Leaves, Searches}
 use Rattle.report.specs.Running.{IsTrueLimit}
-use Rattle.report.proofs.ResultTexts.{optimum_text, satisfiable_text, falls_in, text_says}
-use Rattle.report.proofs.ResultTexts.{begun, not_past}
+use Rattle.report_text.proofs.ResultTexts.{optimum_text, satisfiable_text, falls_in, text_says}
+use Rattle.report_text.proofs.ResultTexts.{begun, not_past}
 
 -- the accepted log, spelled with the ids from the formula's number of clauses on
 module _ (cs : List (List Literal)) (n : ℕ) (log : List LogLine) (a : IsAcceptedOver cs log)

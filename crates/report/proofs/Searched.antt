@@ -19,9 +19,9 @@ use Rattle.improve.specs.Improving.{AreFalling, IsCostOfSome, IsRightFound, Impr
 use Rattle.improve.specs.Watch.{AreShown, costs_shown}
 use Rattle.improve.proofs.Laws.{cost_small}
 use Rattle.improve.proofs.Laws.{told_fall, told_each}
-use Rattle.report.specs.declared.fault.RunFault.{RunFault}
-use Rattle.report.specs.declared.fault.RunFault.TheVariants.{Memory, Output}
-use Rattle.report.specs.Told.{Tells, cost_lines, fault_of_telling}
+use Rattle.report_text.specs.declared.fault.RunFault.{RunFault}
+use Rattle.report_text.specs.declared.fault.RunFault.TheVariants.{Memory, Output}
+use Rattle.report_text.specs.Told.{Tells, cost_lines, fault_of_telling}
 use Rattle.report.specs.Running.{HasLines, Searches, outcome_of}
 use Rattle.report.specs.Seen.{IsShownFor}
 

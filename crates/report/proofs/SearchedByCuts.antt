@@ -15,10 +15,10 @@ use Rattle.improve.specs.Improving.{AreFalling, IsCostOfSome}
 use Rattle.improve.specs.Watch.{AreShown, costs_shown}
 use Rattle.improve.proofs.Laws.{told_fall, told_each}
 use Rattle.improve_cuts.specs.ByCuts.{FindsByCuts, IsCutsFound}
-use Rattle.improve_cuts.specs.declared.found.CutsFound.{CutsFound}
-use Rattle.report.specs.declared.fault.RunFault.{RunFault}
-use Rattle.report.specs.declared.fault.RunFault.TheVariants.{Memory, Output, ProofOutput}
-use Rattle.report.specs.Told.{Tells, cost_lines, fault_of_telling}
+use Rattle.improve.specs.declared.found.CutsFound.{CutsFound}
+use Rattle.report_text.specs.declared.fault.RunFault.{RunFault}
+use Rattle.report_text.specs.declared.fault.RunFault.TheVariants.{Memory, Output, ProofOutput}
+use Rattle.report_text.specs.Told.{Tells, cost_lines, fault_of_telling}
 use Rattle.report.specs.ByCuts.{HasTriedLines, SearchesByCuts, IsShownByCuts, cuts_outcome}
 use Rattle.report.specs.ByCuts.{memory_fault}
 use Rattle.report.proofs.Searched.{costs_small}

@@ -12,13 +12,14 @@ use Rattle.improve.specs.declared.found.Found.{Found}
 use Rattle.improve.specs.declared.found.Found.TheVariants.{Optimum, Unsat, Best, Nothing}
 use Rattle.improve.specs.Improving.{IsRightFound}
 use Rattle.improve.specs.Watch.{better_of, costs_shown}
-use Rattle.report.specs.declared.status.Status.{Status}
-use Rattle.report.specs.Told.{cost_lines}
-use Rattle.report.specs.Answering.{status_of, end_text, Answers}
-use Rattle.report.specs.Running.{result_text, told_in}
-use Rattle.report.specs.Best.{IsTrueOf, said_of, end_of}
+use Rattle.report_text.specs.declared.status.Status.{Status}
+use Rattle.report_text.specs.Told.{cost_lines}
+use Rattle.report_text.specs.Answering.{status_of, end_text, Answers}
+use Rattle.report_text.specs.Answering.{result_text}
+use Rattle.report.specs.Running.{told_in}
+use Rattle.report_text.specs.Best.{IsTrueOf, said_of, end_of}
 use Rattle.report.specs.Seen.{IsShownFor, IsSeenAs}
-use Rattle.report.proofs.ResultTexts.{optimum_text, satisfiable_text}
+use Rattle.report_text.proofs.ResultTexts.{optimum_text, satisfiable_text}
 
 -- what was found is so
 pub found_so : (profile : Profile) (p : Problem) (costs : List ℕ) (found : Found)

@@ -23,36 +23,20 @@ use Rattle.improve.specs.declared.solutions.Solution.{Solution}
 use Rattle.improve.specs.declared.found.ImproveFault.{ImproveFault}
 use Rattle.improve.specs.declared.found.ImproveFault.TheVariants.{Memory as SearchMemory, Progress}
 use Rattle.improve_cuts.specs.ByCuts.{IsCutsFound}
-use Rattle.improve_cuts.specs.declared.found.CutsFound.{CutsFound}
-use Rattle.report.specs.Told.{cost_lines}
-use Rattle.report.specs.Answering.{bits_word, words_text}
-use Rattle.report.specs.Best.{IsTrueOf, end_of}
-use Rattle.report.specs.Running.{result_text, told_in, AreHonest, NeedsProof, IsTrueLimit}
+use Rattle.improve.specs.declared.found.CutsFound.{CutsFound}
+use Rattle.report_text.specs.Told.{cost_lines}
+use Rattle.report_text.specs.Answering.{bits_word, words_text}
+use Rattle.report_text.specs.Best.{IsTrueOf, end_of}
+use Rattle.report_text.specs.Answering.{result_text}
+use Rattle.report.specs.Running.{told_in, AreHonest, NeedsProof, IsTrueLimit}
 use Rattle.report.specs.Running.{LeavesNothing}
-use Rattle.report.specs.declared.status.CutsStatus.{CutsStatus}
-use Rattle.report.specs.declared.status.CutsStatus.TheVariants.{OptimumFound as EndsOptimum}
-use Rattle.report.specs.declared.status.CutsStatus.TheVariants.{Unsatisfiable as EndsUnsatisfiable}
-use Rattle.report.specs.declared.status.CutsStatus.TheVariants.{Satisfiable as EndsSatisfiable}
-use Rattle.report.specs.declared.status.CutsStatus.TheVariants.{Unknown as EndsUnknown}
-use Rattle.report.specs.declared.fault.RunFault.{RunFault}
-use Rattle.report.specs.declared.fault.RunFault.TheVariants.{Read, Memory, Output, ProofOutput}
-
--- how a run ends whose result says this
-abbrev pub status_by : Said → CutsStatus
-status_by (OptimumFound c bits) = EndsOptimum
-status_by Unsatisfiable = EndsUnsatisfiable
-status_by (Satisfiable c bits) = EndsSatisfiable
-status_by Unknown = EndsUnknown
-
--- the best solution, and whether nothing is cheaper
-abbrev pub said_with : Option Solution → Bool → Said
-said_with (Some b) true = OptimumFound b.cost b.bits.items
-said_with (Some b) false = Satisfiable b.cost b.bits.items
-said_with None true = Unsatisfiable
-said_with None false = Unknown
-
-abbrev pub said_of_cuts : CutsFound → Said
-said_of_cuts found = said_with found.best found.is_proved
+use Rattle.report_text.specs.declared.status.CutsStatus.{CutsStatus}
+use Rattle.report_text.specs.declared.status.CutsStatus.TheVariants.{OptimumFound as EndsOptimum}
+use Rattle.report_text.specs.declared.status.CutsStatus.TheVariants.{Unsatisfiable as EndsUnsatisfiable}
+use Rattle.report_text.specs.declared.status.CutsStatus.TheVariants.{Satisfiable as EndsSatisfiable}
+use Rattle.report_text.specs.declared.status.CutsStatus.TheVariants.{Unknown as EndsUnknown}
+use Rattle.report_text.specs.declared.fault.RunFault.{RunFault}
+use Rattle.report_text.specs.declared.fault.RunFault.TheVariants.{Read, Memory, Output, ProofOutput}
 
 -- the line of the status, and that of the bits
 abbrev pub said_text : Said → List ℕ

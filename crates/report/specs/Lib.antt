@@ -1,10 +1,4 @@
-pub mod Printing
-pub mod Codes
-pub mod Faults
-pub mod Told
-pub mod Answering
 pub mod Running
-pub mod Best
 pub mod Seen
 pub mod ByCuts
 pub mod Earlier

@@ -29,16 +29,13 @@ use Rattle.improve.specs.declared.found.ImproveFault.{ImproveFault}
 use Rattle.improve.specs.declared.found.ImproveFault.TheVariants.{Memory as SearchMemory, Progress}
 use Rattle.improve.specs.Improving.{AreFalling, EndsWith, IsCostOfSome, IsSolution}
 use Rattle.improve.specs.Improving.{IsHardWork, IsBoundWork, IsRightFound, OnWork, work_count}
-use Rattle.report.specs.Told.{cost_lines}
-use Rattle.report.specs.declared.status.Status.{Status}
-use Rattle.report.specs.declared.status.Status.TheVariants.{OptimumFound, Unsatisfiable}
-use Rattle.report.specs.declared.status.Status.TheVariants.{Satisfiable, Unknown}
-use Rattle.report.specs.declared.fault.RunFault.{RunFault}
-use Rattle.report.specs.declared.fault.RunFault.TheVariants.{Read, Memory, Output, ProofOutput}
-
--- the text of a result, where these costs were told before the last one
-abbrev pub result_text : List ℕ → Said → List ℕ
-result_text before said = flat_map spaced (result_tokens before said)
+use Rattle.report_text.specs.Answering.{result_text}
+use Rattle.report_text.specs.Told.{cost_lines}
+use Rattle.report_text.specs.declared.status.Status.{Status}
+use Rattle.report_text.specs.declared.status.Status.TheVariants.{OptimumFound, Unsatisfiable}
+use Rattle.report_text.specs.declared.status.Status.TheVariants.{Satisfiable, Unknown}
+use Rattle.report_text.specs.declared.fault.RunFault.{RunFault}
+use Rattle.report_text.specs.declared.fault.RunFault.TheVariants.{Read, Memory, Output, ProofOutput}
 
 -- all costs that the result tells
 abbrev pub told_in : List ℕ → Said → List ℕ

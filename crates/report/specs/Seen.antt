@@ -8,11 +8,12 @@ use Rattle.cdcl_order.specs.Watch.{Sight, with_seen}
 use Rattle.improve.specs.declared.found.Found.{Found}
 use Rattle.improve.specs.Improving.{IsSolution, IsRightFound}
 use Rattle.improve.specs.Watch.{better_of, costs_shown}
-use Rattle.report.specs.declared.status.Status.{Status}
-use Rattle.report.specs.Told.{cost_lines}
-use Rattle.report.specs.Answering.{status_of}
-use Rattle.report.specs.Running.{result_text, told_in}
-use Rattle.report.specs.Best.{said_of, end_of}
+use Rattle.report_text.specs.declared.status.Status.{Status}
+use Rattle.report_text.specs.Told.{cost_lines}
+use Rattle.report_text.specs.Answering.{status_of}
+use Rattle.report_text.specs.Answering.{result_text}
+use Rattle.report.specs.Running.{told_in}
+use Rattle.report_text.specs.Best.{said_of, end_of}
 
 -- Before this was found just these solutions were shown, each once, in their order. The writer has
 -- their costs.

@@ -2,12 +2,12 @@
 ghost use Rattle.std.specs.Prelude.{◌≡◌, IfOk, IfErr};
 ghost use Rattle.report.specs.Running.{EndsAs, Leaves};
 
-use crate::fault::RunFault;
 use crate::solving::Run;
-use crate::status::Status;
 use adder::profiles::Profile;
 use cdcl::budget::Budget;
 use cdcl::watch::Unwatched;
+use report_text::fault::RunFault;
+use report_text::status::Status;
 use std::alloc::Global;
 use std::io::{Read, Write};
 

@@ -8,18 +8,18 @@ ghost use Rattle.report.specs.Running.{EndsAs, ReadsOnlyAs, Leaves, Searches, ou
 ghost use Rattle.report.specs.Seen.{IsSeenAs, IsShownFor};
 ghost use Rattle.cdcl_order.specs.Budgets.{WaivesAs};
 
-use crate::answering::write_answer;
-use crate::best::RunWatch;
-use crate::fault::RunFault;
-use crate::finding::Finding;
-use crate::status::Status;
-use crate::told::{Finished, Told};
 use adder::profiles::Profile;
 use cdcl::budget::Budget;
 use cnf::types::Instance;
 use improve::found::{Found, ImproveFault};
 use improve::progress::Progress;
 use improve::search::{Beginning, improve_from, improve_watched};
+use report_text::answering::write_answer;
+use report_text::best::RunWatch;
+use report_text::fault::RunFault;
+use report_text::finding::Finding;
+use report_text::status::Status;
+use report_text::told::{Finished, Told};
 use std::alloc::Global;
 use std::io::{Read, Write};
 use wcnf::reading::read_from;

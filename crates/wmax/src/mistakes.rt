@@ -2,7 +2,7 @@
 use clap::Error;
 use clap::error::ErrorKind;
 use explain_text::showing::Shown;
-use report::fault::RunFault;
+use report_text::fault::RunFault;
 use std::io::{self, Write};
 use wmax_commands::faults::{Fault, tell_fault};
 use wmax_onlooker::standard_error::Messages;

@@ -3,9 +3,9 @@ use denote.Ref.{Bor}
 use Rattle.std.specs.Prelude.{ℕ, Bool, true, false, List, Result, Ok, Err}
 use Rattle.wcnf.specs.declared.faults.FaultKind.{FaultKind}
 use Rattle.wcnf.specs.declared.faults.FaultKind.TheVariants.{Read as ReadKind}
-use Rattle.report.specs.Codes.{code_of_fault}
-use Rattle.report.specs.declared.fault.RunFault.{RunFault}
-use Rattle.report.specs.declared.fault.RunFault.TheVariants.{Read, Memory, Output, ProofOutput}
+use Rattle.report_text.specs.Codes.{code_of_fault}
+use Rattle.report_text.specs.declared.fault.RunFault.{RunFault}
+use Rattle.report_text.specs.declared.fault.RunFault.TheVariants.{Read, Memory, Output, ProofOutput}
 use Rattle.wmax_commands.specs.declared.faults.Fault.{Fault}
 use Rattle.wmax_commands.specs.declared.faults.Fault.TheVariants.{Run, Unreadable, Closed}
 

@@ -4,8 +4,8 @@ ghost use Rattle.wmax_commands.specs.Faults.{fault_of_text, fault_status, file_f
 ghost use Rattle.wmax_commands.specs.Faults.{output_outcome};
 
 use explain_text::mending::advise_unpacking;
-use report::fault::RunFault;
-use report::printing::{fault_code, print_fault};
+use report_text::fault::RunFault;
+use report_text::printing::{fault_code, print_fault};
 use std::fs::{self, File};
 use std::io::{Read, Write};
 use std::rt::Files;

@@ -3,7 +3,7 @@
 use crate::faults::Fault;
 use adder::profiles::Profile;
 use command_line::words::pick_profile;
-use report::fault::RunFault;
+use report_text::fault::RunFault;
 use std::env::{self, VarError};
 use std::io::Write;
 use std::rt::Env;

@@ -5,7 +5,7 @@ use Rattle.lrat_check.specs.declared.lower.LowerVerdict.TheVariants.{AtLeast, No
 use Rattle.explain.specs.declared.judging.Judgement.{Judgement}
 use Rattle.explain.specs.declared.judging.Judgement.TheVariants.{Right, Wrong, Unsatisfiable}
 use Rattle.explain.specs.declared.judging.Judgement.TheVariants.{Unknown}
-use Rattle.report.specs.Printing.{gap_text, lower_text}
+use Rattle.report_text.specs.Printing.{gap_text, lower_text}
 
 -- the gap, where there are both a lower bound and a solution
 abbrev pub gap_between : LowerVerdict → Judgement → List ℕ

@@ -5,7 +5,7 @@ ghost use Rattle.wmax_onlooker.specs.FileId.{IsOneFolder, file_name_of};
 ghost use Rattle.wmax_onlooker.specs.Files.{IsFileFault};
 
 use crate::files::UNREADABLE;
-use report::fault::RunFault;
+use report_text::fault::RunFault;
 use std::fs::{self, File, Metadata, OpenFile, OpenOptions};
 use std::os::unix::fs::MetadataExt;
 use std::path::Path;

@@ -5,7 +5,7 @@ ghost use Rattle.wmax_onlooker.specs.Files.{IsFileFault};
 
 use crate::standard_error::Messages;
 use explain_text::showing::Shown;
-use report::fault::RunFault;
+use report_text::fault::RunFault;
 use std::io::{Read, Write};
 use wcnf::faults::{FaultKind, ReadFault};
 use wcnf::whole::read_all;

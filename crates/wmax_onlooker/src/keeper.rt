@@ -3,7 +3,7 @@
 //! proved that none is cheaper or that there is none.
 ghost use Rattle.std.specs.Prelude.{◌≡◌, IfOk, IfErr, IfSome, IsNone, IsSome};
 ghost use Rattle.improve.specs.Improving.{IsSolution};
-ghost use Rattle.report.specs.Best.{IsTrueOf, said_by};
+ghost use Rattle.report_text.specs.Best.{IsTrueOf, said_by};
 ghost use Rattle.wmax_onlooker.specs.Keeper.{IsImproved, IsLeft, is_better, undercuts};
 
 use crate::file_id::FileId;
@@ -12,9 +12,9 @@ use crate::whole_file::{WholeFile, WholePaths};
 use cnf::types::Instance;
 use explain::explaining::ExplainFault;
 use explain::judging::{Judgement, judge_answer};
-use report::best::{write_best, write_found, write_unknown};
-use report::fault::RunFault;
-use report::finding::Finding;
+use report_text::best::{write_best, write_found, write_unknown};
+use report_text::fault::RunFault;
+use report_text::finding::Finding;
 use std::alloc::Global;
 use std::io::Write;
 use std::rt::Files;

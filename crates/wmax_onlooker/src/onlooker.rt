@@ -8,8 +8,8 @@ use crate::standard_error::Messages;
 use cdcl::watch::SearchReport;
 use cnf::types::Instance;
 use improve::watch::{Raised, Watch};
-use report::best::RunWatch;
-use report::finding::Finding;
+use report_text::best::RunWatch;
+use report_text::finding::Finding;
 use std::io::Write;
 use std::rt::{Clock, Files};
 

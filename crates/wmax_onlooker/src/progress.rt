@@ -3,7 +3,7 @@
 use crate::standard_error::Messages;
 use cdcl::watch::{SearchReport, Way};
 use improve::watch::Raised;
-use report::finding::Finding;
+use report_text::finding::Finding;
 use std::alloc::AllocError;
 use std::fs;
 use std::io::Write;

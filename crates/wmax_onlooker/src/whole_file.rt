@@ -9,7 +9,7 @@ use crate::file_id::{FileId, FilePlace, find_place, is_taken, open_empty};
 use crate::files::{UNREADABLE, read_file};
 use crate::standard_error::Messages;
 use explain_text::showing::Shown;
-use report::fault::RunFault;
+use report_text::fault::RunFault;
 use std::alloc::AllocError;
 use std::fs::{self, File};
 use std::io::Write;

@@ -12,7 +12,7 @@ use lrat_check::checking::check_read_as;
 use lrat_check::verdicts::{Cause, Verdict};
 use lrat_result::report::ReportFault;
 use lrat_result::result::read_report;
-use report::fault::RunFault;
+use report_text::fault::RunFault;
 use std::alloc::Global;
 use std::fs::{File, OpenFile};
 use std::io::Read;

@@ -5,7 +5,7 @@ ghost use Rattle.wmax_solving.specs.Resuming.{IsFor};
 use crate::inputs::Inputs;
 use crate::refusals::{KeptFileFault, Refused};
 use crate::resuming::{Origin, Resumed, take_certificate};
-use report::fault::RunFault;
+use report_text::fault::RunFault;
 use std::io::{self, Sink};
 use std::rt::Files;
 use wmax_commands::faults::Fault;

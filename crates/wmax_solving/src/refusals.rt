@@ -6,7 +6,7 @@ ghost use Rattle.wmax_solving.specs.Refusals.{kept_status};
 use command_line::words::{BEST_OPTION, FROM_OPTION, PROOF_OPTION, RESUME_OPTION};
 use lrat_check::verdicts::Verdict;
 use report::earlier::CannotResume;
-use report::fault::RunFault;
+use report_text::fault::RunFault;
 use std::io::Write;
 use wmax_commands::checking::show;
 use wmax_commands::faults::Fault;

@@ -8,7 +8,7 @@ use cnf::limits::NUMBER_LIMIT;
 use cnf::types::Instance;
 use lrat_check::verdicts::{CheckFault, Verdict};
 use report::earlier::{Earlier, Judged, is_right_for_zero};
-use report::fault::RunFault;
+use report_text::fault::RunFault;
 use std::fs::OpenFile;
 use std::io::{Read, Seek, SeekFrom, Write};
 use std::rt::Files;

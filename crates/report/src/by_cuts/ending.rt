@@ -2,17 +2,18 @@
 ghost use Rattle.std.specs.Prelude.{◌≡◌, [], ◌∷◌, IfOk, IfErr, IfSome, IsSome, OnOk};
 ghost use Rattle.cdcl_order.specs.Watch.{with_seen};
 ghost use Rattle.text.specs.Writing.{Writes};
-ghost use Rattle.report.specs.Best.{IsTrueOf, end_of, said_by};
-ghost use Rattle.report.specs.ByCuts.{AnswersByCuts, LeavesAnswerByCuts, said_text, status_by};
+ghost use Rattle.report_text.specs.Best.{IsTrueOf, end_of, said_by};
+ghost use Rattle.report_text.specs.Answering.{status_by};
+ghost use Rattle.report.specs.ByCuts.{AnswersByCuts, LeavesAnswerByCuts, said_text};
 
 use super::CutsRun;
-use crate::answering::{deliver_end, spell_optimum, spell_satisfiable};
-use crate::best::RunWatch;
-use crate::fault::RunFault;
-use crate::finding::Finding;
-use crate::status::CutsStatus;
 use cnf::types::Instance;
 use cuts_solver::solver::Written;
+use report_text::answering::{deliver_end, spell_optimum, spell_satisfiable};
+use report_text::best::RunWatch;
+use report_text::fault::RunFault;
+use report_text::finding::Finding;
+use report_text::status::CutsStatus;
 use std::io::Write;
 
 /// Ends the certificate, of which this was written, and then the result, of a search that found

@@ -6,15 +6,14 @@ ghost use Rattle.report.specs.ByCuts.{IsShownByCuts, SearchesByCuts, cuts_outcom
 ghost use Rattle.report.specs.ByCuts.{held_for};
 ghost use Rattle.report.specs.Earlier.{EndsAt};
 
-use crate::best::RunWatch;
-use crate::fault::RunFault;
-use crate::told::{Finished, Told};
 use cdcl::budget::Budget;
 use cuts_solver::solver::CutsSolver;
-use improve::found::ImproveFault;
+use improve::found::{CutsFound, ImproveFault};
 use improve::search::tell;
 use improve_cuts::by_cuts::{CutsTask, improve_by_cuts};
-use improve_cuts::found::CutsFound;
+use report_text::best::RunWatch;
+use report_text::fault::RunFault;
+use report_text::told::{Finished, Told};
 use std::alloc::Global;
 use std::io::Write;
 

@@ -2,7 +2,7 @@
 use Rattle.std.proofs.Common.{◌≡◌, ◌∙◌, refl, sym, ap, subst, rules}
 use Rattle.std.specs.Prelude.{Result, IfOk}
 use Rattle.improve.specs.declared.found.Found.{Found}
-use Rattle.report.specs.declared.fault.RunFault.{RunFault}
+use Rattle.report_text.specs.declared.fault.RunFault.{RunFault}
 use Rattle.report.specs.Running.{Searches, outcome_of}
 use Rattle.report.specs.Seen.{IsShownFor}
 use Rattle.report.proofs.Searched.{search_ended, search_shown, tells_none}

@@ -2,7 +2,7 @@
 use Rattle.std.proofs.Common.{◌≡◌, ◌++◌, refl, subst, sym}
 use Rattle.text.specs.Writing.{Writes}
 use Rattle.text.proofs.Laws.{writes_next}
-use Rattle.report.specs.Printing.{gap_text, lower_text}
+use Rattle.report_text.specs.Printing.{gap_text, lower_text}
 use Rattle.wmax_explaining.specs.Explaining.{gap_between}
 use Rattle.wmax_explaining.proofs.explaining.print_bound.Goals as goal
 

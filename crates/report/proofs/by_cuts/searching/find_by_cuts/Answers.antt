@@ -1,8 +1,8 @@
 -- The writer has what its progress told.
 use Rattle.std.proofs.Common.{◌≡◌, ◌∙◌, refl, sym, ap, subst, rules}
 use Rattle.std.specs.Prelude.{Result, IfOk}
-use Rattle.improve_cuts.specs.declared.found.CutsFound.{CutsFound}
-use Rattle.report.specs.declared.fault.RunFault.{RunFault}
+use Rattle.improve.specs.declared.found.CutsFound.{CutsFound}
+use Rattle.report_text.specs.declared.fault.RunFault.{RunFault}
 use Rattle.report.specs.ByCuts.{SearchesByCuts, IsShownByCuts, cuts_outcome}
 use Rattle.report.proofs.Searched.{tells_none}
 use Rattle.report.proofs.SearchedByCuts.{search_ended, search_shown}

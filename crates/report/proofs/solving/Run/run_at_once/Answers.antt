@@ -2,7 +2,7 @@
 use Rattle.std.proofs.Common.{None, true, sym, ◌∙◌, ap, subst, [], ◌∷◌}
 use Rattle.std.proofs.lemmas.Result.{IfOk-weaker}
 use Rattle.cdcl_order.specs.Watch.{with_seen}
-use Rattle.report.specs.Best.{IsTrueOf, end_of, said_by}
+use Rattle.report_text.specs.Best.{IsTrueOf, end_of, said_by}
 use Rattle.report.specs.ByCuts.{held_by}
 use Rattle.report.proofs.CutsEnds.{found_true, ends_with, leaves_with, search_leaves, seen_with}
 use Rattle.report.proofs.CutsTexts.{nothing_behind, nothing_grown}

@@ -2,7 +2,7 @@
 use Rattle.std.proofs.Common.{[], ◌∷◌, ◌∙◌, ap, sym, subst}
 use Rattle.std.proofs.lemmas.Result.{err_from_is_err_and}
 use Rattle.cdcl_order.specs.Watch.{with_seen}
-use Rattle.report.specs.Best.{IsTrueOf, end_of, said_of}
+use Rattle.report_text.specs.Best.{IsTrueOf, end_of, said_of}
 use Rattle.report.proofs.Ends.{proof_room, ends, answer_leaves, search_leaves}
 use Rattle.report.proofs.SeenAs.{seen_as, found_so}
 use Rattle.report.proofs.solving.Run.solve_read.Goals as goal

@@ -1,0 +1,5 @@
+pub mod NoLine
+pub mod CostLines
+pub mod ResultTexts
+pub mod Answered
+mod BestTexts
