@@ -25,9 +25,8 @@ use Rattle.improve.specs.declared.found.ImproveFault.TheVariants.{Memory as Sear
 use Rattle.improve_cuts.specs.ByCuts.{IsCutsFound}
 use Rattle.improve.specs.declared.found.CutsFound.{CutsFound}
 use Rattle.report_text.specs.Told.{cost_lines}
-use Rattle.report_text.specs.Answering.{bits_word, words_text}
 use Rattle.report_text.specs.Best.{IsTrueOf, end_of}
-use Rattle.report_text.specs.Answering.{result_text}
+use Rattle.report_text.specs.Answering.{bits_word, words_text, result_text, status_by}
 use Rattle.report.specs.Running.{told_in, AreHonest, NeedsProof, IsTrueLimit}
 use Rattle.report.specs.Running.{LeavesNothing}
 use Rattle.report_text.specs.declared.status.CutsStatus.{CutsStatus}
