@@ -1,6 +1,6 @@
 -- A certificate in pieces: what holds after a line more, after a piece, and at the end.
 use Rattle.std.proofs.Common.{◌≡◌, ℕ, ◌<◌, Bool, true, false, List, [], ◌∷◌, ◌++◌, Option}
-use Rattle.std.proofs.Common.{Some, None, refl, sym, ◌∙◌, ap, subst, length, append_assoc}
+use Rattle.std.proofs.Common.{Some, None, refl, sym, ◌∙◌, ap, subst, length, append_assoc, inl, rules}
 use Rattle.std.specs.Prelude.{◌==◌, not, is_some, IfSome, Ok, Err}
 use Rattle.std.specs.Str.Lines.{strip_carriage_return}
 use Rattle.std.proofs.lemmas.List.Elements.{All-append}
@@ -10,6 +10,7 @@ use Rattle.text.specs.Pieces.{IsCut, HasTaken}
 use Rattle.text.proofs.Laws.{cut-ended, cut-kept, line_tokens-first, line_tokens-last, taken-on}
 use Rattle.text.proofs.Laws.{taken-whole}
 use Rattle.lrat_machine.specs.declared.verdicts.Cause.{Cause}
+use Rattle.lrat_cuts.specs.Cuts.{cuts_start}
 use Rattle.lrat_cuts.specs.Machine.{MachineState, judged_after}
 use Rattle.lrat_cuts.specs.Pieces.{CheckerState, HasJudged, Holds, IsOpen, IsRefused, Judges}
 use Rattle.lrat_cuts.specs.Pieces.{ReadingState}
@@ -199,3 +200,24 @@ pub holds_seen : (c d : CheckerState) → c ≡ d → (cost : Option ℕ) (p : P
     → Holds d.reading cost p bytes → Holds c.reading cost p bytes
 holds_seen c d e cost p bytes h =
     subst (λ (x : CheckerState). Holds x.reading cost p bytes) (sym e) h
+
+-- no byte was read yet
+pub begins : (m : MachineState) (rest : List ℕ) (cost : Option ℕ) (p : Problem)
+    → m ≡ record { state = cuts_start p; cost = cost; lines = 0; made = [] } → rest ≡ []
+    → HasJudged (record {
+      reading = record { machine = m; rest = rest; refused = None };
+      fed = 0;
+      failed = false;
+    }) cost p []
+begins m rest cost p first empty = record {
+  fed = refl;
+  holds = record {
+    open_end = λ e. record {
+      done = [];
+      cut = subst (IsCut [] []) (sym empty)
+          (record { split = refl; ended = inl refl; unfinished = search rules });
+      resumes = λ more. ap (λ x. judged_after x (token_lines more)) first;
+    };
+    refused = λ v e. absurd (let two : None ≡ Some v = e in cc);
+  };
+}

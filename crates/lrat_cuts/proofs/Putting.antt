@@ -76,15 +76,27 @@ starts_over n ws cs =
       proved = 0;
     }
 
-pub starts : (p : Problem) (g : Cnf) (b : RupState) (n : ℕ) (ws : List (ℕ × Literal)) (f : Forms)
-    → g ≡ weighted_cnf p → b ≡ record { clauses = listed_from 1 g.clauses; last = length g.clauses }
-    → n ≡ g.variables → ws ≡ weights_of p → f ≡ heard_all g.clauses (forms_of n ws)
-    → state_of b f NUMBER_LIMIT ≡ cuts_start p
-starts p g b n ws f is listed vars weights heard =
+abbrev blank_over : Problem → CutsState
+blank_over p =
+    state_of (record { clauses = []; last = 0 })
+    (forms_of (weighted_cnf p).variables (weights_of p)) NUMBER_LIMIT
+
+pub starts_heard : (p : Problem) (g : Cnf) (n : ℕ) (ws : List (ℕ × Literal)) (f : Forms)
+    → g ≡ weighted_cnf p → n ≡ g.variables → ws ≡ weights_of p
+    → f ≡ heard_all g.clauses (forms_of n ws) → f ≡ (cuts_start p).forms
+starts_heard p g n ws f is vars weights heard =
     let w = weighted_cnf p in
-    let same : f ≡ heard_all w.clauses (forms_of w.variables (weights_of p)) = heard
+    heard
     ∙ ap (λ (x : Cnf). heard_all x.clauses (forms_of n ws)) is
     ∙ ap (λ k. heard_all w.clauses (forms_of k ws)) (vars ∙ ap (λ (x : Cnf). x.variables) is)
-    ∙ ap (λ k. heard_all w.clauses (forms_of w.variables k)) weights in
+    ∙ ap (λ k. heard_all w.clauses (forms_of w.variables k)) weights
+    ∙ sym (put_all-forms w.clauses (blank_over p))
+
+pub starts : (p : Problem) (g : Cnf) (b : RupState) (f : Forms) → g ≡ weighted_cnf p
+    → b ≡ record { clauses = listed_from 1 g.clauses; last = length g.clauses }
+    → f ≡ (cuts_start p).forms → state_of b f NUMBER_LIMIT ≡ cuts_start p
+starts p g b f is listed heard =
+    let w = weighted_cnf p in
+    let same = heard ∙ put_all-forms w.clauses (blank_over p) in
     (λ i. state_of ((listed ∙ ap (λ (x : Cnf). listed_over x.clauses) is) i) (same i) NUMBER_LIMIT)
     ∙ starts_over w.variables (weights_of p) w.clauses

@@ -4,6 +4,7 @@ ghost use Rattle.std.specs.Prelude.{All, IfSome, false};
 ghost use Rattle.std.specs.Option.{option_copied};
 ghost use Rattle.cnf.specs.Literal.{Literal};
 ghost use Rattle.cnf.specs.declared.limits.TheConstants.{NUMBER_LIMIT, VARIABLE_LIMIT};
+ghost use Rattle.bound.specs.Weighted.{weighted_cnf};
 ghost use Rattle.forms.specs.Forms.{heard, count_line, more_line, group_line, form_line};
 ghost use Rattle.forms.specs.Answers.{IsFact};
 ghost use Rattle.lrat_live.specs.Listed.{listed_at};
@@ -18,7 +19,7 @@ use crate::table::LiveTable;
 use bound::weighted::{weighted_formula, weights};
 use cnf::clause_list::ClauseList;
 use cnf::limits::NUMBER_LIMIT;
-use cnf::types::{Instance, Lit};
+use cnf::types::{Formula, Instance, Lit};
 use forms::faults::LineFault;
 use forms::state::Forms;
 use forms::types::NamedFact;
@@ -140,25 +141,47 @@ fn name_facts(names: &mut Vec<NamedFact>, facts: &[WeightedFact]) -> Result<(), 
     Ok(())
 }
 
+/// No counts, groups or form yet: the clauses of this formula, which is that of the instance, were
+/// heard.
+fn forms_over(instance: &Instance, formula: &Formula) -> Result<Forms, AllocError>
+    requires { formula.now ≡ weighted_cnf instance.now }
+    ensures { IfOk result (λ f. f ≡ (cuts_start instance.now).forms) }
+{
+    instance.limits();
+    let weights = weights(instance)?;
+    let mut forms = Forms::new(instance.allocator(), formula.vars(), &weights)?;
+    match hear_all(&mut forms, formula.clauses()) {
+        Ok(()) => Ok(forms),
+        Err(fault) => {
+            // By a call: that is proved once, and not field by field here.
+            drop(forms);
+            Err(fault)
+        }
+    }
+}
+
 impl CutsBase {
     /// Before the first line: the clauses of the instance and of its relaxation are live.
     pub(crate) fn new(instance: &Instance) -> Result<Self, AllocError>
         ensures { IfOk result (λ b. b ≡ cuts_start instance.now) }
     {
-        instance.limits();
-        let alloc = instance.allocator();
         let formula = weighted_formula(instance)?;
-        let weights = weights(instance)?;
-        let mut forms = Forms::new(alloc, formula.vars(), &weights)?;
-        hear_all(&mut forms, formula.clauses())?;
-        Ok(CutsBase {
-            clauses: RupBase::new(formula)?,
-            forms,
-            ended: false,
-            worth: NUMBER_LIMIT,
-            proved: 0,
-            facts: Vec::new(alloc),
-        })
+        let forms = forms_over(instance, &formula)?;
+        match RupBase::new(formula) {
+            Ok(clauses) => Ok(CutsBase {
+                clauses,
+                forms,
+                ended: false,
+                worth: NUMBER_LIMIT,
+                proved: 0,
+                facts: Vec::new(instance.allocator()),
+            }),
+            Err(fault) => {
+                // By a call: that is proved once, and not field by field here.
+                drop(forms);
+                Err(fault)
+            }
+        }
     }
 
     /// Whether the empty clause was added.

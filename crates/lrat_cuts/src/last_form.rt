@@ -52,14 +52,20 @@ impl LastForm {
     {
         let alloc = instance.allocator();
         let mut machine = CutsMachine::new(instance, None)?;
-        let mut words = WordReader::new(alloc);
         let mut facts = Vec::new(alloc);
-        if take_lines(&mut machine, &mut words, &mut facts, proof)? {
-            return Ok(Some(LastForm { machine, facts }));
+        let judged = take_lines(&mut machine, &mut WordReader::new(alloc), &mut facts, proof);
+        // Dropped by calls: that is proved once, and not field by field here.
+        match judged {
+            Ok(true) => Ok(Some(LastForm { machine, facts })),
+            Ok(false) => {
+                drop(machine);
+                Ok(None)
+            }
+            Err(fault) => {
+                drop(machine);
+                Err(fault)
+            }
         }
-        // By a call: that is proved once, and not field by field here.
-        drop(machine);
-        Ok(None)
     }
 
     /// The facts of the present form, in the order of its lines.

@@ -225,7 +225,10 @@ impl CutsChecker {
         ensures failed { (result ≡ Err FeedFault.Failed) ↔ (self.failed ≡ true) }
     {
         let mut checker = self;
-        checker.judge_end()
+        let verdict = checker.judge_end();
+        // By a call: that is proved once, and not field by field here.
+        drop(checker);
+        verdict
     }
 
     /// As `finish`. It borrows the checker, which is of no use afterwards, so that none of its
@@ -261,13 +264,25 @@ impl CutsChecker {
         ensures failed { (result ≡ Err FeedFault.Failed) ↔ (self.failed ≡ true) }
         ensures only { OnErr result (result ≡ Err FeedFault.Failed) }
     {
+        // Dropped by calls: that is proved once, and not field by field here.
         if self.failed {
+            drop(self);
             return Err(FeedFault::Failed);
         }
         match self.refused {
-            Some(_) => Ok(None),
-            None => Ok(Some(self.machine)),
+            Some(_) => {
+                drop(self);
+                Ok(None)
+            }
+            None => Ok(Some(self.into_machine())),
         }
+    }
+
+    /// The machine; the rest is dropped.
+    fn into_machine(self) -> CutsMachine
+        ensures { result ≡ (self.reading).machine }
+    {
+        self.machine
     }
 
     /// What the lines prove that a line feed has ended. What follows the last one is dropped.
