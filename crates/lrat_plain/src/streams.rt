@@ -306,7 +306,10 @@ fn measure_over<R: Read>(
 {
     let given = count_given(whole)?;
     let mut run = begin(claim, given, NUMBER_LIMIT)?;
-    run.measure(proof)
+    let sizes = run.measure(proof);
+    // By a call: that is proved once, and not field by field here.
+    drop(run);
+    sizes
 }
 
 /// The formula of a claim, and what lines make.
@@ -368,5 +371,8 @@ fn write_over<R: Read, F: Write, C: Write>(
         return Err(PlainFault::Changed);
     }
     let mut run = begin(claim, given, given + outline.sizes.made)?;
-    run.write(outline, proof, formula, certificate)
+    let written = run.write(outline, proof, formula, certificate);
+    // By a call: that is proved once, and not field by field here.
+    drop(run);
+    written
 }

@@ -16,18 +16,18 @@ begin-requires-clause-given g c =
 pub returns-clause-sizes : goal.returns-clause-sizes
 returns-clause-sizes g c =
     let p = c.args.claim.instance.now in
-    IfOk-weaker c.measure.result _ _
+    IfOk-weaker c.measure-sizes.result _ _
     (λ s h. h c.args.claim.cost p c.in_ok-given.given _ c.in_ok-run.ensures.begun)
-    c.measure.ensures.sizes
+    c.measure-sizes.ensures.sizes
 
 pub returns-clause-fault : goal.returns-clause-fault
 returns-clause-fault g c =
     let p = c.args.claim.instance.now in
     let had = g.R.Read.remaining c.args.proof.now in
-    let left = g.R.Read.remaining c.measure.new.proof in
+    let left = g.R.Read.remaining c.measure-sizes.new.proof in
     let b = c.in_ok-run.ensures.begun in
     if_err_weaker
     (FaultWithin (c.in_ok-run.run'.steps).machine c.in_ok-run.run'.rest had left)
-    (IsFirstFault c.args.claim.cost p had left) c.measure.result
+    (IsFirstFault c.args.claim.cost p had left) c.measure-sizes.result
     (λ (f : PlainFault) k. fault_first c.args.claim.cost p _ _ _ _ f b.machine b.rest k)
-    c.measure.ensures.fault
+    c.measure-sizes.ensures.fault

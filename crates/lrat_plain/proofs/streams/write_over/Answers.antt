@@ -20,17 +20,17 @@ returns-clause-written g c =
     let b = c.in_ok-run.ensures.begun in
     let begun = subst (λ n. IsBegun cost p c.in_ok-given.given n c.in_ok-run.run')
     (sym (ap (λ (n : Names). n.all) b.names)) b in
-    ok_weaker _ _ c.write.result c.write.ensures.written
+    ok_weaker _ _ c.write-written.result c.write-written.ensures.written
     (λ h. h cost p c.in_ok-given.given begun c.requires c.in_ok-given.ensures.given)
 
 pub returns-clause-fault : goal.returns-clause-fault
 returns-clause-fault g c =
     let p = c.args.claim.instance.now in
     let had = g.R.Read.remaining c.args.proof.now in
-    let left = g.R.Read.remaining c.write.new.proof in
+    let left = g.R.Read.remaining c.write-written.new.proof in
     let b = c.in_ok-run.ensures.begun in
     if_err_weaker
     (FaultWithin (c.in_ok-run.run'.steps).machine c.in_ok-run.run'.rest had left)
-    (IsFirstFault c.args.claim.cost p had left) c.write.result
+    (IsFirstFault c.args.claim.cost p had left) c.write-written.result
     (λ (f : PlainFault) k. fault_first c.args.claim.cost p _ _ _ _ f b.machine b.rest k)
-    c.write.ensures.fault
+    c.write-written.ensures.fault
