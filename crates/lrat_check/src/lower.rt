@@ -79,7 +79,10 @@ fn judge_own<R: Read>(instance: &Instance, proof: &mut R) -> Result<LowerVerdict
         (λ v. IsLowerByCuts (R.remaining proof.old) (R.remaining proof.new) instance.now v) }
 {
     let mut checker = CutsChecker::new(instance, None)?;
-    judge_bound(&mut checker, proof)
+    let verdict = judge_bound(&mut checker, proof);
+    // By a call: that is proved once, and not field by field here.
+    drop(checker);
+    verdict
 }
 
 // The verdict, where nothing was read before. It borrows the checker, so that none of its exits has

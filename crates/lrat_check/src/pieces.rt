@@ -240,7 +240,10 @@ impl Checker {
         ensures failed { (result ≡ Err FeedFault.Failed) ↔ (self.failed ≡ true) }
     {
         let mut checker = self;
-        checker.judge_end()
+        let verdict = checker.judge_end();
+        // By a call: that is proved once, and not field by field here.
+        drop(checker);
+        verdict
     }
 
     /// As `finish`. It borrows the checker, which is of no use afterwards, so that none of its
