@@ -99,13 +99,18 @@ pub fn read_watched<R: Read>(
 {
     let mut parser = Parser::new(alloc);
     let mut chunk = [0u8; READ_SIZE];
+    // Dropped by calls: that is proved once, and not field by field here.
     'pieces: loop {
         let count = match reader.read(&mut chunk) {
             Ok(0) => return parser.finish(),
             Ok(count) => count,
-            Err(_) => return Err(FAILED),
+            Err(_) => {
+                drop(parser);
+                return Err(FAILED);
+            }
         };
         if let Err(fault) = parser.feed(&chunk[..count]) {
+            drop(parser);
             read_on(reader)?;
             return Err(fault);
         }
