@@ -92,16 +92,19 @@ live_up_to live (suc n) = by (live (suc n)) + live_up_to live n
     by None = 0
     by (Some c) = 1
 
+abbrev pub count_line : List ℕ → ℕ → List ℕ
+count_line label n = label ++ (decimal n ++ codes "\n")
+
 abbrev pub lines_text : LineCounts → List ℕ
 lines_text c =
-    codes "additions: " ++ (decimal c.additions
-    ++ (codes "\ndeletions: " ++ (decimal c.deletions
-    ++ (codes "\ncounts: " ++ (decimal c.counts
-    ++ (codes "\nfurther outputs of counts: " ++ (decimal c.outputs
-    ++ (codes "\ngroups: " ++ (decimal c.groups
-    ++ (codes "\nlines of forms: " ++ (decimal c.forms
-    ++ (codes "\ncuts: " ++ (decimal c.cuts
-    ++ (codes "\nbounds: " ++ (decimal c.bounds ++ codes "\n")))))))))))))))
+    count_line (codes "additions: ") c.additions
+    ++ (count_line (codes "deletions: ") c.deletions
+    ++ (count_line (codes "counts: ") c.counts
+    ++ (count_line (codes "further outputs of counts: ") c.outputs
+    ++ (count_line (codes "groups: ") c.groups
+    ++ (count_line (codes "lines of forms: ") c.forms
+    ++ (count_line (codes "cuts: ") c.cuts
+    ++ count_line (codes "bounds: ") c.bounds))))))
 
 abbrev pub live_text : Option ℕ → List ℕ
 live_text None = []

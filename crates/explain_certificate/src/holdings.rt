@@ -3,7 +3,7 @@ ghost use Rattle.std.specs.Prelude.{◌≡◌, ◌+◌, ◌<◌, ◌^◌, IfSome
 ghost use Rattle.text.specs.Text.{tokens_of};
 ghost use Rattle.text.specs.Writing.{Writes};
 ghost use Rattle.lrat_live.specs.Listed.{listed_at};
-ghost use Rattle.explain_certificate.specs.Holdings.{count_of_lines, counted, counts_of, end_text};
+ghost use Rattle.explain_certificate.specs.Holdings.{count_line, count_of_lines, counted, counts_of, end_text};
 ghost use Rattle.explain_certificate.specs.Holdings.{holdings_text, kind_of, kind_of_word};
 ghost use Rattle.explain_certificate.specs.Holdings.{lines_text};
 ghost use Rattle.explain_certificate.specs.Holdings.{live_text, live_up_to, proved_text};
@@ -211,22 +211,23 @@ fn put_lines<W: Write>(sheet: &mut Sheet, writer: &mut W, lines: LineCounts)
     ensures { Displays (W.contents writer.old) sheet.old (lines_text lines)
         (W.contents writer.new) sheet.new }
 {
-    sheet.put(writer, b"additions: ");
-    sheet.put_number(writer, lines.additions);
-    sheet.put(writer, b"\ndeletions: ");
-    sheet.put_number(writer, lines.deletions);
-    sheet.put(writer, b"\ncounts: ");
-    sheet.put_number(writer, lines.counts);
-    sheet.put(writer, b"\nfurther outputs of counts: ");
-    sheet.put_number(writer, lines.outputs);
-    sheet.put(writer, b"\ngroups: ");
-    sheet.put_number(writer, lines.groups);
-    sheet.put(writer, b"\nlines of forms: ");
-    sheet.put_number(writer, lines.forms);
-    sheet.put(writer, b"\ncuts: ");
-    sheet.put_number(writer, lines.cuts);
-    sheet.put(writer, b"\nbounds: ");
-    sheet.put_number(writer, lines.bounds);
+    put_count(sheet, writer, b"additions: ", lines.additions);
+    put_count(sheet, writer, b"deletions: ", lines.deletions);
+    put_count(sheet, writer, b"counts: ", lines.counts);
+    put_count(sheet, writer, b"further outputs of counts: ", lines.outputs);
+    put_count(sheet, writer, b"groups: ", lines.groups);
+    put_count(sheet, writer, b"lines of forms: ", lines.forms);
+    put_count(sheet, writer, b"cuts: ", lines.cuts);
+    put_count(sheet, writer, b"bounds: ", lines.bounds);
+}
+
+/// What is counted, how many there are of it, and a line feed.
+fn put_count<W: Write>(sheet: &mut Sheet, writer: &mut W, label: &[u8], count: u64)
+    ensures { Displays (W.contents writer.old) sheet.old (count_line label.now count)
+        (W.contents writer.new) sheet.new }
+{
+    sheet.put(writer, label);
+    sheet.put_number(writer, count);
     sheet.put(writer, b"\n");
 }
 
