@@ -1,5 +1,5 @@
 -- Texts that are put piece by piece, as far as they have come.
-use Rattle.std.proofs.Common.{◌≡◌, ℕ, ◌+◌, ◌*◌, ◌^◌, ◌<◌, ◌≤◌, List, [], ◌∷◌, ◌++◌, length, drop}
+use Rattle.std.proofs.Common.{◌≡◌, ℕ, ◌+◌, ◌*◌, ◌<◌, ◌≤◌, List, [], ◌∷◌, ◌++◌, length, drop}
 use Rattle.std.proofs.Common.{get_or, Option, Result, true, false, refl, sym, ◌∙◌, ap, subst}
 use Rattle.std.proofs.Common.{append_assoc, append-nil, arith}
 use Rattle.std.specs.List.{flat_map}
@@ -14,14 +14,13 @@ use Rattle.text.proofs.Laws.{flat_map-append}
 use Rattle.text.proofs.Laws.{passed-nil, passed-more, passed_fault, passed_whole, passed_part}
 use Rattle.text.proofs.Laws.{writes_after}
 use Rattle.cnf.specs.Problem.{Problem}
-use Rattle.cnf.specs.Instance.{IsInstance}
 use Rattle.adder.specs.declared.cells.Cell.{Cell}
 use Rattle.adder.specs.declared.profiles.Profile.{Profile}
 use Rattle.adder.specs.Network.{Adders, adders_as}
 use Rattle.bound.specs.Bound.{kept, bound_as, cell_clauses, dimacs_clause, dimacs_text, header_line}
 use Rattle.bound.specs.Bound.{relaxed_clauses, comparator_for}
 use Rattle.bound.specs.Adding.{Adds}
-use Rattle.bound.proofs.Few.{kept_le, cells_le, clauses_few}
+use Rattle.bound.proofs.Few.{kept_le, cells_le}
 use Rattle.bound.proofs.Kept.{kept-append, kept_one}
 
 -- of the whole text all but what is left was put
@@ -236,13 +235,12 @@ module _ (clause : List Literal) (rest : List (List Literal))
           put_fault a b h whole j c (dimacs_clause clause) (lines_of (kept rest))
           (same_left a b h whole j _ _ hard_next p) q
 
--- in all there are few
-pub sum_small : (profile : Profile) (p : Problem) (k : ℕ) (r m : List (List Literal)) (x : Adders)
-    → IsInstance p → r ≡ kept (relaxed_clauses profile p) → x ≡ adders_as profile p
-    → m ≡ comparator_for profile p k → (i j n l : ℕ) → i ≡ length (kept p.hard) → j ≡ length r
-    → n ≡ length (cells_kept x.cells) → l ≡ length m → i + j + n + l < 2 ^ 28
-sum_small profile p k r m x h er ex em i j n l a b c d =
-    let all : i + j + n + l ≡ length (bound_as profile p k).clauses =
-    counted (kept p.hard) r (cells_kept x.cells) m i j n l a b c d
-    ∙ (λ t. length (kept p.hard ++ er t ++ cells_kept (ex t).cells ++ em t)) in
-    subst (λ z. z < 2 ^ 28) (sym all) (clauses_few profile p k h)
+-- in all there are as many as the formula has
+module _ (profile : Profile) (p : Problem) (k : ℕ) (r m : List (List Literal)) (x : Adders)
+    (er : r ≡ kept (relaxed_clauses profile p)) (ex : x ≡ adders_as profile p)
+    (em : m ≡ comparator_for profile p k) (i j n l : ℕ) (a : i ≡ length (kept p.hard))
+    (b : j ≡ length r) (c : n ≡ length (cells_kept x.cells)) (d : l ≡ length m) where
+  pub sum_is : i + j + n + l ≡ length (bound_as profile p k).clauses
+  sum_is =
+      counted (kept p.hard) r (cells_kept x.cells) m i j n l a b c d
+      ∙ (λ t. length (kept p.hard ++ er t ++ cells_kept (ex t).cells ++ em t))
