@@ -3,7 +3,8 @@ ghost use Rattle.std.specs.Prelude.{◌≡◌, ◌+◌, ◌<◌, ◌^◌, IfSome
 ghost use Rattle.text.specs.Text.{tokens_of};
 ghost use Rattle.text.specs.Writing.{Writes};
 ghost use Rattle.lrat_live.specs.Listed.{listed_at};
-ghost use Rattle.explain_certificate.specs.Holdings.{count_line, count_of_lines, counted, counts_of, end_text};
+ghost use Rattle.explain_certificate.specs.Holdings.{count_line, count_of_lines, counted};
+ghost use Rattle.explain_certificate.specs.Holdings.{counts_of, end_text};
 ghost use Rattle.explain_certificate.specs.Holdings.{holdings_text, kind_of, kind_of_word};
 ghost use Rattle.explain_certificate.specs.Holdings.{lines_text};
 ghost use Rattle.explain_certificate.specs.Holdings.{live_text, live_up_to, proved_text};

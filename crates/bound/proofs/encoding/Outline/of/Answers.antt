@@ -18,7 +18,8 @@ count_cells-requires-clause-variables c =
     (cells_variables c.args.profile c.args.instance.now c.limits.ensures)
 
 module _ (c : After-len-last_part) where
-  relaxed_is : c.keep_relaxed.new.clauses ≡ kept (relaxed_clauses c.args.profile c.args.instance.now)
+  relaxed_is : c.keep_relaxed.new.clauses
+      ≡ kept (relaxed_clauses c.args.profile c.args.instance.now)
   relaxed_is =
       c.in_ok-last.ensures.clauses
       ∙ ap (λ z. z ++ kept (relaxed_clauses c.args.profile c.args.instance.now))
