@@ -130,6 +130,23 @@ table_reclaimed ls kept es compacted linked before hs t laid live clauses fewer 
       chained = chained;
     }
 
+-- the same clauses, where the entries may be linked anew
+pub table_linked : (ls ms : List Literal) (es fs ds : List AddedEntry) (hs gs : List ℕ)
+    → IsTable ls es hs → ms ≡ ls → ds ≡ fs → entry_spans fs ≡ entry_spans es
+    → length fs ≤ length gs
+    → IsChained (length gs) gs (keys_of (entry_spans fs)) (nexts_of fs) → IsTable ms ds gs
+table_linked ls ms es fs ds hs gs t same is spans room chained =
+    let count : length fs ≡ length es =
+    sym (length-map fs entry_span) ∙ ap length spans ∙ length-map es entry_span in
+    rw (same, is) (record {
+      laid = rw spans t.laid;
+      rising = rw spans t.rising;
+      few_literals = t.few_literals;
+      few_entries = omega (arith, count, t.few_entries);
+      room = room;
+      chained = chained;
+    })
+
 -- the literals of an entry lie in the table
 pub literals_end : (ls : List Literal) (es : List AddedEntry) (i : ℕ) (d : AddedEntry)
     → IsLaid 0 (entry_spans es) (length ls) → i < length es

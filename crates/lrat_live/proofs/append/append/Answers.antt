@@ -1,13 +1,14 @@
-use Rattle.std.proofs.Common.{◌≡◌, ◌+◌, ◌<◌, ◌≤◌, ap, arith, drop, length, refl, true, ◌∙◌}
+use Rattle.std.proofs.Common.{◌≡◌, ◌+◌, ◌<◌, ◌≤◌, ap, arith, drop, length, refl, true, ◌∙◌, List}
 use Rattle.std.proofs.lemmas.List.{get_or_default, take_at}
 use Rattle.std.specs.Prelude.{slice_index}
+use Rattle.cnf.specs.Literal.{Literal}
 use Rattle.lrat_live.specs.Chains.{IsChained, bucket_of}
-use Rattle.lrat_live.specs.Table.{entry_spans, keys_of, nexts_of}
+use Rattle.lrat_live.specs.Table.{entry_spans, keys_of, nexts_of, IsTable}
 use Rattle.lrat_live.specs.declared.entries.AddedEntry.{AddedEntry}
 use Rattle.lrat_live.specs.declared.spans.TheConstants.{MOST_KEPT}
-use Rattle.lrat_live.proofs.Tables.{table_push, table_clauses}
+use Rattle.lrat_live.proofs.Tables.{table_clauses, table_linked, table_push}
 use Rattle.lrat_live.proofs.append.append.Goals as goal
-use Rattle.lrat_live.proofs.append.append.Goals.{In_ok-reserve}
+use Rattle.lrat_live.proofs.append.append.Goals.{After-reserve, In_ok-reserve}
 
 grown_is : (c : In_ok-reserve) → c.reserve.new.self.items ≡ c.grow.new.entries
 grown_is c = c.in_ok-reserve.ensures.items
@@ -18,6 +19,38 @@ grown_spans : (c : In_ok-reserve)
     → entry_spans c.reserve.new.self.items ≡ entry_spans c.args.entries.now.items
 grown_spans c = ap entry_spans (grown_is c) ∙ c.in_ok-grow.ensures.spans
     ∙ ap entry_spans c.deref_mut.ensures.value
+
+-- where room was refused, the entries may be linked anew
+regrown : (c : After-reserve) (ms : List Literal) (ds : List AddedEntry)
+    → ms ≡ c.args.lits.now.items → ds ≡ c.reserve.new.self.items
+    → IsTable ms ds c.grow.new.heads.items
+regrown c ms ds same is =
+    table_linked c.args.lits.now.items ms c.args.entries.now.items c.grow.new.entries ds
+    c.args.heads.now.items c.grow.new.heads.items c.requires.table same
+    (is ∙ c.reserve.ensures.items
+    ∙ take_at c.grow.new.entries (drop (length c.grow.new.entries) c.args.entries.now.items)
+    c.args.entries.now.len (omega arith))
+    (c.grow.ensures.spans ∙ ap entry_spans c.deref_mut.ensures.value) c.grow.ensures.kept_room
+    c.grow.ensures.chained
+
+pub returns-in_err-grow-clause-table : goal.returns-in_err-grow-clause-table
+returns-in_err-grow-clause-table c =
+    table_linked c.args.lits.now.items _ c.args.entries.now.items c.grow.new.entries _
+    c.args.heads.now.items c.grow.new.heads.items c.requires.table refl
+    (take_at c.grow.new.entries (drop (length c.grow.new.entries) c.args.entries.now.items)
+    c.args.entries.now.len (omega arith))
+    (c.grow.ensures.spans ∙ ap entry_spans c.deref_mut.ensures.value) c.grow.ensures.kept_room
+    c.grow.ensures.chained
+
+pub returns-in_err-reserve-clause-table : goal.returns-in_err-reserve-clause-table
+returns-in_err-reserve-clause-table c =
+    regrown (goal.at.returns-in_err-reserve-clause-table c).After-reserve _ _ refl refl
+
+pub returns-in_err-extend_from_slice-clause-table :
+    goal.returns-in_err-extend_from_slice-clause-table
+returns-in_err-extend_from_slice-clause-table c =
+    regrown (goal.at.returns-in_err-extend_from_slice-clause-table c).After-reserve _ _
+    c.in_err-extend_from_slice.ensures.items refl
 
 pub returns-clause-table : goal.returns-clause-table
 returns-clause-table c =
