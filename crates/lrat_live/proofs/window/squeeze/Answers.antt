@@ -1,5 +1,5 @@
 use Rattle.std.proofs.Common.{◌≡◌, ◌+◌, ◌<◌, ◌≤◌, ◌∙◌, true, false, length, get_or, take, refl}
-use Rattle.std.proofs.Common.{sym, subst, arith, length-set}
+use Rattle.std.proofs.Common.{sym, subst, arith, length-set, length-take, ap, drop}
 use Rattle.std.proofs.lemmas.List.{take-take, take_all}
 use Rattle.lrat_live.specs.Near.{is_live, AreSpread}
 use Rattle.lrat_live.specs.declared.spans.LiveSpan.{LiveSpan}
@@ -9,6 +9,7 @@ use Rattle.lrat_live.proofs.WindowLaws.{rest_dead, front_dead, is_above, is_with
 use Rattle.lrat_live.proofs.WindowLaws.{long_kept, front_moved, rest_moved, clauses_moved}
 use Rattle.lrat_live.proofs.WindowLaws.{clauses_cut}
 use Rattle.lrat_live.proofs.window.squeeze.Goals as goal
+use Rattle.lrat_live.proofs.window.squeeze.Goals.{After-truncate}
 
 pub loop-place-preserved-then-not-is_live : goal.loop-place-preserved-then-not-is_live
 loop-place-preserved-then-not-is_live c =
@@ -74,6 +75,22 @@ loop-place-preserved c =
       count = length-set ss i x ∙ inv.count;
     }
 
+all_spread : (c : After-truncate) → AreSpread c.args.from c.loop-place.spans c.loop-place.end
+all_spread c =
+    subst (λ xs. AreSpread c.args.from xs c.loop-place.end)
+    (take_all c.loop-place.place c.loop-place.spans (omega arith)) c.loop-place.invariant.front
+
+pub returns-clause-spread : goal.returns-clause-spread
+returns-clause-spread c =
+    let l = c.loop-place in
+    let within : l.end ≤ length l.lits.items =
+    spread_le l.end (drop l.place l.spans) (length l.lits.items) l.invariant.rest in
+    let long : length c.truncate.new.self.items ≡ l.end =
+    ap length c.truncate.ensures.items
+    ∙ omega (arith, within, length-take l.end l.lits.items) in
+    subst (AreSpread c.args.from l.spans) (sym long)
+    (all_spread (goal.at.returns-clause-spread c).After-truncate)
+
 pub returns-clause-below : goal.returns-clause-below
 returns-clause-below c =
     let inv = c.loop-place.invariant in
@@ -85,10 +102,6 @@ returns-clause-below c =
 pub returns-clause-clauses : goal.returns-clause-clauses
 returns-clause-clauses c =
     let inv = c.loop-place.invariant in
-    let ss = c.loop-place.spans in
-    let end = c.loop-place.end in
-    let spread : AreSpread c.args.from ss end =
-    subst (λ xs. AreSpread c.args.from xs end) (take_all c.loop-place.place ss (omega arith))
-    inv.front in
     λ n. rw c.truncate.ensures.items
-    (clauses_cut c.loop-place.lits.items ss c.args.from end n spread ∙ inv.clauses n)
+    (clauses_cut c.loop-place.lits.items c.loop-place.spans c.args.from c.loop-place.end n
+    (all_spread (goal.at.returns-clause-clauses c).After-truncate) ∙ inv.clauses n)
