@@ -118,12 +118,26 @@ pub fn eliminate<S: Sink>(
         (live_clauses store.old.slots) (S.lines sink.new) stack store.new.slots) }
 {
     let mut simplifier = Simplifier::new(store.allocator(), store, frozen.len() as u32)?;
-    let vars = run_passes(&mut simplifier, store, frozen, sink)?;
+    // Dropped by calls: that is proved once, and not field by field here.
+    let vars = match run_passes(&mut simplifier, store, frozen, sink) {
+        Ok(vars) => vars,
+        Err(AllocError) => {
+            drop(simplifier);
+            return Err(AllocError);
+        }
+    };
     move_together(store, &mut simplifier.names);
-    let names = simplifier.names.into_packed()?;
+    let (names, removed) = simplifier.into_left();
+    let names = match names.into_packed() {
+        Ok(names) => names,
+        Err(AllocError) => {
+            drop(removed);
+            return Err(AllocError);
+        }
+    };
     Ok(Stack {
         vars,
-        removed: simplifier.removals,
+        removed,
         names,
     })
 }

@@ -77,6 +77,14 @@ impl Simplifier {
         })
     }
 
+    /// The names and the removals; the other tables are dropped.
+    pub(crate) fn into_left(self) -> (Names, Removals)
+        ensures names { result.0 ≡ self.names }
+        ensures removals { result.1 ≡ self.removals }
+    {
+        (self.names, self.removals)
+    }
+
     /// In how many clauses, deleted ones too, a literal occurs.
     pub(crate) fn occurrence_count(&self, lit: Lit) -> usize {
         if lit.index() < self.occurrences.count() {

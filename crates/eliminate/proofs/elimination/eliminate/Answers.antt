@@ -18,7 +18,7 @@ use Rattle.eliminate.proofs.Listed.{together_holds}
 use Rattle.eliminate.proofs.Starting.{stays_start}
 use Rattle.eliminate.proofs.elimination.eliminate.Given.{Over}
 use Rattle.eliminate.proofs.elimination.eliminate.Goals as goal
-use Rattle.eliminate.proofs.elimination.eliminate.Goals.{In_ok-simplifier, In_ok-vars}
+use Rattle.eliminate.proofs.elimination.eliminate.Goals.{In_ok-simplifier, In-Ok}
 use Rattle.eliminate.proofs.elimination.eliminate.Goals.{After-move_together}
 
 abbrev start_of : Slots → List Bool → Start
@@ -34,13 +34,13 @@ tables g c =
     (c.in_ok-simplifier.ensures.simplified c.args.frozen.now refl)
 
 -- and what the passes leave is a result
-ended : (g : Over) (c : In_ok-vars g)
+ended : (g : Over) (c : In-Ok g)
     → IsResult (start_of c.args.store.now.slots c.args.frozen.now)
     c.run_passes.new.simplifier.removals
-    (stage_of c.in_ok-vars.vars c.run_passes.new.store.slots
+    (stage_of c.in-Ok.vars c.run_passes.new.store.slots
     c.run_passes.new.simplifier.names (g.S.Sink.lines c.run_passes.new.sink))
-ended g c = c.in_ok-vars.ensures.result (start_of c.args.store.now.slots c.args.frozen.now) refl
-    (tables g (goal.at.In_ok-vars g c).In_ok-simplifier)
+ended g c = c.in-Ok.ensures.result (start_of c.args.store.now.slots c.args.frozen.now) refl
+    (tables g (goal.at.In-Ok g c).In_ok-simplifier)
 
 pub run_passes-requires : goal.run_passes-requires
 run_passes-requires g c = record {
@@ -62,34 +62,35 @@ pub returns-in_err-simplifier-clause-none_learned
     : goal.returns-in_err-simplifier-clause-none_learned
 returns-in_err-simplifier-clause-none_learned g c = ap learned_count c.requires.empty
 
-pub returns-in_err-vars-clause-lines : goal.returns-in_err-vars-clause-lines
-returns-in_err-vars-clause-lines g c =
-    (c.in_err-vars.ensures.err (start_of c.args.store.now.slots c.args.frozen.now) refl
-    (tables g (goal.at.returns-in_err-vars-clause-lines g c).In_ok-simplifier)).0
+pub returns-in-Err-clause-lines : goal.returns-in-Err-clause-lines
+returns-in-Err-clause-lines g c =
+    (c.in-Err.ensures.err (start_of c.args.store.now.slots c.args.frozen.now) refl
+    (tables g (goal.at.returns-in-Err-clause-lines g c).In_ok-simplifier)).0
 
-pub returns-in_err-vars-clause-none_learned : goal.returns-in_err-vars-clause-none_learned
-returns-in_err-vars-clause-none_learned g c =
-    (c.in_err-vars.ensures.err (start_of c.args.store.now.slots c.args.frozen.now) refl
-    (tables g (goal.at.returns-in_err-vars-clause-none_learned g c).In_ok-simplifier)).1
+pub returns-in-Err-clause-none_learned : goal.returns-in-Err-clause-none_learned
+returns-in-Err-clause-none_learned g c =
+    (c.in-Err.ensures.err (start_of c.args.store.now.slots c.args.frozen.now) refl
+    (tables g (goal.at.returns-in-Err-clause-none_learned g c).In_ok-simplifier)).1
 
 pub returns-clause-lines : goal.returns-clause-lines
-returns-clause-lines g c = (ended g (goal.at.returns-clause-lines g c).In_ok-vars).work.log
+returns-clause-lines g c = (ended g (goal.at.returns-clause-lines g c).In-Ok).work.log
 
 pub returns-clause-none_learned : goal.returns-clause-none_learned
 returns-clause-none_learned g c =
-    (ended g (goal.at.returns-clause-none_learned g c).In_ok-vars).work.none_learned
+    (ended g (goal.at.returns-clause-none_learned g c).In-Ok).work.none_learned
 
 pub move_together-requires : goal.move_together-requires
 move_together-requires g c =
-    (ended g (goal.at.move_together-requires g c).In_ok-vars).work.named.long
+    (ended g (goal.at.move_together-requires g c).In-Ok).work.named.long
 
-pub returns-in_err-names-clause-lines : goal.returns-in_err-names-clause-lines
-returns-in_err-names-clause-lines g c =
-    (ended g (goal.at.returns-in_err-names-clause-lines g c).In_ok-vars).work.log
+pub returns-in-Err-into_packed-clause-lines : goal.returns-in-Err-into_packed-clause-lines
+returns-in-Err-into_packed-clause-lines g c =
+    (ended g (goal.at.returns-in-Err-into_packed-clause-lines g c).In-Ok).work.log
 
-pub returns-in_err-names-clause-none_learned : goal.returns-in_err-names-clause-none_learned
-returns-in_err-names-clause-none_learned g c =
-    (ended g (goal.at.returns-in_err-names-clause-none_learned g c).In_ok-vars).work.none_learned
+pub returns-in-Err-into_packed-clause-none_learned
+    : goal.returns-in-Err-into_packed-clause-none_learned
+returns-in-Err-into_packed-clause-none_learned g c =
+    (ended g (goal.at.returns-in-Err-into_packed-clause-none_learned g c).In-Ok).work.none_learned
 
 -- what was left has its clauses still
 same_clauses : (g : Over) (c : After-move_together g)
@@ -100,23 +101,25 @@ same_clauses g c = ap live_clauses c.move_together.ensures.slots
 
 pub returns-clause-leaves : goal.returns-clause-leaves
 returns-clause-leaves g c =
-    let k = ended g (goal.at.returns-clause-leaves g c).In_ok-vars in
+    let k = ended g (goal.at.returns-clause-leaves g c).In-Ok in
     let removed = c.run_passes.new.simplifier.removals in
     let slots = c.run_passes.new.store.slots in
     let same = same_clauses g (goal.at.returns-clause-leaves g c).After-move_together in
+    rw c.into_left-names.ensures.removals
     record {
       together = c.move_together.ensures.slots ∙ ap (map Some) (sym same);
       live =
           λ base above. together_holds slots c.move_together.new.store.slots
-          c.run_passes.new.simplifier.names.names c.in_ok-names.names.items base _
+          c.run_passes.new.simplifier.names.names c.in-Ok-into_packed.names.items base _
           (log_live (given_of (live_clauses c.args.store.now.slots)) base
           (g.S.Sink.lines c.run_passes.new.sink)) k.work.named.numbers k.work.named.long
           c.move_together.ensures.slots
-          (c.in_ok-names.ensures ∙ ap (λ (n : NamesState). n.names) c.move_together.ensures.names)
+          (c.in-Ok-into_packed.ensures ∙ ap (λ (n : NamesState). n.names)
+          (c.into_left-names.ensures.names ∙ c.move_together.ensures.names))
           (k.work.named.live base above);
       left =
-          subst (All (IsFormulaClause c.in_ok-vars.vars)) (sym same)
-          (all_live (IsFormulaClause c.in_ok-vars.vars) slots k.work.clauses);
+          subst (All (IsFormulaClause c.in-Ok.vars)) (sym same)
+          (all_live (IsFormulaClause c.in-Ok.vars) slots k.work.clauses);
       variables = (k.more, k.fresh);
       free =
           subst (AreFreeOf removed) (sym same)
@@ -128,8 +131,9 @@ returns-clause-leaves g c =
           (subst (SatisfiesAll (assignment_of bits)) same all);
       refuted =
           λ works. subst (λ (cs : List (List Literal)). Contains cs []) (sym same)
-          (c.in_ok-vars.ensures.refuted works);
+          (c.in-Ok.ensures.refuted works);
     }
 
 pub invariant_of-result : goal.invariant_of-result
-invariant_of-result g c = (ended g (goal.at.invariant_of-result g c).In_ok-vars).within
+invariant_of-result g c = rw c.into_left-names.ensures.removals
+    (ended g (goal.at.invariant_of-result g c).In-Ok).within

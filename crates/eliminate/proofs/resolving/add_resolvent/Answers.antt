@@ -1,6 +1,6 @@
 -- The resolvent is there, or has complementary literals.
-use Rattle.std.proofs.Common.{◌≡◌, ◌∙◌, ◌++◌, ◌∷◌, [], List, Some, true, ap, sym, subst, inr}
-use Rattle.std.proofs.Common.{length}
+use Rattle.std.proofs.Common.{◌≡◌, ◌∙◌, ◌++◌, ◌∷◌, [], List, Some, true, ap, sym, subst}
+use Rattle.std.proofs.Common.{inl, inr, length}
 use Rattle.std.proofs.lemmas.Bool.{not-true}
 use Rattle.std.proofs.lemmas.Result.{MatchResult-from_err}
 use Rattle.cnf.specs.Literal.{Literal, negation}
@@ -9,12 +9,17 @@ use Rattle.clauses.specs.Slots.{Slots, clause_at}
 use Rattle.lrat_log.specs.Log.{LogLine}
 use Rattle.eliminate.specs.declared.simplifier.Simplifier.{Simplifier}
 use Rattle.eliminate_tables.specs.Resolvents.{resolvent}
+use Rattle.eliminate.specs.State.{Start}
+use Rattle.eliminate.specs.Simplifier.{IsSimplified}
 use Rattle.eliminate.specs.Variables.{GrowsWithout}
 use Rattle.eliminate.proofs.Resolvable.{resolvent_addable, resolvent_kind, literals_placed}
 use Rattle.eliminate.proofs.Resolvable.{literals_plain, is_named, same_at, pair_added}
 use Rattle.eliminate.proofs.Growing.{grows_one, resolvent-lacks}
-use Rattle.eliminate.proofs.Tables.{leaves_beside}
+use Rattle.eliminate.proofs.Simplified.{log_of}
+use Rattle.eliminate.proofs.Tables.{leaves_beside, simplified_beside}
+use Rattle.eliminate.proofs.resolving.add_resolvent.Given.{Over}
 use Rattle.eliminate.proofs.resolving.add_resolvent.Goals as goal
+use Rattle.eliminate.proofs.resolving.add_resolvent.Goals.{After-resolve}
 
 pub resolve-requires-clause-first : goal.resolve-requires-clause-first
 resolve-requires-clause-first g c =
@@ -132,3 +137,51 @@ returns-clause-added g c = (
       c.in_ok-reference.ensures.adds.slots (c.in_ok-is_plain.ensures.built c.if-not-is_plain.false)
       c.lits.ensures c.lits-2.ensures x y ex ey,
 )
+
+pub returns-in_err-is_plain-clause-passes : goal.returns-in_err-is_plain-clause-passes
+returns-in_err-is_plain-clause-passes g c =
+    MatchResult-from_err _ _ _ c.from_residual.ensures.0
+    (λ _ start h. log_of start c.args.simplifier.now c.args.store.now.slots
+    (g.S.Sink.lines c.args.sink.now) h)
+
+-- the resolvent was built, and nothing else changed
+built : (g : Over) (c : After-resolve g) (start : Start)
+    → IsSimplified start c.args.simplifier.now c.args.store.now.slots
+    (g.S.Sink.lines c.args.sink.now)
+    → IsSimplified start (record c.args.simplifier.now {
+      marks = c.resolve.new.marks;
+      clause = c.resolve.new.out;
+    }) c.args.store.now.slots (g.S.Sink.lines c.args.sink.now)
+built g c start h =
+    simplified_beside start c.args.simplifier.now c.resolve.new.marks c.resolve.new.out
+    c.args.simplifier.now.schedule c.args.store.now.slots (g.S.Sink.lines c.args.sink.now)
+    c.resolve.ensures.len h
+
+pub returns-then-not-is_plain-clause-passes : goal.returns-then-not-is_plain-clause-passes
+returns-then-not-is_plain-clause-passes g c =
+    built g (goal.at.returns-then-not-is_plain-clause-passes g c).After-resolve
+
+pub returns-then-not-is_plain-clause-grows : goal.returns-then-not-is_plain-clause-grows
+returns-then-not-is_plain-clause-grows g c = record {
+  kept = λ _ _ e. e;
+  came = λ _ _ e. inl e;
+}
+
+pub returns-then-not-is_plain-clause-none : goal.returns-then-not-is_plain-clause-none
+returns-then-not-is_plain-clause-none g c _ = c.requires.is_open.going
+
+pub add-requires-clause-is_open : goal.add-requires-clause-is_open
+add-requires-clause-is_open g c =
+    let h = c.requires.is_open.simplified in
+    record {
+      simplified = (
+        h.0,
+        built g (goal.at.add-requires-clause-is_open g c).After-resolve h.0 h.1,
+      );
+      going = c.requires.is_open.going;
+    }
+
+pub returns-clause-passes : goal.returns-clause-passes
+returns-clause-passes g c start h =
+    c.in_ok-reference.ensures.passes start
+    (built g (goal.at.returns-clause-passes g c).After-resolve start h)

@@ -1,7 +1,9 @@
 -- One pair more is resolved.
-use Rattle.std.proofs.Common.{◌∙◌, sym, subst, arith}
+use Rattle.std.proofs.Common.{◌∙◌, inl, sym, subst, arith}
 use Rattle.std.specs.Prelude.{All}
+use Rattle.std.proofs.lemmas.Bool.{both_ways}
 use Rattle.std.proofs.lemmas.List.{take_all}
+use Rattle.std.proofs.lemmas.List.Elements.{All-nil}
 use Rattle.std.proofs.lemmas.Result.{MatchResult-from_err}
 use Rattle.cnf.specs.Literal.{negation}
 use Rattle.eliminate.specs.Variables.{IsWith, IsPairResolved}
@@ -59,3 +61,38 @@ returns-clause-resolved g c works =
     c.args.first)) (take_all c.loop-second.second-index c.deref-second-items.result.now
     (let e = c.loop-second-test.false in omega arith) ∙ c.deref-second-items.ensures.value)
     c.loop-second.invariant.resolved
+
+pub loop-second-init : goal.loop-second-init
+loop-second-init g c = record {
+  simplified = λ _ h. h;
+  works = c.requires.is_open.going;
+  grows = record { kept = λ _ _ e. e; came = λ _ _ e. inl e };
+  resolved = All-nil _;
+}
+
+pub add_resolvent-requires-clause-is_open : goal.add_resolvent-requires-clause-is_open
+add_resolvent-requires-clause-is_open g c =
+    let h = c.requires.is_open.simplified in
+    record {
+      simplified = (h.0, c.loop-second.invariant.simplified h.0 h.1);
+      going = c.loop-second.invariant.works;
+    }
+
+pub add_resolvent-requires-clause-first : goal.add_resolvent-requires-clause-first
+add_resolvent-requires-clause-first g c =
+    with_later c.args.parents.now.pivot c.args.store.now.slots c.loop-second.store.slots
+    c.args.first c.loop-second.invariant.grows.kept c.requires.first
+
+pub returns-then-simplifier-clause-passes : goal.returns-then-simplifier-clause-passes
+returns-then-simplifier-clause-passes g c start h =
+    c.in_ok-add_resolvent.ensures.passes start (c.loop-second.invariant.simplified start h)
+
+pub returns-then-simplifier-clause-resolved : goal.returns-then-simplifier-clause-resolved
+returns-then-simplifier-clause-resolved g c works =
+    absurd (both_ways _ works c.if-simplifier.true)
+
+pub returns-clause-passes : goal.returns-clause-passes
+returns-clause-passes g c = c.loop-second.invariant.simplified
+
+pub returns-clause-grows : goal.returns-clause-grows
+returns-clause-grows g c = c.loop-second.invariant.grows

@@ -1,9 +1,11 @@
 -- One variable more was tried.
-use Rattle.std.proofs.Common.{◌∙◌, List, ap, refl}
+use Rattle.std.proofs.Common.{◌≡◌, ◌∙◌, List, ap, refl, sym, subst}
 use Rattle.std.proofs.lemmas.Result.{MatchResult-from_err}
+use Rattle.cnf.specs.Literal.{Literal}
 use Rattle.clauses.specs.Slots.{Slots, StoreState}
 use Rattle.lrat_log.specs.Log.{LogLine}
 use Rattle.eliminate.specs.declared.simplifier.Simplifier.{Simplifier}
+use Rattle.eliminate.specs.Elimination.{positive, IsFree}
 use Rattle.eliminate.specs.Variables.{StaysOver}
 use Rattle.eliminate.proofs.Tables.{simplified_beside, simplified_at}
 use Rattle.eliminate.proofs.variables.eliminate_variables.Given.{Over}
@@ -61,3 +63,33 @@ loop-try-preserved g c =
         works = ap (λ (x : Simplifier). x.is_refuted) w.simplifier-is ∙ c.loop-try.invariant.works;
       }
     ]
+
+pub loop-try-init : goal.loop-try-init
+loop-try-init g c = record { simplified = λ _ _ h. h; works = c.requires.going }
+
+pub try_variable-requires-clause-is_open : goal.try_variable-requires-clause-is_open
+try_variable-requires-clause-is_open g c =
+    let h = c.requires.simplified in
+    record {
+      simplified = (
+        h.0,
+        h.1,
+        popped g (goal.at.try_variable-requires-clause-is_open g c).After-pop h.0 h.1 h.2,
+      );
+      going = c.loop-try.invariant.works;
+    }
+
+pub try_variable-requires-clause-free : goal.try_variable-requires-clause-free
+try_variable-requires-clause-free g c =
+    subst (λ (l : Literal). IsFree c.args.frozen.now l.variable) (sym c.new-parents.ensures)
+    (c.is_free.ensures c.if-is_free.true)
+
+pub try_variable-requires-clause-plain : goal.try_variable-requires-clause-plain
+try_variable-requires-clause-plain g c =
+    subst (λ (l : Literal). l ≡ positive l.variable) (sym c.new-parents.ensures) refl
+
+pub returns-in_default : goal.returns-in_default
+returns-in_default g c = popped g (goal.at.returns-in_default g c).After-pop
+
+pub returns : goal.returns
+returns g c = c.loop-try.invariant.simplified

@@ -1,11 +1,16 @@
 -- The clauses are those with the variable, before and after the resolvents are added.
-use Rattle.std.proofs.Common.{◌≡◌, sym, subst}
+use Rattle.std.proofs.Common.{◌≡◌, ◌∙◌, sym, subst}
 use Rattle.std.proofs.lemmas.Result.{MatchResult-from_err}
 use Rattle.cnf.specs.Literal.{Literal, negation}
 use Rattle.eliminate.specs.Elimination.{positive, IsFree}
+use Rattle.eliminate.specs.State.{Start}
+use Rattle.eliminate.specs.Simplifier.{IsSimplified}
 use Rattle.eliminate.proofs.Growing.{those_later, those_not_later, pairs_now}
 use Rattle.eliminate.proofs.Resolvable.{literals_placed}
+use Rattle.eliminate.proofs.Simplified.{log_of}
+use Rattle.eliminate.proofs.variables.try_variable.Given.{Over}
 use Rattle.eliminate.proofs.variables.try_variable.Goals as goal
+use Rattle.eliminate.proofs.variables.try_variable.Goals.{After-find_parents}
 
 pub find_parents-requires-clause-placed : goal.find_parents-requires-clause-placed
 find_parents-requires-clause-placed g c r x e =
@@ -66,3 +71,57 @@ returns-in_err-remove_variable g c =
     (λ _ start same h. c.in_err-remove_variable.ensures start same
     (c.in_ok-add_resolvents.ensures.passes start
     (c.find_parents.ensures.form.stays (g.S.Sink.lines c.args.sink.now) start h)))
+
+-- the clauses were found, and nothing else changed
+found : (g : Over) (c : After-find_parents g) (start : Start)
+    → IsSimplified start c.args.simplifier.now c.args.store.now.slots
+    (g.S.Sink.lines c.args.sink.now)
+    → IsSimplified start c.find_parents.new.simplifier c.args.store.now.slots
+    (g.S.Sink.lines c.args.sink.now)
+found g c = c.find_parents.ensures.form.stays (g.S.Sink.lines c.args.sink.now)
+
+pub returns-in_err-find_parents : goal.returns-in_err-find_parents
+returns-in_err-find_parents g c =
+    MatchResult-from_err _ _ _ c.from_residual.ensures.0
+    (λ _ start same h. log_of start c.args.simplifier.now c.args.store.now.slots
+    (g.S.Sink.lines c.args.sink.now) h)
+
+pub returns-then-not-branch : goal.returns-then-not-branch
+returns-then-not-branch g c start same h =
+    found g (goal.at.returns-then-not-branch g c).After-find_parents start h
+
+pub add_resolvents-requires-clause-is_open : goal.add_resolvents-requires-clause-is_open
+add_resolvents-requires-clause-is_open g c =
+    let h = c.requires.is_open.simplified in
+    record {
+      simplified = (
+        h.0,
+        found g (goal.at.add_resolvents-requires-clause-is_open g c).After-find_parents h.0 h.2,
+      );
+      going = c.find_parents.ensures.form.refuted ∙ c.requires.is_open.going;
+    }
+
+pub returns-then-simplifier : goal.returns-then-simplifier
+returns-then-simplifier g c start same h =
+    c.in_ok-add_resolvents.ensures.passes start
+    (found g (goal.at.returns-then-simplifier g c).After-find_parents start h)
+
+pub remove_variable-requires-clause-is_open : goal.remove_variable-requires-clause-is_open
+remove_variable-requires-clause-is_open g c =
+    let h = c.requires.is_open.simplified in
+    record {
+      simplified = (
+        h.0,
+        h.1,
+        c.in_ok-add_resolvents.ensures.passes h.0
+            (found g (goal.at.remove_variable-requires-clause-is_open g c).After-find_parents h.0
+            h.2),
+      );
+      going = c.if-simplifier.false;
+    }
+
+pub returns : goal.returns
+returns g c start same h =
+    c.in_ok-remove_variable.ensures start same
+    (c.in_ok-add_resolvents.ensures.passes start
+    (found g (goal.at.returns g c).After-find_parents start h))
