@@ -1,6 +1,7 @@
 // The state of a search, and the moves of its engine.
 ghost use Rattle.std.specs.Prelude.{◌≡◌, true, false, ◌+◌, ◌<◌, ◌≤◌, [], ◌∷◌, ◌++◌, Some, None};
 ghost use Rattle.std.specs.Prelude.{length, min, All, IfOk, OnOk, IfSome, IfNone};
+ghost use Rattle.cnf.specs.declared.limits.TheConstants.{VARIABLE_LIMIT};
 ghost use Rattle.propagate.specs.Trail.{literals_of, depth_of, kept_to};
 ghost use Rattle.propagate.specs.Watches.{is_attached, IsBare};
 ghost use Rattle.propagate.specs.Fits.{IsFalseClause, IsWithin, GrowsByUnits};
@@ -64,10 +65,15 @@ impl Search {
             s.policy ≡ record { variables = 0; has_learned = false }) }
         ensures analyzer { IfOk result (λ s. s.analyzer ≡ 1) }
     {
-        // The engine has the most fields, so it comes last: no exit has to drop it.
-        let analyzer = Analyzer::new(alloc, 0)?;
-        let policy = Policy::new(alloc, 0)?;
         let engine = Engine::new(alloc, 0)?;
+        let (policy, analyzer) = match memory_of(alloc, 0) {
+            Ok(pair) => pair,
+            Err(AllocError) => {
+                // By a call: that is proved once, and not field by field here.
+                drop(engine);
+                return Err(AllocError);
+            }
+        };
         Ok(Search {
             store: Store::new(alloc),
             engine,
@@ -213,6 +219,24 @@ impl Search {
         } ∷ []) }
     {
         self.engine.decide(lit);
+    }
+}
+
+/// The policy of a search that begins, and the memory of its conflict analysis.
+pub(crate) fn memory_of(alloc: Global, variables: u32) -> Result<(Policy, Analyzer), AllocError>
+    requires { variables < VARIABLE_LIMIT }
+    ensures policy { IfOk result (λ m.
+        m.0 ≡ record { variables = variables; has_learned = false }) }
+    ensures analyzer { IfOk result (λ m. m.1 ≡ variables + 1) }
+{
+    let analyzer = Analyzer::new(alloc, variables)?;
+    match Policy::new(alloc, variables) {
+        Ok(policy) => Ok((policy, analyzer)),
+        Err(AllocError) => {
+            // By a call: that is proved once, and not field by field here.
+            drop(analyzer);
+            Err(AllocError)
+        }
     }
 }
 

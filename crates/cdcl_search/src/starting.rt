@@ -5,10 +5,8 @@ ghost use Rattle.cnf.specs.Lrat.{IsId};
 ghost use Rattle.lrat_log.specs.Log.{number_in};
 ghost use Rattle.cdcl_search.specs.Starts.{AreAttachedBelow, AreWithin, IsLiveWithin, IsStarted};
 
-use crate::search::Search;
+use crate::search::{Search, memory_of};
 use crate::subsets::Subsets;
-use analyze::analyzer::Analyzer;
-use cdcl_order::policy::Policy;
 use clauses::store::{MaybeCRef, Store};
 use cnf::clause_list::ClauseList;
 use eliminate::elimination::Stack;
@@ -50,7 +48,14 @@ fn engine_of(store: &Store, variables: u32) -> Result<Engine, AllocError>
 {
     let mut engine = Engine::with_room(store.allocator(), variables, store)?;
     for place in 0..store.places() {
-        attach_at(&mut engine, store, place)?;
+        match attach_at(&mut engine, store, place) {
+            Ok(()) => {}
+            Err(AllocError) => {
+                // By a call: that is proved once, and not field by field here.
+                drop(engine);
+                return Err(AllocError);
+            }
+        }
     }
     Ok(engine)
 }
@@ -86,10 +91,17 @@ fn search_beside(store: &Store, stack: &mut Stack, additions: u64) -> Result<Sea
     let names = stack.take_names();
     let units = Vec::from_elem(alloc, MaybeCRef::new(None), variables as usize)?;
     let stamps = Vec::from_elem(alloc, 0, variables as usize)?;
-    let analyzer = Analyzer::new(alloc, variables)?;
-    let policy = Policy::new(alloc, variables)?;
+    let (policy, analyzer) = memory_of(alloc, variables)?;
     // It has the most fields, so it comes last.
-    let engine = engine_of(store, variables)?;
+    let engine = match engine_of(store, variables) {
+        Ok(engine) => engine,
+        Err(AllocError) => {
+            // By calls: that is proved once, and not field by field here.
+            drop(policy);
+            drop(analyzer);
+            return Err(AllocError);
+        }
+    };
     Ok(Search {
         store: Store::new(alloc),
         engine,

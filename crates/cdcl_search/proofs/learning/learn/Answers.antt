@@ -1,4 +1,4 @@
-use Rattle.std.proofs.Common.{◌≡◌, ◌+◌, ◌≤◌, true, refl, sym, ◌∙◌, ap, subst, arith}
+use Rattle.std.proofs.Common.{◌≡◌, ◌+◌, ◌<◌, ◌≤◌, true, refl, sym, ◌∙◌, ap, subst, arith}
 use Rattle.std.specs.Prelude.{All}
 use Rattle.propagate.specs.Trail.{depth_of, kept_to}
 use Rattle.propagate.specs.Watches.{is_attached}
@@ -6,16 +6,20 @@ use Rattle.propagate.specs.Fits.{IsWithin}
 use Rattle.analyze.specs.Analyzer.{IsRefutedBy}
 use Rattle.lrat_log.specs.declared.lines.Kind.TheVariants.{Learned}
 use Rattle.lrat_log.specs.Log.{LogLine}
+use Rattle.lrat_log.specs.declared.log.TheConstants.{LINE_LIMIT}
+use Rattle.lrat_log.proofs.Laws.{when_err}
 use Rattle.cdcl_search.specs.declared.search.Search.{Search}
 use Rattle.cdcl_search.specs.Invariant.{IsRunning}
-use Rattle.cdcl_search.specs.Running.{Writes, tables_of}
+use Rattle.cdcl_search.specs.Running.{IsReady, Writes, tables_of}
 use Rattle.cdcl_search.proofs.HintNames.{hint_ids}
 use Rattle.cdcl_search.proofs.Written.{writes_learned}
 use Rattle.cdcl_search.proofs.MoreMoves.{learn_is_new}
 use Rattle.cdcl_search.proofs.Lessons.{refutes_live, live_attached, conflict_of, all_noted}
 use Rattle.cdcl_search.proofs.Lessons.{asserting_within, back_low, is_lesson, runs_learned}
 use Rattle.cdcl_search.proofs.EngineMoves.{runs_chosen}
+use Rattle.cdcl_search.proofs.learning.learn.Given.{Over}
 use Rattle.cdcl_search.proofs.learning.learn.Goals as goal
+use Rattle.cdcl_search.proofs.learning.learn.Goals.{After-backtrack}
 
 pub analyze-requires-clause-falsified : goal.analyze-requires-clause-falsified
 analyze-requires-clause-falsified g c =
@@ -161,3 +165,60 @@ returns-clause-learns g c =
           learned.back_level run.searches run.recorded.names lesson.asserting c.requires.deep
           base above));
     }
+
+pub hints_of-requires-clause-past : goal.hints_of-requires-clause-past
+hints_of-requires-clause-past g c = c.requires.runs.past
+
+pub hints_of-requires-clause-few : goal.hints_of-requires-clause-few
+hints_of-requires-clause-few g c = c.requires.runs.few
+
+pub returns-in_err-learned-clause-err : goal.returns-in_err-learned-clause-err
+returns-in_err-learned-clause-err g c = when_err _ refl
+
+pub returns-in_err-hints-clause-err : goal.returns-in_err-hints-clause-err
+returns-in_err-hints-clause-err g c = when_err _ refl
+
+pub learn_from-lbd-requires-clause-ready : goal.learn_from-lbd-requires-clause-ready
+learn_from-lbd-requires-clause-ready g c = c.hints_of.ensures.ready
+
+pub backtrack-requires-clause-ready : goal.backtrack-requires-clause-ready
+backtrack-requires-clause-ready g c =
+    let ready = c.hints_of.ensures.ready in
+    subst IsReady (sym c.learn_from-lbd.ensures.only_policy) (record {
+      searches = ready.searches;
+      room = record {
+        policy = c.learn_from-lbd.ensures.variables ∙ ready.room.policy;
+        analyzer = ready.room.analyzer;
+        few = ready.room.few;
+        stamps = ready.room.stamps;
+        units = ready.room.units;
+      };
+      named = ready.named;
+    })
+
+-- the additions are as many as before
+as_many : (g : Over) (c : After-backtrack g)
+    → c.backtrack.new.self.additions ≡ c.args.search.now.additions
+as_many g c = ap (λ (x : Search). x.additions) c.backtrack.ensures.moves.engine.rest
+    ∙ ap (λ (x : Search). x.additions) c.learn_from-lbd.ensures.only_policy
+    ∙ ap (λ (x : Search). x.additions) c.hints_of.ensures.only_stamps
+
+pub add_line-requires-clause-counted : goal.add_line-requires-clause-counted
+add_line-requires-clause-counted g c =
+    as_many g (goal.at.add_line-requires-clause-counted g c).After-backtrack
+    ∙ c.requires.runs.running.recorded.log.counted
+
+pub add_line-requires-clause-few : goal.add_line-requires-clause-few
+add_line-requires-clause-few g c =
+    subst (λ n. n < LINE_LIMIT)
+    (sym (as_many g (goal.at.add_line-requires-clause-few g c).After-backtrack))
+    c.requires.runs.few
+
+pub returns-in_err-reference-clause-err : goal.returns-in_err-reference-clause-err
+returns-in_err-reference-clause-err g c = when_err _ c.in_err-reference.ensures.err
+
+pub returns-in_err-reference-clause-follows : goal.returns-in_err-reference-clause-follows
+returns-in_err-reference-clause-follows g c = c.add_line.ensures.follows
+
+pub returns-clause-follows : goal.returns-clause-follows
+returns-clause-follows g c = c.add_line.ensures.follows

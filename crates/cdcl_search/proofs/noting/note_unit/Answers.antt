@@ -17,6 +17,8 @@ use Rattle.analyze.proofs.Laws.{reason_at}
 use Rattle.std.proofs.lemmas.List.{get_or-map, get_or_default, length-map}
 use Rattle.lrat_log.specs.declared.lines.Kind.TheVariants.{Unit as UnitKind}
 use Rattle.lrat_log.specs.Log.{LogLine}
+use Rattle.lrat_log.specs.declared.log.TheConstants.{LINE_LIMIT}
+use Rattle.lrat_log.proofs.Laws.{when_err}
 use Rattle.cdcl_order.specs.Orders.{positive}
 use Rattle.cdcl_search.proofs.Written.{writes_short}
 use Rattle.cdcl_search.proofs.noting.note_unit.Goals as goal
@@ -187,3 +189,49 @@ returns-clause-notes g c =
           subst (λ x. Writes c.args.input.now.given ls x 0) (sym added.lines)
           (writes_short c.args.input.now.given ls l refl (omega arith) refl adds);
     }
+
+pub hints_of-requires-clause-ready : goal.hints_of-requires-clause-ready
+hints_of-requires-clause-ready g c = record {
+  searches = c.requires.runs.running.searches;
+  room = c.requires.runs.room;
+  named = c.requires.runs.running.recorded.names.as_many;
+}
+
+pub hints_of-requires-clause-past : goal.hints_of-requires-clause-past
+hints_of-requires-clause-past g c = c.requires.runs.past
+
+pub hints_of-requires-clause-few : goal.hints_of-requires-clause-few
+hints_of-requires-clause-few g c = c.requires.runs.few
+
+pub returns-in_err-hints-clause-err : goal.returns-in_err-hints-clause-err
+returns-in_err-hints-clause-err g c = when_err _ refl
+
+pub add_line-requires-clause-counted : goal.add_line-requires-clause-counted
+add_line-requires-clause-counted g c =
+    ap (λ (x : Search). x.additions) c.hints_of.ensures.only_stamps
+    ∙ c.requires.runs.running.recorded.log.counted
+
+pub add_line-requires-clause-few : goal.add_line-requires-clause-few
+add_line-requires-clause-few g c =
+    subst (λ (x : Search). x.additions < LINE_LIMIT) (sym c.hints_of.ensures.only_stamps)
+    c.requires.runs.few
+
+pub returns-in_err-unit-clause-err : goal.returns-in_err-unit-clause-err
+returns-in_err-unit-clause-err g c = when_err _ c.in_err-unit.ensures.err
+
+pub returns-in_err-unit-clause-follows : goal.returns-in_err-unit-clause-follows
+returns-in_err-unit-clause-follows g c = c.add_line.ensures.follows
+
+pub returns-clause-follows : goal.returns-clause-follows
+returns-clause-follows g c = c.add_line.ensures.follows
+
+pub overflow_add-search : goal.overflow_add-search
+overflow_add-search g c =
+    let s = c.args.search.now in
+    let same : c.add_line.new.self.noted ≡ s.noted = c.in_ok-unit.ensures.added.stored.noted
+    ∙ ap (λ (x : Search). x.noted) c.hints_of.ensures.only_stamps in
+    let long : length c.trail.result.now ≡ length s.engine.trail = ap length c.trail.ensures
+    ∙ length-map s.engine.trail (λ (a : Assigned). a.literal) in
+    let fits = c.trail.type_inv in
+    let next = c.requires.next in
+    omega arith

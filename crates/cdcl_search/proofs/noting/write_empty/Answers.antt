@@ -80,3 +80,18 @@ returns-clause-refutes g c =
           on_err_weaker c.append.result (λ b. subst (StaysOpen p) (sym b)
           (record { stays = log.stays; unrefuted = log.unrefuted })) c.append.ensures.err;
     }
+
+pub hints_of-requires-clause-ready : goal.hints_of-requires-clause-ready
+hints_of-requires-clause-ready g c =
+    let runs = c.in_ok-note_units.ensures.notes.leaves.keeps.runs in
+    record {
+      searches = runs.running.searches;
+      room = runs.room;
+      named = runs.running.recorded.names.as_many;
+    }
+
+pub hints_of-requires-clause-past : goal.hints_of-requires-clause-past
+hints_of-requires-clause-past g c = c.in_ok-note_units.ensures.notes.leaves.keeps.runs.past
+
+pub hints_of-requires-clause-few : goal.hints_of-requires-clause-few
+hints_of-requires-clause-few g c = c.in_ok-note_units.ensures.notes.leaves.keeps.runs.few

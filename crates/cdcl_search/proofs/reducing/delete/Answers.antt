@@ -7,6 +7,7 @@ use Rattle.lrat_log.specs.declared.lines.Name.TheVariants.{Formula}
 use Rattle.lrat_log.specs.declared.lines.Hint.TheVariants.{Plain}
 use Rattle.lrat_log.specs.declared.lines.Kind.TheVariants.{Delete}
 use Rattle.lrat_log.specs.Log.{LogLine, number_in}
+use Rattle.lrat_log.proofs.Laws.{when_err}
 use Rattle.cnf.specs.Lrat.{IsId}
 use Rattle.cdcl_search.specs.declared.search.Search.{Search}
 use Rattle.cdcl_search.specs.Invariant.{name_at}
@@ -105,3 +106,29 @@ returns-clause-deletes g c =
           subst (λ x. Writes p.given ls x 0) (sym written)
           (writes_deletion p.given ls l refl (omega arith));
     }
+
+pub bounds-doomed-index : goal.bounds-doomed-index
+bounds-doomed-index g c =
+    let live = c.is_live.ensures.0 c.if-not-is_live.false in
+    let inside =
+    live_within (c.args.search.now.store).slots c.args.reference live.0 live.1 in
+    omega (arith, c.index.ensures, c.requires.deleting.long)
+
+pub index-requires-3 : goal.index-requires-3
+index-requires-3 g c =
+    let live = c.is_live.ensures.0 c.if-not-is_live.false in
+    let inside =
+    live_within (c.args.search.now.store).slots c.args.reference live.0 live.1 in
+    omega (arith, c.index-2.ensures, c.requires.deleting.recorded.names.as_many)
+
+pub delete-requires : goal.delete-requires
+delete-requires g c = c.is_live.ensures.0 c.if-not-is_live.false
+
+pub returns-in_err-append-clause-err : goal.returns-in_err-append-clause-err
+returns-in_err-append-clause-err g c = when_err _ c.in_err-append.ensures.err
+
+pub returns-in_err-append-clause-follows : goal.returns-in_err-append-clause-follows
+returns-in_err-append-clause-follows g c = c.append.ensures.follows
+
+pub returns-clause-follows : goal.returns-clause-follows
+returns-clause-follows g c = c.append.ensures.follows

@@ -33,7 +33,7 @@ engine_of-requires c =
 
 pub returns-clause-started : goal.returns-clause-started
 returns-clause-started c =
-    let e = c.in_ok-engine.ensures in
+    let e = c.in-Ok.ensures in
     let names : List Name = c.take_names-names.result.items in
     let taken = c.take_names-names.ensures.taken in
     let many = e.variables_are in
@@ -58,8 +58,8 @@ returns-clause-started c =
       kept = refl;
       counted = refl;
       room = record {
-        policy = ap (λ o. o.variables) c.in_ok-policy.ensures ∙ sym many;
-        analyzer = (let room = c.in_ok-analyzer.ensures in omega arith);
+        policy = ap (λ o. o.variables) c.in_ok-policy.ensures.policy ∙ sym many;
+        analyzer = (let room = c.in_ok-policy.ensures.analyzer in omega arith);
         few = subst (λ n. n < 2 ^ 27) (sym (many ∙ c.vars-variables.ensures)) c.requires.few;
         stamps = ap length stamps ∙ length-replicate c.vars-variables.result 0 ∙ sym many;
         units = ap length units ∙ length-replicate c.vars-variables.result c.new.result ∙ sym many;
