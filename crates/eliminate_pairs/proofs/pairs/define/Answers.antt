@@ -1,7 +1,10 @@
 -- The three clauses of a definition, one after another.
-use Rattle.std.proofs.Common.{◌≡◌, ◌+◌, [], ◌∷◌, ◌++◌, length, Some, inl, refl, ◌∙◌, ap}
+use Rattle.std.proofs.Common.{◌≡◌, ◌+◌, [], ◌∷◌, ◌++◌, List, length, Option, Some, inl, refl, ◌∙◌}
+use Rattle.std.proofs.Common.{ap, arith, length-append}
+use Rattle.std.proofs.lemmas.Bool.{false≢true}
+use Rattle.std.proofs.lemmas.List.Elements.{All-nil}
 use Rattle.std.proofs.lemmas.Result.{MatchResult-from_err}
-use Rattle.cnf.specs.Literal.{negation}
+use Rattle.cnf.specs.Literal.{Literal, negation}
 use Rattle.clauses.specs.Slots.{Slots}
 use Rattle.eliminate_pairs.specs.Pairs.{positive, stage_of, whole_clause, Stage, FitNames}
 use Rattle.eliminate_pairs.proofs.Defining.{whole_is, side_is, defined_is, kept_log}
@@ -180,3 +183,42 @@ returns-clause-moves g c =
           c.requires.room (few_additions s.lines c.is_short.ensures) k;
       pair = inl (defines_often s a b (length s.slots) (length s.slots) c.requires.often);
     })
+
+pub add-requires-clause-line : goal.add-requires-clause-line
+add-requires-clause-line g c = record {
+  literals = c.whole_lits-lits.ensures.named;
+  names = All-nil _;
+  deletes = λ e. absurd (false≢true e);
+}
+
+pub add-requires-clause-counted : goal.add-requires-clause-counted
+add-requires-clause-counted g c = c.requires.fit.counted
+
+pub add_side-requires-clause-small : goal.add_side-requires-clause-small
+add_side-requires-clause-small g c = c.requires.room
+
+pub add_side-requires-clause-named : goal.add_side-requires-clause-named
+add_side-requires-clause-named g c =
+    let fits = whole_fits g (goal.at.add_side-requires-clause-named g c).In_ok-whole in
+    omega (
+      arith,
+      length-append {A = Option (List Literal)},
+      fits.long,
+      c.in_ok-whole.ensures.reference,
+      ap length c.in_ok-whole.ensures.slots,
+    )
+
+pub add_side-requires-2-clause-small : goal.add_side-requires-2-clause-small
+add_side-requires-2-clause-small g c = c.requires.room
+
+pub add_side-requires-2-clause-named : goal.add_side-requires-2-clause-named
+add_side-requires-2-clause-named g c =
+    let fits = left_fits g (goal.at.add_side-requires-2-clause-named g c).In_ok-left_side in
+    omega (
+      arith,
+      length-append {A = Option (List Literal)},
+      fits.long,
+      c.in_ok-whole.ensures.reference,
+      ap length c.in_ok-whole.ensures.slots,
+      ap length c.in_ok-left_side.ensures.adds.slots,
+    )

@@ -168,3 +168,23 @@ returns-clause-moves g c =
           (c.requires.pair clause c.lits.ensures) c.requires.small (omega arith) k;
       pair = inr (defines_none s d r clause);
     })
+
+pub plain-left_side-requires : goal.plain-left_side-requires
+plain-left_side-requires g c =
+    let inside : c.args.definition.now.left_side < length c.args.store.now.slots =
+    live_within _ _ _ c.requires.defined.left_side in
+    omega (arith, c.requires.fit.long)
+
+pub plain-right_side-requires : goal.plain-right_side-requires
+plain-right_side-requires g c =
+    let inside : c.args.definition.now.right_side < length c.args.store.now.slots =
+    live_within _ _ _ c.requires.defined.right_side in
+    omega (arith, c.requires.fit.long)
+
+pub plain-clause-requires : goal.plain-clause-requires
+plain-clause-requires g c =
+    let inside = within g (goal.at.plain-clause-requires g c).After-lits in
+    omega (arith, c.requires.fit.long)
+
+pub add-requires-clause-counted : goal.add-requires-clause-counted
+add-requires-clause-counted g c = c.requires.fit.counted
