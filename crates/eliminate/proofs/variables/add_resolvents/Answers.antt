@@ -1,7 +1,8 @@
 -- All pairs of one clause more are resolved.
-use Rattle.std.proofs.Common.{List, ℕ, ◌∙◌, sym, subst, arith}
+use Rattle.std.proofs.Common.{List, ℕ, ◌∙◌, inl, sym, subst, arith}
 use Rattle.std.specs.Prelude.{All}
 use Rattle.std.proofs.lemmas.List.{take_all}
+use Rattle.std.proofs.lemmas.List.Elements.{All-nil}
 use Rattle.std.proofs.lemmas.Result.{MatchResult-from_err}
 use Rattle.cnf.specs.Literal.{negation}
 use Rattle.eliminate.specs.Variables.{IsWith, ArePairsResolved}
@@ -65,3 +66,26 @@ returns-clause-resolved g c works =
     (take_all c.loop-first.first-index c.deref-first-items.result.now
     (let e = c.loop-first-test.false in omega arith) ∙ c.deref-first-items.ensures.value)
     c.loop-first.invariant.resolved
+
+pub loop-first-init : goal.loop-first-init
+loop-first-init g c = record {
+  simplified = λ _ h. h;
+  works = c.requires.is_open.going;
+  grows = record { kept = λ _ _ e. e; came = λ _ _ e. inl e };
+  resolved = All-nil _;
+}
+
+pub add_resolvents_of-requires-clause-is_open : goal.add_resolvents_of-requires-clause-is_open
+add_resolvents_of-requires-clause-is_open g c =
+    let h = c.requires.is_open.simplified in
+    record {
+      simplified = (h.0, c.loop-first.invariant.simplified h.0 h.1);
+      going = c.loop-first.invariant.works;
+    }
+
+pub returns-then-simplifier-clause-passes : goal.returns-then-simplifier-clause-passes
+returns-then-simplifier-clause-passes g c start h =
+    c.in_ok-add_resolvents_of.ensures.passes start (c.loop-first.invariant.simplified start h)
+
+pub returns-clause-passes : goal.returns-clause-passes
+returns-clause-passes g c = c.loop-first.invariant.simplified

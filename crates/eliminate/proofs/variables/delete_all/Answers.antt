@@ -1,10 +1,12 @@
 -- One clause more is deleted.
-use Rattle.std.proofs.Common.{◌∙◌, ap, sym, subst, List, refl}
+use Rattle.std.proofs.Common.{◌∙◌, ap, sym, subst, List, refl, arith}
 use Rattle.std.proofs.lemmas.Bool.{false≢true}
+use Rattle.std.proofs.lemmas.List.{take_all}
 use Rattle.clauses.specs.Slots.{Slots, StoreState}
 use Rattle.lrat_log.specs.Log.{LogLine}
-use Rattle.eliminate.specs.Variables.{KeepsLog}
+use Rattle.eliminate.specs.Variables.{KeepsLog, LeavesOut}
 use Rattle.eliminate.proofs.Deleting.{leaves_all, keeps_start, keeps_log, next_deleted, next_dead}
+use Rattle.clauses.proofs.Laws.{live_within}
 use Rattle.lrat_log.proofs.Laws.{when_err}
 use Rattle.eliminate.proofs.variables.delete_all.Goals as goal
 use Rattle.eliminate.proofs.variables.delete_all.Goals.{then-is_live+in_ok-leave+in_ok-delete}
@@ -65,3 +67,16 @@ returns-in_err-delete-clause-err g c =
 
 pub delete-requires-clause-line : goal.delete-requires-clause-line
 delete-requires-clause-line g c = c.requires.lines c.reference-item.result
+
+pub delete-requires-clause-named : goal.delete-requires-clause-named
+delete-requires-clause-named g c =
+    let live = c.is_live.ensures.0 c.if-is_live.true in
+    let inside =
+    live_within c.loop-reference.store.slots c.reference-item.result live.0 live.1 in
+    omega (arith, c.requires.named, c.loop-reference.invariant.left.long)
+
+pub returns-clause-left : goal.returns-clause-left
+returns-clause-left g c =
+    subst (λ rs. LeavesOut rs c.args.store.now.slots c.loop-reference.store.slots)
+    (take_all c.loop-reference.reference-index c.args.references.now c.loop-reference-test.false)
+    c.loop-reference.invariant.left

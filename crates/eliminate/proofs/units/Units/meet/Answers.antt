@@ -63,3 +63,14 @@ returns-in_ok-assign-in-Unit-clause-moves g c = record {
       c.unit_clause.new.store.slots c.in_ok-unit-in-Unit.ensures.grows
       c.in_ok-assign-in-Unit.ensures.units;
 }
+
+pub returns-in_err-unit-in-Unit-clause-moves : goal.returns-in_err-unit-in-Unit-clause-moves
+returns-in_err-unit-in-Unit-clause-moves g c =
+    MatchResult-from_err _ _ _ c.from_residual.ensures.0
+    (λ _. c.in_err-unit-in-Unit.ensures.passes)
+
+pub returns-in_err-add_empty-in-Falsified-clause-moves
+    : goal.returns-in_err-add_empty-in-Falsified-clause-moves
+returns-in_err-add_empty-in-Falsified-clause-moves g c =
+    MatchResult-from_err _ _ _ c.from_residual-in_err-add_empty-in-Falsified.ensures.0
+    (λ _. c.in_err-add_empty-in-Falsified.ensures.passes)

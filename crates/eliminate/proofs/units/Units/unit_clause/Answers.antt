@@ -7,10 +7,12 @@ use Rattle.lrat_log.specs.declared.lines.Kind.TheVariants.{Unit}
 use Rattle.lrat_log.specs.Log.{LogLine}
 use Rattle.eliminate.specs.declared.simplifier.Simplifier.{Simplifier}
 use Rattle.eliminate_names.specs.Work.{AreClauses}
-use Rattle.eliminate.specs.Simplifier.{Grows}
+use Rattle.eliminate.specs.State.{Start}
+use Rattle.eliminate.specs.Simplifier.{Grows, IsSimplified}
 use Rattle.eliminate.proofs.Assigned.{single}
 use Rattle.clauses.proofs.Laws.{clause_kept, clause_new}
-use Rattle.eliminate.proofs.Tables.{addable_at, leaves_beside}
+use Rattle.eliminate.proofs.Simplified.{log_of}
+use Rattle.eliminate.proofs.Tables.{addable_at, leaves_beside, simplified_beside}
 use Rattle.eliminate.proofs.UnitLines.{unit_addable}
 use Rattle.eliminate.proofs.units.Units.unit_clause.Given.{Over}
 use Rattle.eliminate.proofs.units.Units.unit_clause.Goals as goal
@@ -64,3 +66,47 @@ pub returns-clause-grows : goal.returns-clause-grows
 returns-clause-grows g c =
     subst (Grows c.args.store.now.slots) (sym c.in_ok-unit.ensures.adds.slots)
     (λ r d e. clause_kept c.args.store.now.slots c.push.new.self.items d r e)
+
+pub returns-then-lits-eq1-clause-passes : goal.returns-then-lits-eq1-clause-passes
+returns-then-lits-eq1-clause-passes g c = λ _ h. h
+
+pub hints-requires-clause-named : goal.hints-requires-clause-named
+hints-requires-clause-named g c =
+    c.requires.propagating.is_open.simplified.1.state.work.named.long
+
+pub returns-in_err-hints-clause-passes : goal.returns-in_err-hints-clause-passes
+returns-in_err-hints-clause-passes g c =
+    MatchResult-from_err _ _ _ c.from_residual.ensures.0
+    (λ _ start h. log_of start c.args.simplifier.now c.args.store.now.slots
+    (g.S.Sink.lines c.args.sink.now) h)
+
+pub returns-in_err-push-clause-passes : goal.returns-in_err-push-clause-passes
+returns-in_err-push-clause-passes g c =
+    MatchResult-from_err _ _ _ c.from_residual-in_err-push.ensures.0
+    (λ _ start h. log_of start c.args.simplifier.now c.args.store.now.slots
+    (g.S.Sink.lines c.args.sink.now) h)
+
+-- the clause in hand says nothing
+beside : (g : Over) (c : In_ok-push g) (start : Start)
+    → IsSimplified start c.args.simplifier.now c.args.store.now.slots
+    (g.S.Sink.lines c.args.sink.now)
+    → IsSimplified start (record c.args.simplifier.now { clause = c.push.new.self })
+    c.args.store.now.slots (g.S.Sink.lines c.args.sink.now)
+beside g c start h =
+    let s : Simplifier = c.args.simplifier.now in
+    simplified_beside start s s.marks c.push.new.self s.schedule c.args.store.now.slots
+    (g.S.Sink.lines c.args.sink.now) refl h
+
+pub add-requires-clause-is_open : goal.add-requires-clause-is_open
+add-requires-clause-is_open g c =
+    let w = c.requires.propagating.is_open in
+    let h = w.simplified in
+    record {
+      simplified = (h.0, beside g (goal.at.add-requires-clause-is_open g c).In_ok-push h.0 h.1);
+      going = w.going;
+    }
+
+pub returns-clause-passes : goal.returns-clause-passes
+returns-clause-passes g c start h =
+    c.in_ok-unit.ensures.passes start
+    (beside g (goal.at.returns-clause-passes g c).In_ok-push start h)
