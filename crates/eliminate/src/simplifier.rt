@@ -61,9 +61,17 @@ impl Simplifier {
         // What has many fields comes last of what may fail: few exits have to drop it.
         let marks = Marks::new(alloc, vars)?;
         let names = Names::of(alloc, store)?;
-        let schedule = schedule_of(alloc, store, vars)?;
-        let occurrences = rows_of(alloc, store, vars, &schedule)?;
         let bins = Bins::new(alloc, vars)?;
+        let (schedule, occurrences) = match tables_of(alloc, store, vars) {
+            Ok(tables) => tables,
+            Err(AllocError) => {
+                // By calls: that is proved once, and not field by field here.
+                drop(bins);
+                drop(names);
+                drop(marks);
+                return Err(AllocError);
+            }
+        };
         Ok(Simplifier {
             vars,
             names,
@@ -170,6 +178,23 @@ impl Simplifier {
         self.schedule.leave(store.lits(reference))?;
         delete(store, &self.names, sink, reference)?;
         Ok(())
+    }
+}
+
+/// Where work may be worthwhile, and by literal the clauses of the store in which it occurs.
+fn tables_of(alloc: Global, store: &Store, vars: u32) -> Result<(Schedule, Rows), AllocError>
+    requires { IsFormula (record { variables = vars; clauses = live_clauses store.now.slots }) }
+    ensures rows { IfOk result (λ t. AreRows (t.1).rows store.now.slots) }
+    ensures places { IfOk result (λ t. length (t.1).rows ≡ 2 * vars) }
+{
+    let schedule = schedule_of(alloc, store, vars)?;
+    match rows_of(alloc, store, vars, &schedule) {
+        Ok(rows) => Ok((schedule, rows)),
+        Err(AllocError) => {
+            // By a call: that is proved once, and not field by field here.
+            drop(schedule);
+            Err(AllocError)
+        }
     }
 }
 

@@ -1,5 +1,6 @@
 -- The laws of this crate that other crates cite, from one place.
 pub use Rattle.eliminate_pairs.proofs.Literals.{Covers, any_member, contains-filter}
+pub use Rattle.eliminate_pairs.proofs.Literals.{codes_agree, codes_differ}
 pub use Rattle.eliminate_pairs.proofs.Literals.{contains-negations}
 pub use Rattle.eliminate_pairs.proofs.Literals.{contains_same, covered_unit}
 pub use Rattle.eliminate_pairs.proofs.Literals.{filter-contains}

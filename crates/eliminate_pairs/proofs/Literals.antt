@@ -1,11 +1,12 @@
 -- Literals in clauses: negations, tests, and which of them a clause covers.
-use Rattle.std.proofs.Common.{◌≡◌, Bool, true, false, not, ◌≤◌, max, List, [], ◌∷◌, map, filter}
+use Rattle.std.proofs.Common.{◌≡◌, ◌==◌, ◌&&◌, ℕ, ◌+◌, ◌*◌, Bool, true, false, not, ◌≤◌, max, List, []}
+use Rattle.std.proofs.Common.{◌∷◌, map, filter}
 use Rattle.std.proofs.Common.{◌⊎◌, inl, inr, refl, sym, ◌∙◌, ap, subst, arith}
 use Rattle.std.specs.Prelude.{if◌then◌else◌}
 use Rattle.std.specs.List.{AllByRecursion, list_any}
 use Rattle.std.proofs.lemmas.Bool.{or_cases, or_parts, or_left, or_right, or_from}
-use Rattle.std.proofs.lemmas.Bool.{both_ways, false_from_ne_true, false≢true}
-use Rattle.cnf.specs.Literal.{Literal, Assignment, negation, literal_eq, literal_value}
+use Rattle.std.proofs.lemmas.Bool.{both_ways, false_from_ne_true, false≢true, eq-eqb, eqb-true, and_from}
+use Rattle.cnf.specs.Literal.{Literal, Assignment, negation, literal_eq, literal_value, same_bool}
 use Rattle.cnf.specs.Clause.{clause_value, contains_literal, without_literal, has_repeat}
 use Rattle.cnf.specs.Clause.{is_tautology, greatest_variable}
 use Rattle.cnf.specs.Refute.{IsUnit}
@@ -135,6 +136,35 @@ is_tautology-filter q (k ∷ c) r =
           (apart-filter q (negation k) c h.0) (is_tautology-filter q c h.1)
       | false ↦ is_tautology-filter q c h.1
     ]
+
+-- literals whose codes differ
+pub codes_differ : (l p : Literal)
+    → ((2 * l.variable + (if l.negated then 1 else 0)) ==
+    (2 * p.variable + (if p.negated then 1 else 0))) ≡ false → literal_eq l p ≡ false
+codes_differ l p h = false_from_ne_true (literal_eq l p) (λ e.
+    false≢true (sym h ∙ eq-eqb _ _
+    (ap (λ (x : Literal). 2 * x.variable + (if x.negated then 1 else 0))
+    (literal_eq-true l p e))))
+
+same_codes : (v w : ℕ) (a b : Bool)
+    → ((2 * v + (if a then 1 else 0)) == (2 * w + (if b then 1 else 0))) ≡ true
+    → ((w == v) && same_bool b a) ≡ true
+same_codes v w true true h =
+    let e : 2 * v + 1 ≡ 2 * w + 1 = eqb-true _ _ h in
+    and_from _ _ (eq-eqb w v (omega arith)) refl
+same_codes v w true false h =
+    let e : 2 * v + 1 ≡ 2 * w + 0 = eqb-true _ _ h in absurd (omega arith)
+same_codes v w false true h =
+    let e : 2 * v + 0 ≡ 2 * w + 1 = eqb-true _ _ h in absurd (omega arith)
+same_codes v w false false h =
+    let e : 2 * v + 0 ≡ 2 * w + 0 = eqb-true _ _ h in
+    and_from _ _ (eq-eqb w v (omega arith)) refl
+
+-- and literals whose codes do not
+pub codes_agree : (l p : Literal)
+    → ((2 * l.variable + (if l.negated then 1 else 0)) ==
+    (2 * p.variable + (if p.negated then 1 else 0))) ≡ true → literal_eq p l ≡ true
+codes_agree l p h = same_codes l.variable p.variable l.negated p.negated h
 
 pub literal_eq-sides : (k l : Literal) → literal_eq k l ≡ false → literal_eq l k ≡ false
 literal_eq-sides k l n =

@@ -1,11 +1,12 @@
 -- A resolvent that is built against marks.
 use Rattle.std.proofs.Common.{◌≡◌, ℕ, ◌<◌, Bool, true, false, not, List, [], ◌∷◌, ◌++◌, length}
-use Rattle.std.proofs.Common.{get_or, filter, inl, inr, refl, sym, ◌∙◌, ap, subst}
+use Rattle.std.proofs.Common.{◌+◌, get_or, take, filter, inl, inr, refl, sym, ◌∙◌, ap, subst}
 use Rattle.std.specs.Prelude.{All, if◌then◌else◌}
 use Rattle.std.specs.List.{list_any}
 use Rattle.std.proofs.lemmas.Bool.{or_cases, or_parts, or_left, or_right, or_from, both_ways}
 use Rattle.std.proofs.lemmas.Bool.{false_from_ne_true, false≢true}
-use Rattle.std.proofs.lemmas.List.Elements.{All-head, All-tail}
+use Rattle.std.proofs.lemmas.List.{take_more}
+use Rattle.std.proofs.lemmas.List.Elements.{All-head, All-tail, filter-append}
 use Rattle.cnf.specs.Literal.{Literal, negation, literal_eq}
 use Rattle.cnf.specs.Clause.{contains_literal, without_literal, is_tautology}
 use Rattle.cnf.proofs.Laws.{literal_eq-true, contains_front, contains_back}
@@ -41,6 +42,35 @@ clash_at marks q c i l h is other unmarked clash =
     any_member (clashes marks) l (unmarked_rest marks q c)
     (contains-filter (λ k. not (mark_of marks k)) l (without_literal q c) in_rest
     (ap not unmarked)) clash
+
+-- one literal more
+pub rest_more : (marks : List Bool) (q : Literal) (c : List Literal) (i : ℕ) (l : Literal)
+    → i < length c → l ≡ get_or c i l → unmarked_rest marks q (take (i + 1) c)
+    ≡ unmarked_rest marks q (take i c) ++ unmarked_rest marks q (l ∷ [])
+rest_more marks q c i l lt is =
+    ap (unmarked_rest marks q) (take_more c i l lt ∙ ap (λ x. take i c ++ x ∷ []) (sym is))
+    ∙ ap (filter (λ k. not (mark_of marks k)))
+    (filter-append (λ k. not (literal_eq q k)) (take i c) (l ∷ []))
+    ∙ filter-append (λ k. not (mark_of marks k)) (without_literal q (take i c))
+    (without_literal q (l ∷ []))
+
+-- which is not marked, or is left out
+pub rest_one : (marks : List Bool) (q l : Literal) → literal_eq q l ≡ false
+    → mark_of marks l ≡ false → unmarked_rest marks q (l ∷ []) ≡ l ∷ []
+rest_one marks q l other unmarked = rw (other, unmarked)
+
+pub rest_none : (marks : List Bool) (q l : Literal) → literal_eq q l ≡ true
+    → unmarked_rest marks q (l ∷ []) ≡ []
+rest_none marks q l same = rw same
+
+pub rest_marked : (marks : List Bool) (q l : Literal) → mark_of marks l ≡ true
+    → unmarked_rest marks q (l ∷ []) ≡ []
+rest_marked marks q l marked =
+    elim (literal_eq q l) as (λ b. filter (λ k. not (mark_of marks k))
+    (if not b then l ∷ [] else []) ≡ []) [
+      | true ↦ refl
+      | false ↦ rw marked
+    ]
 
 -- where the literals of a are marked, what is not marked is not in a
 pub rest_is : (marks : List Bool) (a : List Literal) (q : Literal) (c : List Literal)

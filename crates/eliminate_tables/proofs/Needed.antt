@@ -1,9 +1,8 @@
 -- Clauses that need their variable to be true, as they are walked.
-use Rattle.std.proofs.Common.{◌≡◌, ℕ, ◌+◌, ◌-◌, ◌*◌, ◌<◌, ◌≤◌, ◌==◌, if◌then◌else◌, Bool, true}
-use Rattle.std.proofs.Common.{false, not, ◌&&◌, List, length, get_or, drop, refl, sym, ◌∙◌, ap}
-use Rattle.std.proofs.Common.{subst, arith}
+use Rattle.std.proofs.Common.{◌≡◌, ℕ, ◌+◌, ◌-◌, ◌<◌, ◌≤◌, Bool, true, false, not, ◌&&◌, List}
+use Rattle.std.proofs.Common.{length, get_or, drop, refl, sym, ◌∙◌, ap, subst, arith}
 use Rattle.std.specs.Prelude.{slice_set, All}
-use Rattle.std.proofs.lemmas.Bool.{false_from_ne_true, false≢true, eq-eqb}
+use Rattle.std.proofs.lemmas.Bool.{false_from_ne_true}
 use Rattle.std.proofs.lemmas.List.{get_or-map, length-map, drop_more}
 use Rattle.std.proofs.lemmas.List.Folds.{list_any_at}
 use Rattle.cnf.specs.Literal.{Literal, Assignment, literal_value, literal_eq}
@@ -38,15 +37,6 @@ not_needed t p c i l h is other value =
     none : (b : Bool) → (b && false) ≡ false
     none true = refl
     none false = refl
-
--- literals whose codes differ
-pub codes_differ : (l p : Literal)
-    → ((2 * l.variable + (if l.negated then 1 else 0)) ==
-    (2 * p.variable + (if p.negated then 1 else 0))) ≡ false → literal_eq l p ≡ false
-codes_differ l p h = false_from_ne_true (literal_eq l p) (λ e.
-    false≢true (sym h ∙ eq-eqb _ _
-    (ap (λ (x : Literal). 2 * x.variable + (if x.negated then 1 else 0))
-    (literal_eq-true l p e))))
 
 -- a clause at some place needs it
 pub needed_at : (t : Assignment) (v : ℕ) (literals : List Literal) (pieces : List Piece) (i : ℕ)

@@ -1,7 +1,8 @@
 -- Another literal is true.
 use Rattle.std.proofs.Common.{sym}
 use Rattle.cnf.specs.Bits.{assignment_of}
-use Rattle.eliminate_tables.proofs.Needed.{not_needed, codes_differ}
+use Rattle.eliminate_pairs.proofs.Laws.{codes_differ}
+use Rattle.eliminate_tables.proofs.Needed.{not_needed}
 use Rattle.eliminate_tables.proofs.stack.is_needed.Goals as goal
 
 pub returns-then-is_true : goal.returns-then-is_true
