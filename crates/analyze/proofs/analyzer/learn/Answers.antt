@@ -1,5 +1,6 @@
 use Rattle.std.proofs.Common.{rules, arith, ◌≡◌, ◌≤◌, sym, ◌∙◌, ap, subst}
 use Rattle.std.specs.Prelude.{All}
+use Rattle.std.proofs.lemmas.Result.{IfOk-from_err}
 use Rattle.cnf.specs.Literal.{Literal, negation}
 use Rattle.clauses.specs.Slots.{clause_at}
 use Rattle.propagate.specs.Trail.{literals_of}
@@ -142,3 +143,11 @@ returns-clause-lists c =
     subst (ListsMarked c.args.engine.now.trail c.args.marking.now)
     (sym c.meet_reasons.ensures.rest)
     (record { listed = l.listed; long = l.long; spare = l.spare })
+
+pub returns-in_err-hints-clause-learns : goal.returns-in_err-hints-clause-learns
+returns-in_err-hints-clause-learns c =
+    IfOk-from_err c.from_residual.result _ c.from_residual.ensures.0
+
+pub returns-in_err-collect-clause-learns : goal.returns-in_err-collect-clause-learns
+returns-in_err-collect-clause-learns c =
+    IfOk-from_err c.from_residual-in_err-collect.result _ c.from_residual-in_err-collect.ensures.0

@@ -1,10 +1,14 @@
 use Rattle.std.proofs.Common.{rules, ◌≡◌, ◌≢◌, ◌<◌, ◌+◌, ◌++◌, ◌∷◌, [], Bool, sym, ◌∙◌, ap}
-use Rattle.std.proofs.Common.{length, get_or, take, inl, inr, arith, None, vec_capacity}
+use Rattle.std.proofs.Common.{ℕ, ◌≤◌, List, length, get_or, take, inl, inr, arith, None, subst}
+use Rattle.std.proofs.Common.{vec_capacity}
+use Rattle.std.proofs.lemmas.Result.{IfOk-from_err}
 use Rattle.std.proofs.lemmas.List.{take_more, append-nil, get_or_default, length-map, length_push}
 use Rattle.cnf.specs.Literal.{Literal, negation}
 use Rattle.clauses.specs.Slots.{clause_at}
 use Rattle.propagate.specs.Trail.{Assigned, literals_of, reason_in}
+use Rattle.propagate.specs.Watches.{EngineState}
 use Rattle.analyze.specs.Analyzer.{chosen_reasons}
+use Rattle.analyze.specs.declared.marks.Mark.{Mark}
 use Rattle.analyze.specs.declared.marks.Mark.TheVariants.{Kept, Resolved}
 use Rattle.analyze.specs.Marks.{mark_at, is_resolved, others_in, resolved_of}
 use Rattle.analyze.specs.Met.{nowhere, variable_at, GoesAlong}
@@ -20,6 +24,21 @@ use Rattle.analyze.proofs.collect.collect.Goals.{else-eq-via-then-eq+else-variab
 use Rattle.analyze.proofs.collect.collect.Goals.{else-eq-via-else-eq, then-eq-2+in-Some, else-eq-2}
 use Rattle.analyze.proofs.collect.collect.Goals.{else-eq-2-via-else-eq-2}
 use Rattle.analyze.proofs.collect.collect.Goals.{else-eq-2-via-then-eq-2+in-None-1}
+
+-- the positions that were met are places of the trail
+here : (e : EngineState) (M : List Mark) (met now : List ℕ) (q : ℕ) → GoesAlong e M met → now ≡ met
+    → q < length now → get_or now q 0 < length e.trail
+here e M met now q along same lt =
+    subst (λ (x : List ℕ). q < length x → get_or x q 0 < length e.trail) (sym same)
+    (along.listed.within q 0) lt
+
+-- whose variables the engine has
+named : (e : EngineState) (M : List Mark) {met : List ℕ} (v : ℕ) (l : Literal) {p : ℕ}
+    → GoesAlong e M met → v ≡ l.variable → l ≡ (get_or e.trail p nowhere).literal
+    → p < length e.trail → v ≤ e.variables
+named e M v l {p} along is at lt =
+    subst (λ (x : ℕ). x ≤ e.variables) (sym (is ∙ ap (λ (k : Literal). k.variable) at))
+    (along.fits.small p nowhere lt).1
 
 pub loop-position-init : goal.loop-position-init
 loop-position-init c =
@@ -150,3 +169,48 @@ loop-position-preserved c =
         | else-eq-2 w ↦ let room = i.room in let is = ap vec_capacity w.hints-is in omega arith
       ];
     }
+
+pub returns-in_err-push-clause-lits : goal.returns-in_err-push-clause-lits
+returns-in_err-push-clause-lits c =
+    IfOk-from_err c.from_residual.result _ c.from_residual.ensures.0
+
+pub returns-in_err-push-clause-hints : goal.returns-in_err-push-clause-hints
+returns-in_err-push-clause-hints c =
+    IfOk-from_err c.from_residual.result _ c.from_residual.ensures.0
+
+pub returns-in_err-push-2-clause-lits : goal.returns-in_err-push-2-clause-lits
+returns-in_err-push-2-clause-lits c =
+    IfOk-from_err c.from_residual-in_err-push-2.result _ c.from_residual-in_err-push-2.ensures.0
+
+pub returns-in_err-push-2-clause-hints : goal.returns-in_err-push-2-clause-hints
+returns-in_err-push-2-clause-hints c =
+    IfOk-from_err c.from_residual-in_err-push-2.result _ c.from_residual-in_err-push-2.ensures.0
+
+pub literal_at-lit-requires : goal.literal_at-lit-requires
+literal_at-lit-requires c = here c.args.engine.now c.args.marking.now.marks.items
+    c.args.marking.now.met.items c.deref-met.result.now c.loop-position.position-index
+    c.requires.along c.deref-met.ensures.value c.loop-position-test.true
+
+pub bounds-marks-variable : goal.bounds-marks-variable
+bounds-marks-variable c =
+    let e = c.args.engine.now in
+    let M = c.args.marking.now.marks.items in
+    let q = c.loop-position.position-index in
+    let lt =
+    here e M c.args.marking.now.met.items c.deref-met.result.now q c.requires.along
+    c.deref-met.ensures.value c.loop-position-test.true in
+    let s = named e M _ _ c.requires.along c.variable-variable.ensures.variable
+    c.literal_at-lit.ensures lt in
+    let room = c.requires.along.room in
+    let long = ap length c.deref-marks.ensures.value in
+    omega arith
+
+pub reason-requires : goal.reason-requires
+reason-requires c =
+    let e = c.args.engine.now in
+    let M = c.args.marking.now.marks.items in
+    let q = c.loop-position.position-index in
+    let lt =
+    here e M c.args.marking.now.met.items c.deref-met.result.now q c.requires.along
+    c.deref-met.ensures.value c.loop-position-test.true in
+    named e M _ _ c.requires.along c.variable-variable.ensures.variable c.literal_at-lit.ensures lt
