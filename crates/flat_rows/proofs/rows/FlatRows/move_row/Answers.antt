@@ -39,3 +39,37 @@ returns-clause-moved g c _ =
     (rooms_set i.heads.items c.args.row _
     ∙ ap (λ rooms. slice_set rooms c.args.row c.args.room)
     (seen_rooms i.block i.heads.items _ c.self.view_is))
+
+pub index-requires : goal.index-requires
+index-requires g c =
+    let i = c.self.inside in
+    omega (
+      arith,
+      row_there i.block i.heads.items _ (seen_rows i.block i.heads.items _ c.self.view_is)
+          c.args.row c.requires,
+    )
+
+-- the row ends where what is in use does, at the latest
+pub copy_within-requires-clause-before : goal.copy_within-requires-clause-before
+copy_within-requires-clause-before g c =
+    let i = c.self.inside in let laid = c.self.invariant in
+    let seen = seen_rows i.block i.heads.items _ c.self.view_is in
+    let li : c.args.row < length i.heads.items =
+    row_there i.block i.heads.items _ seen c.args.row c.requires in
+    let is : c.index.result.now ≡ get_or i.heads.items c.args.row no_head =
+    head_read i.block i.heads.items _ seen c.args.row c.requires c.index.result.now
+    c.index.ensures in
+    let start = ap (λ (r : RowHead). r.start) is in
+    let long = ap (λ (r : RowHead). r.length) is in
+    let filled = laid.filled c.args.row li in
+    let inside = laid.inside c.args.row li in
+    omega arith
+
+pub copy_within-requires-clause-room : goal.copy_within-requires-clause-room
+copy_within-requires-clause-room g c = let fits = c.self.invariant.used_fits in omega arith
+
+pub copy_within-requires-clause-small : goal.copy_within-requires-clause-small
+copy_within-requires-clause-small g c = let fits = c.self.invariant.used_fits in omega arith
+
+pub overflow_add-self : goal.overflow_add-self
+overflow_add-self g c = let small = c.self.invariant.small in omega arith
