@@ -1,12 +1,16 @@
-use Rattle.std.proofs.Common.{◌≡◌, ◌+◌, ◌<◌, length, sym, ap, subst, ◌∙◌, arith}
+use Rattle.std.proofs.Common.{◌≡◌, ◌+◌, ◌<◌, true, length, get_or, sym, ap, subst, ◌∙◌, arith}
 use Rattle.std.specs.Prelude.{IfNone}
 use Rattle.std.specs.List.{AllByRecursion}
-use Rattle.std.proofs.lemmas.List.{length-append}
-use Rattle.cnf.specs.Literal.{index_of}
+use Rattle.std.proofs.lemmas.List.{length-append, length-map}
+use Rattle.std.proofs.lemmas.Result.{IfOk-from_err}
+use Rattle.cnf.specs.Literal.{index_of, negation}
+use Rattle.cnf.specs.Clause.{contains_literal}
+use Rattle.cnf.proofs.Laws.{negation_twice}
 use Rattle.propagate_watches.specs.Pool.{row_at}
-use Rattle.propagate_trail.specs.Trail.{literals_of}
+use Rattle.propagate_trail.specs.Trail.{Assigned, literals_of}
+use Rattle.propagate_trail.proofs.Laws.{contains_at}
 use Rattle.propagate.specs.Fits.{Fits}
-use Rattle.propagate.specs.Steps.{Continues, AreTrueWaiting, IsTrueEntry}
+use Rattle.propagate.specs.Steps.{Continues, AreTrueWaiting, IsTrueEntry, FindsConflict}
 use Rattle.propagate.proofs.Continuing.{goes_on_then, continues_progress}
 use Rattle.propagate.proofs.Completing.{complete, fits_advance, grown_at}
 use Rattle.propagate.proofs.engine.Engine.look_at_queue.Goals as goal
@@ -50,4 +54,38 @@ returns-clause-settles c = record {
   fixpoint =
       complete c.loop-falsified.self c.args.store.now.slots c.in_default.ensures
       c.loop-falsified.invariant.waiting c.loop-falsified.invariant.goes_on.fits;
+}
+
+-- the literal that became true is on the trail
+pub look_at_row-requires-clause-falsified : goal.look_at_row-requires-clause-falsified
+look_at_row-requires-clause-falsified c =
+    let s = c.in-Some.ensures in
+    let T = c.loop-falsified.self.trail in
+    let q = c.loop-falsified.self.watches.qhead in
+    let w = c.in-Some.falsified in
+    let lt = s.0 in
+    let long = length-map T (λ (a : Assigned). a.literal) in
+    subst (λ l. contains_literal l (literals_of T) ≡ true)
+    (sym (ap negation s.3 ∙ negation_twice (get_or (literals_of T) q w)))
+    (contains_at (literals_of T) q w (omega arith))
+
+pub returns-in_err-conflict-clause-goes_on : goal.returns-in_err-conflict-clause-goes_on
+returns-in_err-conflict-clause-goes_on c =
+    goes_on_then c.args.store.now.slots c.args.self.now c.loop-falsified.self
+    c.look_at_row.new.self c.loop-falsified.invariant.goes_on c.in_err-conflict.ensures.goes_on
+
+pub returns-in_err-conflict-clause-settles : goal.returns-in_err-conflict-clause-settles
+returns-in_err-conflict-clause-settles c =
+    IfOk-from_err c.from_residual.result _ c.from_residual.ensures.0
+
+pub returns-in-Some-2-clause-goes_on : goal.returns-in-Some-2-clause-goes_on
+returns-in-Some-2-clause-goes_on c =
+    goes_on_then c.args.store.now.slots c.args.self.now c.loop-falsified.self
+    c.look_at_row.new.self c.loop-falsified.invariant.goes_on c.in_ok-conflict.ensures.goes_on
+
+pub returns-in-Some-2-clause-settles : goal.returns-in-Some-2-clause-settles
+returns-in-Some-2-clause-settles c = record {
+  conflict = subst (FindsConflict c.args.store.now.slots c.look_at_row.new.self) c.in-Some-2.is
+      c.in_ok-conflict.ensures.conflict;
+  fixpoint = tt;
 }
