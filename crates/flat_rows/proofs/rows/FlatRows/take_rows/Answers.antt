@@ -1,5 +1,6 @@
 use Rattle.std.proofs.Common.{[], arith}
 use Rattle.std.proofs.lemmas.List.{ext_get_or}
+use Rattle.std.proofs.lemmas.Result.{IfOk-from_err}
 use Rattle.flat_rows.proofs.rows.FlatRows.take_rows.Goals as goal
 
 pub returns : goal.returns
@@ -7,3 +8,11 @@ returns g c =
     let i = c.loop-row.invariant in
     ext_get_or [] c.loop-row.self.rows c.args.other.now.rows i.long
     (λ k lt. i.copied k (omega (arith, i.long, c.loop-row-test.false, c.rows-row-end.ensures)))
+
+pub returns-in_err-give_room : goal.returns-in_err-give_room
+returns-in_err-give_room g c =
+    IfOk-from_err c.from_residual.result _ c.from_residual.ensures.0
+
+pub returns-in_err-copy_row : goal.returns-in_err-copy_row
+returns-in_err-copy_row g c =
+    IfOk-from_err c.from_residual-in_err-copy_row.result _ c.from_residual-in_err-copy_row.ensures.0

@@ -1,4 +1,5 @@
 use Rattle.std.proofs.Common.{refl, subst}
+use Rattle.std.proofs.lemmas.Result.{IfOk-from_err}
 use Rattle.propagate_watches.specs.Table.{IsWatching, grown_table}
 use Rattle.propagate_watches.specs.declared.table.Attachment.TheVariants.{Waiting}
 use Rattle.propagate.specs.Watches.{engine_state}
@@ -18,3 +19,7 @@ invariant_of-self-2 c =
     rw (c.set.ensures, c.index.ensures, c.in_ok-make_room.ensures.ok)
     (engine_set e' c.args.reference Waiting i.pool c.push.new.self.items inv' refl
     (length-grown i.table c.args.reference) (λ one other at. absurd (cc)))
+
+pub returns-in_err-make_room-clause-ok : goal.returns-in_err-make_room-clause-ok
+returns-in_err-make_room-clause-ok c =
+    IfOk-from_err c.from_residual.result _ c.from_residual.ensures.0
