@@ -57,12 +57,22 @@ fn add_subcommand<'a>(
     commands.push(command).map_err(AllocError::from)
 }
 
-/// Adds each command to a list.
-fn add_subcommands<'a>(alloc: Global, commands: &mut Vec<Command<'a>>) -> Result<(), AllocError> {
-    for subcommand in &SUBCOMMANDS {
+/// Adds each of these commands to a list.
+fn add_each<'a>(
+    alloc: Global,
+    subcommands: &[Subcommand<'a>],
+    commands: &mut Vec<Command<'a>>,
+) -> Result<(), AllocError> {
+    for subcommand in subcommands {
         add_subcommand(alloc, subcommand, commands)?;
     }
     Ok(())
+}
+
+/// Adds each command to a list. The loop stands apart: over an array it would be proved once for
+/// each element, and at each step with all that the constant holds.
+fn add_subcommands<'a>(alloc: Global, commands: &mut Vec<Command<'a>>) -> Result<(), AllocError> {
+    add_each(alloc, &SUBCOMMANDS, commands)
 }
 
 /// The whole command line.
