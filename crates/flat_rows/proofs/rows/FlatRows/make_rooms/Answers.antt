@@ -7,4 +7,5 @@ returns-in_err-grow-clause-rooms g c =
 
 pub returns-in_err-give_room-clause-rooms : goal.returns-in_err-give_room-clause-rooms
 returns-in_err-give_room-clause-rooms g c =
-    IfOk-from_err c.from_residual-in_err-give_room.result _ c.from_residual-in_err-give_room.ensures.0
+    IfOk-from_err c.from_residual-in_err-give_room.result _
+    c.from_residual-in_err-give_room.ensures.0

@@ -18,7 +18,8 @@ returns-in_err-packed g c =
 
 pub returns-in_err-make_rooms : goal.returns-in_err-make_rooms
 returns-in_err-make_rooms g c =
-    IfOk-from_err c.from_residual-in_err-make_rooms.result _ c.from_residual-in_err-make_rooms.ensures.0
+    IfOk-from_err c.from_residual-in_err-make_rooms.result _
+    c.from_residual-in_err-make_rooms.ensures.0
 
 pub returns-in_err-copy_row : goal.returns-in_err-copy_row
 returns-in_err-copy_row g c =
