@@ -1,38 +1,16 @@
 -- A log before its first line.
-use Rattle.std.proofs.Common.{◌≡◌, ℕ, false, List, length, Option, refl, sym, ◌∙◌, ap, subst}
+use Rattle.std.proofs.Common.{◌≡◌, ℕ, List, length, Option, refl, sym, ◌∙◌, subst}
 use Rattle.std.proofs.Common.{arith, ◌≤◌}
-use Rattle.cnf.specs.Formula.{Cnf}
-use Rattle.cnf.specs.Literal.{Literal}
 use Rattle.cnf.specs.Problem.{Problem}
 use Rattle.cnf.specs.declared.limits.TheConstants.{NUMBER_LIMIT}
-use Rattle.bound.specs.Weighted.{weighted_cnf, weights_of}
-use Rattle.forms.specs.Forms.{Forms, forms_of}
+use Rattle.bound.specs.Weighted.{weighted_cnf}
 use Rattle.cuts_log.specs.declared.standing.Standing.{Standing}
 use Rattle.lrat_cuts.specs.Cuts.{CutsState}
 use Rattle.cuts_log.specs.Books.{BookState, begun_book, resumed_book}
-use Rattle.cuts_log.specs.Given.{FormulaState, all_live}
 use Rattle.cuts_log.specs.Logs.{IsKept}
-use Rattle.cuts_log.specs.Stands.{stand_at, stand_of, with_clauses}
+use Rattle.cuts_log.specs.Stands.{stand_at, stand_of}
 use Rattle.cuts_log.specs.Starts.{IsStart}
 use Rattle.cuts_log.proofs.Starting.{same_stand, start_worth, starts_right}
-
-abbrev blank : FormulaState → Forms → Standing
-blank g f = record { forms = f; ended = false; formula = g }
-
-pub starts : (p : Problem) (g : Cnf) (cs : List (List Literal)) (n : ℕ) (ws : List (ℕ × Literal))
-    (f : Forms) (k : FormulaState) (t : Standing) → g ≡ weighted_cnf p → cs ≡ g.clauses
-    → n ≡ g.variables → ws ≡ weights_of p → f ≡ forms_of n ws → k ≡ all_live cs
-    → t ≡ with_clauses cs (blank k f)
-    → record t { ended = false } ≡ stand_of p
-starts p g cs n ws f k t is clauses vars weights forms live heard =
-    let w = weighted_cnf p in
-    let same : cs ≡ w.clauses = clauses ∙ ap (λ (x : Cnf). x.clauses) is in
-    ap (λ (s : Standing). record s { ended = false }) (heard
-    ∙ ap (λ x. with_clauses cs (blank x f)) live
-    ∙ ap (λ x. with_clauses x (blank (all_live x) f)) same
-    ∙ ap (λ x. with_clauses w.clauses (blank (all_live w.clauses) x)) (forms
-    ∙ ap (λ k. forms_of k ws) (vars ∙ ap (λ (x : Cnf). x.variables) is)
-    ∙ ap (λ k. forms_of w.variables k) weights))
 
 pub begins_kept : (p : Problem) (base : ℕ) (origin : Option (List ℕ)) (b : BookState) (s : Standing)
     → b ≡ begun_book p base origin → base ≡ length (weighted_cnf p).clauses → s ≡ stand_of p

@@ -124,18 +124,34 @@ seen_same old new e h f =
     ∙ ap (take old.lines) (lines_next old new e f.seen f.base)
     ∙ take-append-le old.lines (log_lines old) (lines_in e) within
 
-pub brings : (old : LogState) (s : Standing) (b : BookState) (e : Event) (more : List LogLine)
-    → IsBook old.book → (old.book).failed ≡ false → Notes e old.book b → lines_in e ≡ more
-    → Brings more old (record { book = b; standing = s; cost = old.cost })
-brings old s b e more h w n is = record {
-  lines = seen_more old.book b e h w n ∙ ap (λ z. lines_seen old ++ z) is;
-  works = n.works;
-}
+-- what one line more brings, where the log was seen as `now`
+pub brings : (old now : LogState) (s : Standing) (b : BookState) (e : Event) (more : List LogLine)
+    → old ≡ now → IsBook old.book → (old.book).failed ≡ false → Notes e old.book b
+    → lines_in e ≡ more
+    → Brings more now (record { book = b; standing = s; cost = old.cost })
+brings old now s b e more view h w n is =
+    let new : LogState = record { book = b; standing = s; cost = old.cost } in
+    subst (λ z. Brings more z new) view (record {
+      lines = seen_more old.book b e h w n ∙ ap (λ z. lines_seen old ++ z) is;
+      works = n.works;
+    })
 
-pub lost : (old : LogState) (s : Standing) (b : BookState) (e : Event) → IsBook old.book
-    → FailsAt e old.book b
-    → lines_seen (record { book = b; standing = s; cost = old.cost }) ≡ lines_seen old
-lost old s b e h f = seen_same old.book b e h f
+pub lost : (old now : LogState) (s : Standing) (b : BookState) (e : Event) → old ≡ now
+    → IsBook old.book → FailsAt e old.book b
+    → lines_seen (record { book = b; standing = s; cost = old.cost }) ≡ lines_seen now
+lost old now s b e view h f = seen_same old.book b e h f ∙ ap lines_seen view
+
+pub same_next : (old now : LogState) (s : Standing) (b : BookState) (e : Event) → old ≡ now
+    → b.seen ≡ seen_next e (old.book).seen
+    → SameLog now (record { book = b; standing = s; cost = old.cost })
+same_next old now s b e view seen =
+    let new : LogState = record { book = b; standing = s; cost = old.cost } in
+    subst (λ z. SameLog z new) view (record {
+      problem = ap (λ (t : TraceState). t.problem) seen;
+      start = ap (λ (t : TraceState). t.start) seen;
+      origin = ap (λ (t : TraceState). t.origin) seen;
+      cost = refl;
+    })
 
 pub short_seen : (l : LogState) → IsBook l.book → length (lines_seen l) < LINE_LIMIT
 short_seen l h =

@@ -4,15 +4,20 @@
 // first: what the state refuses is not written. The state is the one that the checker keeps, so a
 // search need prove nothing of what it proposes.
 ghost use Rattle.std.specs.Prelude.{◌≡◌, false, [], map, min, IfNone, IfOk, IfSome, OnOk};
+ghost use Rattle.std.specs.Prelude.{◌<◌, ◌≤◌, All, sum_by};
+ghost use Rattle.cnf.specs.declared.limits.TheConstants.{NUMBER_LIMIT};
+ghost use Rattle.adder.specs.Network.{relaxed_variables};
 ghost use Rattle.adder.specs.Parts.{weight_in};
+ghost use Rattle.adder.specs.declared.profiles.Profile.TheVariants.{Two};
 ghost use Rattle.bound.specs.Weighted.{weighted_cnf, weights_of};
 ghost use Rattle.cuts_log.specs.Starts.{IsReached, IsStart};
 
+mod beginning;
 mod proposing;
 mod resuming;
 
 use crate::book::Book;
-use crate::given::FormulaClauses;
+use crate::log::beginning::standing_of;
 use crate::log::resuming::go_on;
 use crate::standing::Standing;
 use adder::relaxations::Relaxation;
@@ -85,29 +90,36 @@ impl<W: Write + Drop> CutsLog<W> {
         ensures weights { IfOk result
             (λ b. map weight_in b.weights.items ≡ weights_of instance.now) }
     {
-        instance.limits();
-        let alloc = instance.allocator();
         let formula = weighted_formula(instance)?;
         let weights = weights(instance)?;
-        let copy = formula.clauses().try_clone()?;
-        let given = FormulaClauses::all_live(copy)?;
-        let mut standing = Standing {
-            forms: Forms::new(alloc, formula.vars(), &weights)?,
-            ended: false,
-            formula: given,
-        };
-        standing.take_all(formula.clauses())?;
-        standing.ended = false;
-        let book = Book::new(instance, formula.clauses().len(), writer)?;
-        let log = CutsLog {
-            book,
-            standing,
-            cost: NUMBER_LIMIT,
-        };
+        let log = Self::over(instance, &formula, &weights, writer)?;
         Ok(Begun {
             log,
             formula,
             weights,
+        })
+    }
+
+    /// A log before its first line, over the formula and the weights of the instance.
+    fn over(
+        instance: &Instance,
+        formula: &Formula,
+        weights: &[Relaxation],
+        writer: W,
+    ) -> Result<Self, AllocError>
+        requires formula { formula.now ≡ weighted_cnf instance.now }
+        requires weights { map weight_in weights.now ≡ weights_of instance.now }
+        requires within { All (λ r. r.lit.variable ≤ relaxed_variables Two instance.now)
+            weights.now }
+        requires sum { sum_by (λ r. r.weight) weights.now < NUMBER_LIMIT }
+        ensures { IfOk result (HasBegun instance.now (W.contents writer)) }
+    {
+        let book = Book::new(instance, formula.clauses().len(), writer)?;
+        let standing = standing_of(instance, formula, weights)?;
+        Ok(CutsLog {
+            book,
+            standing,
+            cost: NUMBER_LIMIT,
         })
     }
 

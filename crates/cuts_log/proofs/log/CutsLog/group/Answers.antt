@@ -1,7 +1,8 @@
-use Rattle.std.proofs.Common.{◌≡◌, true, sym, ◌∙◌, rules, []}
+use Rattle.std.proofs.Common.{◌≡◌, true, sym, ◌∙◌, rules, [], refl}
+use Rattle.lrat_log.proofs.Laws.{when_err}
 use Rattle.lrat_read.specs.Words.{GroupLine}
 use Rattle.cuts_log.specs.Events.{Word}
-use Rattle.cuts_log.proofs.Keeping.{kept_next}
+use Rattle.cuts_log.proofs.Keeping.{brings, kept_next, lost, same_next}
 use Rattle.cuts_log.proofs.log.CutsLog.group.Goals as goal
 
 pub invariant_of-self-in_err-note : goal.invariant_of-self-in_err-note
@@ -21,3 +22,22 @@ invariant_of-self-2 g c =
     kept_next _ (Word (GroupLine c.args.inputs.now c.args.ids.now) []) c.group.new.self
     c.note.new.self
     c.self.invariant works (c.in-Ok.ensures.taken yes c.self.inside.cost) n.seen n.base
+
+pub returns-in_err-note-clause-err : goal.returns-in_err-note-clause-err
+returns-in_err-note-clause-err g c =
+    when_err c.from_residual.result (lost _ _ c.group.new.self c.note.new.self
+    (Word (GroupLine c.args.inputs.now c.args.ids.now) []) c.self.view_is
+    c.has_failed.ensures.kept c.in_err-note.ensures.err)
+
+pub returns-in_err-note-clause-same : goal.returns-in_err-note-clause-same
+returns-in_err-note-clause-same g c =
+    same_next _ _ _ _ _ c.self.view_is c.in_err-note.ensures.err.seen
+
+pub returns-clause-taken : goal.returns-clause-taken
+returns-clause-taken g c =
+    let works = sym c.has_failed.ensures.failed ∙ c.if-has_failed.false in
+    λ _. brings _ _ _ _ _ _ c.self.view_is c.has_failed.ensures.kept works
+    c.in_ok-note.ensures.ok refl
+
+pub returns-clause-same : goal.returns-clause-same
+returns-clause-same g c = same_next _ _ _ _ _ c.self.view_is c.in_ok-note.ensures.ok.seen
