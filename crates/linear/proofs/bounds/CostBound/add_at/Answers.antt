@@ -1,5 +1,6 @@
 -- One coefficient beside the cost grows, and the least value by what that gives.
 use Rattle.std.proofs.Common.{rules, arith, w64, ◌≡◌, ℤ, ◌+ℤ◌, ◌+◌, ◌≤◌, ◌^◌, ap, ◌∙◌, refl}
+use Rattle.std.proofs.Common.{ℕ, ◌<◌}
 use Rattle.std.specs.Int.RustNames.{unsigned_abs}
 use Rattle.std.proofs.lemmas.Int.{ints, to_z-of_z}
 use Rattle.std.proofs.lemmas.List.Elements.{All-set}
@@ -14,6 +15,9 @@ use Rattle.linear.specs.Kept.{state_in}
 use Rattle.linear.proofs.Moves.{whole_small}
 use Rattle.linear.proofs.Places.{stands_at, kept_small, raised_small, added_put, added_put_kept}
 use Rattle.linear.proofs.bounds.CostBound.add_at.Goals as goal
+
+light : (n w : ℕ) → n + w ≤ 2 ^ 120 → w < 2 ^ 126
+light n w small = omega arith
 
 pub raised-requires-clause-sum : goal.raised-requires-clause-sum
 raised-requires-clause-sum c =
@@ -126,3 +130,19 @@ returns-clause-form c =
     old new w at refl refl refl r
     ∙ ap (λ (s : BoundState). record (s.form) { added = plus_at w v (s.form).added })
     c.self.view_is)
+
+pub moved-self-inside-requires-clause-old : goal.moved-self-inside-requires-clause-old
+moved-self-inside-requires-clause-old c =
+    let f : SFits w128 c.least_at-before.result = search rules in
+    rw (to_z-of_z w128 c.least_at-before.result f) c.least_at-before.ensures.bound
+
+pub moved-self-inside-requires-clause-new : goal.moved-self-inside-requires-clause-new
+moved-self-inside-requires-clause-new c =
+    let f : SFits w128 c.least_at-after.result = search rules in
+    rw (to_z-of_z w128 c.least_at-after.result f) c.least_at-after.ensures.bound
+
+pub raised-requires-clause-by : goal.raised-requires-clause-by
+raised-requires-clause-by c =
+    let w = c.args.weight in
+    let f : SFits w128 w = search rules in
+    rw (to_z-of_z w128 w f) (light c.args.self.now.mass (unsigned_abs w) c.requires.room)

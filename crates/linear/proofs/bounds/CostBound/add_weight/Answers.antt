@@ -1,6 +1,6 @@
 -- The cost grows by what a literal weighs, and its least value by what that gives.
 use Rattle.std.proofs.Common.{rules, arith, w64, ◌≡◌, ℤ, ◌+ℤ◌, ◌-ℤ◌, ◌<◌, ◌≤◌, ◌^◌, ap, ◌∙◌, refl}
-use Rattle.std.proofs.Common.{pos}
+use Rattle.std.proofs.Common.{ℕ, ◌+◌, pos}
 use Rattle.std.specs.Int.RustNames.{unsigned_abs}
 use Rattle.std.specs.Prelude.{if◌then◌else◌}
 use Rattle.std.proofs.lemmas.Int.{ints, to_z-of_z}
@@ -17,6 +17,12 @@ use Rattle.linear.proofs.Moves.{alone_small}
 use Rattle.linear.proofs.Places.{stands_at, kept_small, kept_cost, alone_part, cost_put}
 use Rattle.linear.proofs.Places.{cost_put_kept, literal_parts}
 use Rattle.linear.proofs.bounds.CostBound.add_weight.Goals as goal
+
+light : (x w n : ℕ) → x ≤ w → n + w < 2 ^ 62 → x < 2 ^ 62
+light x w n le small = omega arith
+
+light_constant : (x w n : ℕ) → x ≤ w → n + w < 2 ^ 62 → x < 2 ^ 126
+light_constant x w n le small = omega arith
 
 pub raised_cost-requires-clause-cost : goal.raised_cost-requires-clause-cost
 raised_cost-requires-clause-cost c =
@@ -169,3 +175,34 @@ returns-clause-form c =
     ∙ ap (λ (t : Linear). record form { cost = t }) parts
     ∙ ap (λ (s : BoundState). record (s.form) { cost = plus_literal weight l (s.form).cost })
     c.self.view_is))
+
+pub raised_cost-requires-clause-weight : goal.raised_cost-requires-clause-weight
+raised_cost-requires-clause-weight c =
+    let x = c.coefficient_part-by.result in
+    let f : SFits w64 x = search rules in
+    rw (to_z-of_z w64 x f) (light (unsigned_abs x) c.args.weight c.args.self.now.weights
+    c.coefficient_part-by.ensures.bound c.requires.small)
+
+pub raised-alone-requires-clause-by : goal.raised-alone-requires-clause-by
+raised-alone-requires-clause-by c =
+    let y = c.constant_part-constant.result in
+    let f : SFits w128 y = search rules in
+    rw (to_z-of_z w128 y f) (light_constant (unsigned_abs y) c.args.weight c.args.self.now.weights
+    c.constant_part-constant.ensures.bound c.requires.small)
+
+pub moved-self-inside-requires-clause-old : goal.moved-self-inside-requires-clause-old
+moved-self-inside-requires-clause-old c =
+    let f : SFits w128 c.least_at.result = search rules in
+    rw (to_z-of_z w128 c.least_at.result f) c.least_at.ensures.bound
+
+pub moved-self-inside-requires-clause-new : goal.moved-self-inside-requires-clause-new
+moved-self-inside-requires-clause-new c =
+    let f : SFits w128 c.least_at-2.result = search rules in
+    rw (to_z-of_z w128 c.least_at-2.result f) c.least_at-2.ensures.bound
+
+pub raised-self-inside-requires-clause-by : goal.raised-self-inside-requires-clause-by
+raised-self-inside-requires-clause-by c =
+    let y = c.constant_part-constant.result in
+    let f : SFits w128 y = search rules in
+    rw (to_z-of_z w128 y f) (light_constant (unsigned_abs y) c.args.weight c.args.self.now.weights
+    c.constant_part-constant.ensures.bound c.requires.small)

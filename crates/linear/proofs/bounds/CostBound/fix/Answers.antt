@@ -155,3 +155,27 @@ returns-then-is_none c =
     ∙ ap (λ (s : BoundState). record s {
       form = record (s.form) { fixed = fixed_by l (s.form).fixed };
     }) c.self.view_is)
+
+pub moved-self-inside-requires-clause-old : goal.moved-self-inside-requires-clause-old
+moved-self-inside-requires-clause-old c =
+    let f : SFits w128 c.least_at-before.result = search rules in
+    rw (to_z-of_z w128 c.least_at-before.result f) c.least_at-before.ensures.bound
+
+pub moved-self-inside-requires-clause-new : goal.moved-self-inside-requires-clause-new
+moved-self-inside-requires-clause-new c =
+    let f : SFits w128 c.least_at-after.result = search rules in
+    rw (to_z-of_z w128 c.least_at-after.result f) c.least_at-after.ensures.bound
+
+pub moved-self-inside-requires-then-is_none-clause-old :
+    goal.moved-self-inside-requires-then-is_none-clause-old
+moved-self-inside-requires-then-is_none-clause-old c =
+    let f : SFits w128 c.least_at-before-then-is_none.result = search rules in
+    rw (to_z-of_z w128 c.least_at-before-then-is_none.result f)
+    c.least_at-before-then-is_none.ensures.bound
+
+pub moved-self-inside-requires-then-is_none-clause-new :
+    goal.moved-self-inside-requires-then-is_none-clause-new
+moved-self-inside-requires-then-is_none-clause-new c =
+    let f : SFits w128 c.least_at-after-then-is_none.result = search rules in
+    rw (to_z-of_z w128 c.least_at-after-then-is_none.result f)
+    c.least_at-after-then-is_none.ensures.bound
