@@ -1,6 +1,7 @@
 use Rattle.std.proofs.Common.{◌≡◌, ◌+◌, ◌/◌, ◌<◌, ◌∷◌, [], ◌++◌, length, map, ap, sym}
 use Rattle.std.proofs.Common.{◌∙◌, arith}
 use Rattle.std.proofs.lemmas.List.{append-nil}
+use Rattle.std.proofs.lemmas.Result.{IfOk-from_err}
 use Rattle.cnf.specs.Literal.{positive}
 use Rattle.totalizer.specs.Stages.{Node, stage, sum_clauses, order_clause}
 use Rattle.totalizer.specs.Laid.{tree_at}
@@ -119,3 +120,69 @@ returns t c =
           ∙ ap (λ t. c.args.clauses.now ++ (stage h v t).clauses) (sym before);
       fresh = sym (ap (λ s. s.fresh) built) ∙ sym (ap (λ t. (stage h v t).fresh) before);
     }
+
+pub returns-in_err-fresh-clause-tree : goal.returns-in_err-fresh-clause-tree
+returns-in_err-fresh-clause-tree t c =
+    IfOk-from_err c.from_residual.result _ c.from_residual.ensures.0
+
+pub returns-in_err-fresh-clause-clauses : goal.returns-in_err-fresh-clause-clauses
+returns-in_err-fresh-clause-clauses t c =
+    IfOk-from_err c.from_residual.result _ c.from_residual.ensures.0
+
+pub returns-in_err-fresh-clause-fresh : goal.returns-in_err-fresh-clause-fresh
+returns-in_err-fresh-clause-fresh t c =
+    IfOk-from_err c.from_residual.result _ c.from_residual.ensures.0
+
+pub returns-in_err-fresh-2-clause-tree : goal.returns-in_err-fresh-2-clause-tree
+returns-in_err-fresh-2-clause-tree t c =
+    IfOk-from_err c.from_residual-in_err-fresh-2.result _ c.from_residual-in_err-fresh-2.ensures.0
+
+pub returns-in_err-fresh-2-clause-clauses : goal.returns-in_err-fresh-2-clause-clauses
+returns-in_err-fresh-2-clause-clauses t c =
+    IfOk-from_err c.from_residual-in_err-fresh-2.result _ c.from_residual-in_err-fresh-2.ensures.0
+
+pub returns-in_err-fresh-2-clause-fresh : goal.returns-in_err-fresh-2-clause-fresh
+returns-in_err-fresh-2-clause-fresh t c =
+    IfOk-from_err c.from_residual-in_err-fresh-2.result _ c.from_residual-in_err-fresh-2.ensures.0
+
+pub returns-in_err-push_sums-clause-tree : goal.returns-in_err-push_sums-clause-tree
+returns-in_err-push_sums-clause-tree t c =
+    IfOk-from_err c.from_residual-in_err-push_sums.result _
+    c.from_residual-in_err-push_sums.ensures.0
+
+pub returns-in_err-push_sums-clause-clauses : goal.returns-in_err-push_sums-clause-clauses
+returns-in_err-push_sums-clause-clauses t c =
+    IfOk-from_err c.from_residual-in_err-push_sums.result _
+    c.from_residual-in_err-push_sums.ensures.0
+
+pub returns-in_err-push_sums-clause-fresh : goal.returns-in_err-push_sums-clause-fresh
+returns-in_err-push_sums-clause-fresh t c =
+    IfOk-from_err c.from_residual-in_err-push_sums.result _
+    c.from_residual-in_err-push_sums.ensures.0
+
+pub returns-in_err-push_order-clause-tree : goal.returns-in_err-push_order-clause-tree
+returns-in_err-push_order-clause-tree t c =
+    IfOk-from_err c.from_residual-in_err-push_order.result _
+    c.from_residual-in_err-push_order.ensures.0
+
+pub returns-in_err-push_order-clause-clauses : goal.returns-in_err-push_order-clause-clauses
+returns-in_err-push_order-clause-clauses t c =
+    IfOk-from_err c.from_residual-in_err-push_order.result _
+    c.from_residual-in_err-push_order.ensures.0
+
+pub returns-in_err-push_order-clause-fresh : goal.returns-in_err-push_order-clause-fresh
+returns-in_err-push_order-clause-fresh t c =
+    IfOk-from_err c.from_residual-in_err-push_order.result _
+    c.from_residual-in_err-push_order.ensures.0
+
+pub returns-in_err-push-clause-tree : goal.returns-in_err-push-clause-tree
+returns-in_err-push-clause-tree t c =
+    IfOk-from_err c.from_residual-in_err-push.result _ c.from_residual-in_err-push.ensures.0
+
+pub returns-in_err-push-clause-clauses : goal.returns-in_err-push-clause-clauses
+returns-in_err-push-clause-clauses t c =
+    IfOk-from_err c.from_residual-in_err-push.result _ c.from_residual-in_err-push.ensures.0
+
+pub returns-in_err-push-clause-fresh : goal.returns-in_err-push-clause-fresh
+returns-in_err-push-clause-fresh t c =
+    IfOk-from_err c.from_residual-in_err-push.result _ c.from_residual-in_err-push.ensures.0
