@@ -1,5 +1,6 @@
 -- A line more, which begins a block or stands in one.
 use Rattle.std.proofs.Common.{◌≡◌, ◌*◌, ◌<◌, length, rules, arith}
+use Rattle.std.proofs.lemmas.Result.{IfOk-from_err}
 use Rattle.lrat_log.specs.Heads.{near_head}
 use Rattle.lrat_log.proofs.NearWords.{block_begun, block_more, same_head}
 use Rattle.lrat_log.proofs.heads.push_near.Goals as goal
@@ -26,3 +27,19 @@ returns-clause-ok c =
     rw c.in_ok-push-3.ensures.items
     (block_more c.args.bases.now.items c.args.near.now.items c.args.head c.index.result.now
     c.in-Some.word room base head)
+
+pub returns-in_err-reserve-clause-ok : goal.returns-in_err-reserve-clause-ok
+returns-in_err-reserve-clause-ok c =
+    IfOk-from_err c.from_residual.result _ c.from_residual.ensures.0
+
+pub returns-in_err-push-clause-ok : goal.returns-in_err-push-clause-ok
+returns-in_err-push-clause-ok c =
+    IfOk-from_err c.from_residual-in_err-push.result _ c.from_residual-in_err-push.ensures.0
+
+pub returns-in_err-push-2-clause-ok : goal.returns-in_err-push-2-clause-ok
+returns-in_err-push-2-clause-ok c =
+    IfOk-from_err c.from_residual-in_err-push-2.result _ c.from_residual-in_err-push-2.ensures.0
+
+pub returns-in_err-push-3-clause-ok : goal.returns-in_err-push-3-clause-ok
+returns-in_err-push-3-clause-ok c =
+    IfOk-from_err c.from_residual-in_err-push-3.result _ c.from_residual-in_err-push-3.ensures.0

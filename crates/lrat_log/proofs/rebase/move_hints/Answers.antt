@@ -1,5 +1,6 @@
 -- One more hint was moved.
 use Rattle.std.proofs.Common.{◌≡◌, sym, ◌∙◌, ap}
+use Rattle.std.proofs.lemmas.Result.{IfOk-from_err}
 use Rattle.lrat_log.specs.declared.lines.Hint.TheVariants.{Plain, Group}
 use Rattle.lrat_log.specs.Rebase.{moved_hint}
 use Rattle.lrat_log.proofs.RebasedLines.{take_mapped_at}
@@ -19,3 +20,6 @@ loop-index-preserved c =
     take_mapped_at (moved_hint c.args.fixed c.args.count) c.args.hints.now c.loop-index.index
     c.get.result c.get.ensures in
     cc (c.in_ok-push.ensures.items, c.loop-index.invariant, e, t)
+
+pub returns-in_err-push : goal.returns-in_err-push
+returns-in_err-push c = IfOk-from_err c.from_residual.result _ c.from_residual.ensures.0

@@ -1,6 +1,7 @@
 -- One more line, and what holds of the result.
 use Rattle.std.proofs.Common.{◌<◌, [], ◌∷◌, ◌++◌, length, map, take, ap, arith, append_assoc}
 use Rattle.std.proofs.Common.{◌∙◌}
+use Rattle.std.proofs.lemmas.Result.{IfOk-from_err}
 use Rattle.lrat_log.specs.declared.lines.Kind.TheVariants.{Empty}
 use Rattle.lrat_log.specs.Log.{LogLine, line_at}
 use Rattle.lrat_log.specs.Rebase.{weaker_list, weaker_line, moved_line}
@@ -38,3 +39,21 @@ loop-line-preserved c =
 
 pub returns-clause-keeps : goal.returns-clause-keeps
 returns-clause-keeps c = keeps_log_law c.args.fixed (weaker_list c.args.weaker.now) c.args.log.now
+
+pub returns-in_err-append_weaker-clause-lines : goal.returns-in_err-append_weaker-clause-lines
+returns-in_err-append_weaker-clause-lines c =
+    IfOk-from_err c.from_residual.result _ c.from_residual.ensures.0
+
+pub returns-in_err-append_weaker-clause-keeps : goal.returns-in_err-append_weaker-clause-keeps
+returns-in_err-append_weaker-clause-keeps c =
+    IfOk-from_err c.from_residual.result _ c.from_residual.ensures.0
+
+pub returns-in_err-append_moved-clause-lines : goal.returns-in_err-append_moved-clause-lines
+returns-in_err-append_moved-clause-lines c =
+    IfOk-from_err c.from_residual-in_err-append_moved.result _
+    c.from_residual-in_err-append_moved.ensures.0
+
+pub returns-in_err-append_moved-clause-keeps : goal.returns-in_err-append_moved-clause-keeps
+returns-in_err-append_moved-clause-keeps c =
+    IfOk-from_err c.from_residual-in_err-append_moved.result _
+    c.from_residual-in_err-append_moved.ensures.0

@@ -1,5 +1,6 @@
 -- The line lies behind those before.
 use Rattle.std.proofs.Common.{◌≡◌, ◌+◌, ◌<◌, ◌^◌, length, refl, arith, rules}
+use Rattle.std.proofs.lemmas.Result.{IfOk-from_err}
 use Rattle.lrat_log.specs.Log.{LogLine}
 use Rattle.lrat_log.proofs.Flat.{lines_in-push, IsFlat-push}
 use Rattle.lrat_log.proofs.log.LogSink.append.Goals as goal
@@ -45,3 +46,17 @@ returns-in_ok-extend_from_slice-in-Ok-clause-ok c =
     )
     (lines_in-push c.self.inside.heads c.self.inside.lits.items c.self.inside.hints _ (line at)
     c.self.invariant refl e.0 e.1)
+
+pub returns-in_err-reserve-clause-ok : goal.returns-in_err-reserve-clause-ok
+returns-in_err-reserve-clause-ok c =
+    IfOk-from_err c.from_residual.result _ c.from_residual.ensures.0
+
+pub returns-in_err-extend-clause-ok : goal.returns-in_err-extend-clause-ok
+returns-in_err-extend-clause-ok c =
+    IfOk-from_err c.from_residual-in_err-extend.result _ c.from_residual-in_err-extend.ensures.0
+
+pub returns-in_err-extend_from_slice-in-Ok-clause-ok :
+    goal.returns-in_err-extend_from_slice-in-Ok-clause-ok
+returns-in_err-extend_from_slice-in-Ok-clause-ok c =
+    IfOk-from_err c.from_residual-in_err-extend_from_slice-in-Ok.result _
+    c.from_residual-in_err-extend_from_slice-in-Ok.ensures.0
