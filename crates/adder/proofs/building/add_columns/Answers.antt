@@ -1,4 +1,5 @@
 use Rattle.std.proofs.Common.{◌≡◌, ◌+◌, ◌-◌, ◌++◌, List, suc, arith, refl, ap}
+use Rattle.std.proofs.lemmas.Result.{IfOk-from_err}
 use Rattle.cnf.specs.Literal.{Literal}
 use Rattle.adder.proofs.Whole.{filled_is, column_room, builds_column}
 use Rattle.adder.proofs.building.add_columns.Goals as goal
@@ -25,3 +26,15 @@ loop-j-preserved c =
     c.in_ok-add_column.ensures.cells
     (rw c.in_ok-add_column.ensures.output at c.in_ok-push.ensures.items)
     c.in_ok-add_column.ensures.fresh c.in_ok-add_column.ensures.carries refl
+
+pub returns-in_err-push_bit : goal.returns-in_err-push_bit
+returns-in_err-push_bit c = IfOk-from_err c.from_residual.result _ c.from_residual.ensures.0
+
+pub returns-in_err-add_column : goal.returns-in_err-add_column
+returns-in_err-add_column c =
+    IfOk-from_err c.from_residual-in_err-add_column.result _
+    c.from_residual-in_err-add_column.ensures.0
+
+pub returns-in_err-push : goal.returns-in_err-push
+returns-in_err-push c =
+    IfOk-from_err c.from_residual-in_err-push.result _ c.from_residual-in_err-push.ensures.0

@@ -1,4 +1,5 @@
 use Rattle.std.proofs.Common.{◌≡◌, ◌+◌, ◌++◌, ◌∷◌, [], arith, refl}
+use Rattle.std.proofs.lemmas.Result.{IfOk-from_err}
 use Rattle.cnf.specs.Literal.{positive}
 use Rattle.adder.proofs.Queue.{two_at, three_at, has_room, adds_cell}
 use Rattle.adder.proofs.columns.Adder.add_up.Goals.{in-len2+in_ok-add-in-len2}
@@ -68,3 +69,15 @@ loop-front-preserved c = elim c.if-this-lt3.branch [
             (rw w.self-is w.in_ok-add-in-len3-up.ensures.carries) fresh (rw (taken, pushed) next.2);
       }
 ]
+
+pub returns-in_err-add-in-len2 : goal.returns-in_err-add-in-len2
+returns-in_err-add-in-len2 c = IfOk-from_err c.from_residual.result _ c.from_residual.ensures.0
+
+pub returns-in_err-add-in-len3-up : goal.returns-in_err-add-in-len3-up
+returns-in_err-add-in-len3-up c =
+    IfOk-from_err c.from_residual-in_err-add-in-len3-up.result _
+    c.from_residual-in_err-add-in-len3-up.ensures.0
+
+pub returns-in_err-push : goal.returns-in_err-push
+returns-in_err-push c =
+    IfOk-from_err c.from_residual-in_err-push.result _ c.from_residual-in_err-push.ensures.0

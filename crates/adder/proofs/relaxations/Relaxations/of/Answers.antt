@@ -1,6 +1,7 @@
 use Rattle.std.proofs.Common.{◌≡◌, ℕ, ◌+◌, ◌≤◌, ◌++◌, List, length, map, filter, drop, sym, ◌∙◌}
 use Rattle.std.proofs.Common.{ap, append-nil, arith, rules}
 use Rattle.std.proofs.lemmas.List.{at_drop_all}
+use Rattle.std.proofs.lemmas.Result.{IfOk-from_err}
 use Rattle.cnf.specs.Problem.{SoftClause}
 use Rattle.adder.specs.declared.profiles.Relaxing.{Relaxing}
 use Rattle.adder.specs.declared.relaxations.Relaxation.{Relaxation}
@@ -50,3 +51,34 @@ digit_count-digits-requires c = search rules
 
 pub returns-clause-digits : goal.returns-clause-digits
 returns-clause-digits c = search rules
+
+pub returns-in_err-each-clause-limits : goal.returns-in_err-each-clause-limits
+returns-in_err-each-clause-limits c =
+    IfOk-from_err c.from_residual.result _ c.from_residual.ensures.0
+
+pub returns-in_err-each-clause-each : goal.returns-in_err-each-clause-each
+returns-in_err-each-clause-each c = IfOk-from_err c.from_residual.result _ c.from_residual.ensures.0
+
+pub returns-in_err-each-clause-fresh : goal.returns-in_err-each-clause-fresh
+returns-in_err-each-clause-fresh c =
+    IfOk-from_err c.from_residual.result _ c.from_residual.ensures.0
+
+pub returns-in_err-each-clause-digits : goal.returns-in_err-each-clause-digits
+returns-in_err-each-clause-digits c =
+    IfOk-from_err c.from_residual.result _ c.from_residual.ensures.0
+
+pub returns-in_err-push-clause-limits : goal.returns-in_err-push-clause-limits
+returns-in_err-push-clause-limits c =
+    IfOk-from_err c.from_residual-in_err-push.result _ c.from_residual-in_err-push.ensures.0
+
+pub returns-in_err-push-clause-each : goal.returns-in_err-push-clause-each
+returns-in_err-push-clause-each c =
+    IfOk-from_err c.from_residual-in_err-push.result _ c.from_residual-in_err-push.ensures.0
+
+pub returns-in_err-push-clause-fresh : goal.returns-in_err-push-clause-fresh
+returns-in_err-push-clause-fresh c =
+    IfOk-from_err c.from_residual-in_err-push.result _ c.from_residual-in_err-push.ensures.0
+
+pub returns-in_err-push-clause-digits : goal.returns-in_err-push-clause-digits
+returns-in_err-push-clause-digits c =
+    IfOk-from_err c.from_residual-in_err-push.result _ c.from_residual-in_err-push.ensures.0
