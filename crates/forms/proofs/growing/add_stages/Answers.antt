@@ -1,6 +1,7 @@
 -- One stage more.
 use Rattle.std.proofs.Common.{◌≡◌, ◌+◌, ◌-◌, ◌<◌, suc, length, sym, ◌∙◌, ap, subst}
 use Rattle.std.proofs.Common.{arith, ◌++◌, length-append}
+use Rattle.std.proofs.lemmas.Result.{IfOk-from_err}
 use Rattle.totalizer.specs.Stages.{size_of, outputs_of, stage, stages}
 use Rattle.totalizer.proofs.Laws.{stages_from, stages_worth, stages_size}
 use Rattle.forms.proofs.Staging.{leaf_stages, next_length, next_stage, outputs_stages, stages_rise}
@@ -122,3 +123,6 @@ loop-done-preserved c =
             inv.few,
           );
     }
+
+pub returns-in_err-next : goal.returns-in_err-next
+returns-in_err-next c = IfOk-from_err c.from_residual.result _ c.from_residual.ensures.0

@@ -1,5 +1,6 @@
 -- A count is made.
 use Rattle.std.proofs.Common.{◌≡◌, ◌+◌, ◌-◌, true, refl, ap, sym, ◌∙◌, arith, subst}
+use Rattle.std.proofs.lemmas.Result.{IfOk-from_err}
 use Rattle.totalizer.specs.Stages.{stages}
 use Rattle.linear.specs.Costs.{width_of}
 use Rattle.forms.specs.declared.faults.TheConstants.{MOST_COUNT_CLAUSES}
@@ -162,3 +163,19 @@ returns-in_default c =
       refl,
       c.clear.ensures,
     )
+
+pub returns-in_err-totalizer : goal.returns-in_err-totalizer
+returns-in_err-totalizer c = IfOk-from_err c.from_residual.result _ c.from_residual.ensures.0
+
+pub returns-in_err-next : goal.returns-in_err-next
+returns-in_err-next c =
+    IfOk-from_err c.from_residual-in_err-next.result _ c.from_residual-in_err-next.ensures.0
+
+pub returns-in_err-widen : goal.returns-in_err-widen
+returns-in_err-widen c =
+    IfOk-from_err c.from_residual-in_err-widen.result _ c.from_residual-in_err-widen.ensures.0
+
+pub returns-in_err-push_count : goal.returns-in_err-push_count
+returns-in_err-push_count c =
+    IfOk-from_err c.from_residual-in_err-push_count.result _
+    c.from_residual-in_err-push_count.ensures.0

@@ -1,6 +1,7 @@
 use Rattle.std.proofs.Common.{◌≡◌, ◌≤◌, ◌++◌, ◌∷◌, [], ◌∙◌, sym, ap, true, subst, length, arith}
 use Rattle.std.specs.Prelude.{All}
 use Rattle.std.proofs.lemmas.List.Elements.{All-from_recursion, recursion_from_All}
+use Rattle.std.proofs.lemmas.Result.{IfOk-from_err}
 use Rattle.cnf.proofs.Laws.{all_push}
 use Rattle.forms.specs.declared.numbered.Numbered.TheVariants.{Group as StampedGroup}
 use Rattle.forms.specs.Forms.{are_known}
@@ -43,3 +44,10 @@ invariant_of-self-2 g c =
           (all_push (IsStamped f.present) items item
           (recursion_from_All (IsStamped f.present) items old.stamped) tt));
     }
+
+pub returns-in_err-lits : goal.returns-in_err-lits
+returns-in_err-lits g c = IfOk-from_err c.from_residual.result _ c.from_residual.ensures.0
+
+pub returns-in_err-push : goal.returns-in_err-push
+returns-in_err-push g c =
+    IfOk-from_err c.from_residual-in_err-push.result _ c.from_residual-in_err-push.ensures.0

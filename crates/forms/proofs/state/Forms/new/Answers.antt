@@ -2,6 +2,7 @@ use Rattle.std.proofs.Common.{◌≡◌, ◌+◌, ◌∷◌, [], ◌++◌, ◌�
 use Rattle.std.specs.List.{sum_by}
 use Rattle.std.proofs.lemmas.List.{take_more}
 use Rattle.std.proofs.lemmas.List.Sums.{sum_by-append}
+use Rattle.std.proofs.lemmas.Result.{IfOk-from_err}
 use Rattle.adder.specs.declared.relaxations.Relaxation.{Relaxation}
 use Rattle.linear.specs.Linear.{plus_literal}
 use Rattle.linear.specs.Costs.{CostForm}
@@ -34,3 +35,10 @@ loop-weight-preserved c =
           );
       mass = c.add_weight.ensures.mass ∙ inv.mass;
     }
+
+pub returns-in_err-bound : goal.returns-in_err-bound
+returns-in_err-bound c = IfOk-from_err c.from_residual.result _ c.from_residual.ensures.0
+
+pub returns-in_err-new : goal.returns-in_err-new
+returns-in_err-new c =
+    IfOk-from_err c.from_residual-in_err-new.result _ c.from_residual-in_err-new.ensures.0
