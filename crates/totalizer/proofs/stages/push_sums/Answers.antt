@@ -1,6 +1,7 @@
 use Rattle.std.proofs.Common.{◌≡◌, ◌++◌, ◌+◌, ◌-◌, [], arith, ap, sym}
 use Rattle.std.proofs.Common.{◌∙◌, suc}
 use Rattle.std.proofs.lemmas.List.{append-nil}
+use Rattle.std.proofs.lemmas.Result.{IfOk-from_err}
 use Rattle.totalizer.proofs.Sums.{sums_left, skipped, over, right_alone, left_alone, both_sides}
 use Rattle.totalizer.proofs.Sums.{sum_pushed}
 use Rattle.totalizer.proofs.stages.push_sums.Goals.{then-i-eq0+in_ok-push}
@@ -66,3 +67,14 @@ returns c =
     (λ p. omega arith) in
     sym (append-nil c.loop-i.clauses) ∙ ap (λ x. c.loop-i.clauses ++ x) (sym none)
     ∙ c.loop-i.invariant
+
+pub returns-in_err-push : goal.returns-in_err-push
+returns-in_err-push c = IfOk-from_err c.from_residual.result _ c.from_residual.ensures.0
+
+pub returns-in_err-push-2 : goal.returns-in_err-push-2
+returns-in_err-push-2 c =
+    IfOk-from_err c.from_residual-in_err-push-2.result _ c.from_residual-in_err-push-2.ensures.0
+
+pub returns-in_err-push-3 : goal.returns-in_err-push-3
+returns-in_err-push-3 c =
+    IfOk-from_err c.from_residual-in_err-push-3.result _ c.from_residual-in_err-push-3.ensures.0
