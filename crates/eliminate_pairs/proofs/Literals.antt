@@ -1,11 +1,13 @@
 -- Literals in clauses: negations, tests, and which of them a clause covers.
-use Rattle.std.proofs.Common.{◌≡◌, ◌==◌, ◌&&◌, ℕ, ◌+◌, ◌*◌, Bool, true, false, not, ◌≤◌, max, List, []}
+use Rattle.std.proofs.Common.{◌≡◌, ◌==◌, ◌&&◌, ℕ, ◌+◌, ◌*◌, Bool, true, false, not, ◌≤◌, max}
+use Rattle.std.proofs.Common.{List, []}
 use Rattle.std.proofs.Common.{◌∷◌, map, filter}
 use Rattle.std.proofs.Common.{◌⊎◌, inl, inr, refl, sym, ◌∙◌, ap, subst, arith}
 use Rattle.std.specs.Prelude.{if◌then◌else◌}
 use Rattle.std.specs.List.{AllByRecursion, list_any}
 use Rattle.std.proofs.lemmas.Bool.{or_cases, or_parts, or_left, or_right, or_from}
-use Rattle.std.proofs.lemmas.Bool.{both_ways, false_from_ne_true, false≢true, eq-eqb, eqb-true, and_from}
+use Rattle.std.proofs.lemmas.Bool.{both_ways, false_from_ne_true, false≢true, eq-eqb}
+use Rattle.std.proofs.lemmas.Bool.{eqb-true, and_from}
 use Rattle.cnf.specs.Literal.{Literal, Assignment, negation, literal_eq, literal_value, same_bool}
 use Rattle.cnf.specs.Clause.{clause_value, contains_literal, without_literal, has_repeat}
 use Rattle.cnf.specs.Clause.{is_tautology, greatest_variable}

@@ -30,10 +30,6 @@ use Rattle.report_text.specs.Answering.{bits_word, words_text, result_text, stat
 use Rattle.report.specs.Running.{told_in, AreHonest, NeedsProof, IsTrueLimit}
 use Rattle.report.specs.Running.{LeavesNothing}
 use Rattle.report_text.specs.declared.status.CutsStatus.{CutsStatus}
-use Rattle.report_text.specs.declared.status.CutsStatus.TheVariants.{OptimumFound as EndsOptimum}
-use Rattle.report_text.specs.declared.status.CutsStatus.TheVariants.{Unsatisfiable as EndsUnsatisfiable}
-use Rattle.report_text.specs.declared.status.CutsStatus.TheVariants.{Satisfiable as EndsSatisfiable}
-use Rattle.report_text.specs.declared.status.CutsStatus.TheVariants.{Unknown as EndsUnknown}
 use Rattle.report_text.specs.declared.fault.RunFault.{RunFault}
 use Rattle.report_text.specs.declared.fault.RunFault.TheVariants.{Read, Memory, Output, ProofOutput}
 

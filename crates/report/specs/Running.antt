@@ -3,14 +3,13 @@
 use Rattle.std.specs.Prelude.{◌≡◌, ◌+◌, ◌<◌, [], ◌∷◌, ◌++◌, ⊤, ◌⊎◌}
 use Rattle.std.specs.Prelude.{ℕ, Bool, List, length, All}
 use Rattle.std.specs.Prelude.{Option, IfSome, Result, Ok, Err, IfOk, OnOk}
-use Rattle.std.specs.List.{flat_map}
 use Rattle.std.specs.Io.KnownBytes.{Keeps, Appends}
 use Rattle.cnf.specs.Literal.{Assignment}
 use Rattle.cnf.specs.Bits.{Extends}
 use Rattle.cnf.specs.Problem.{Problem, IsOptimal, IsInconsistent}
 use Rattle.cnf.specs.Refute.{IsRefutedByHints}
 use Rattle.cnf.specs.declared.limits.TheConstants.{NUMBER_LIMIT}
-use Rattle.text.specs.Writing.{spaced, Begins, AppendsPart}
+use Rattle.text.specs.Writing.{Begins, AppendsPart}
 use Rattle.wcnf.specs.Wcnf.{Reads}
 use Rattle.wcnf.specs.Reading.{IsFirstFault}
 use Rattle.wcnf.specs.declared.faults.ReadFault.{ReadFault}
@@ -18,7 +17,7 @@ use Rattle.wcnf.specs.declared.faults.FaultKind.TheVariants.{Memory as MemoryKin
 use Rattle.adder.specs.declared.profiles.Profile.{Profile}
 use Rattle.bound.specs.Bound.{hard_cnf}
 use Rattle.cdcl_order.specs.Budgets.{BudgetState, left_of}
-use Rattle.lrat_result.specs.Result.{Said, FallsTo, Says, result_tokens}
+use Rattle.lrat_result.specs.Result.{Said, FallsTo, Says}
 use Rattle.lrat_result.specs.Result.{OptimumFound as SaysOptimum}
 use Rattle.lrat_result.specs.Result.{Unsatisfiable as SaysUnsatisfiable}
 use Rattle.lrat_result.specs.Result.{Satisfiable as SaysSatisfiable, Unknown as SaysUnknown}

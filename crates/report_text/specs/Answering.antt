@@ -15,7 +15,7 @@ use Rattle.improve.specs.declared.found.Found.{Found}
 use Rattle.improve.specs.declared.found.Found.TheVariants.{Optimum, Unsat, Best, Nothing}
 use Rattle.report_text.specs.declared.status.CutsStatus.{CutsStatus}
 use Rattle.report_text.specs.declared.status.CutsStatus.TheVariants.{OptimumFound as EndsOptimum}
-use Rattle.report_text.specs.declared.status.CutsStatus.TheVariants.{Unsatisfiable as EndsUnsatisfiable}
+use Rattle.report_text.specs.declared.status.CutsStatus.TheVariants.{Unsatisfiable as EndsUnsat}
 use Rattle.report_text.specs.declared.status.CutsStatus.TheVariants.{Satisfiable as EndsSatisfiable}
 use Rattle.report_text.specs.declared.status.CutsStatus.TheVariants.{Unknown as EndsUnknown}
 use Rattle.report_text.specs.declared.status.Status.{Status}
@@ -113,7 +113,7 @@ pub record Answers (found : Found) (out out' proof proof' : Option (List ℕ)) :
 -- how a run ends whose result says this
 abbrev pub status_by : Said → CutsStatus
 status_by (SaysOptimum c bits) = EndsOptimum
-status_by SaysUnsatisfiable = EndsUnsatisfiable
+status_by SaysUnsatisfiable = EndsUnsat
 status_by (SaysSatisfiable c bits) = EndsSatisfiable
 status_by SaysUnknown = EndsUnknown
 

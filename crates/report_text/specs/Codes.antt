@@ -11,7 +11,7 @@ use Rattle.report_text.specs.declared.fault.RunFault.{RunFault}
 use Rattle.report_text.specs.declared.fault.RunFault.TheVariants.{Read, Memory, Output, ProofOutput}
 use Rattle.report_text.specs.declared.status.CutsStatus.{CutsStatus}
 use Rattle.report_text.specs.declared.status.CutsStatus.TheVariants.{OptimumFound as EndsOptimum}
-use Rattle.report_text.specs.declared.status.CutsStatus.TheVariants.{Unsatisfiable as EndsUnsatisfiable}
+use Rattle.report_text.specs.declared.status.CutsStatus.TheVariants.{Unsatisfiable as EndsUnsat}
 use Rattle.report_text.specs.declared.status.CutsStatus.TheVariants.{Satisfiable as EndsSatisfiable}
 use Rattle.report_text.specs.declared.status.CutsStatus.TheVariants.{Unknown as EndsUnknown}
 use Rattle.report_text.specs.declared.status.Status.{Status}
@@ -26,7 +26,7 @@ code_of_status (Unknown work) = 0
 
 abbrev pub code_of_cuts : CutsStatus → ℕ
 code_of_cuts EndsOptimum = 30
-code_of_cuts EndsUnsatisfiable = 20
+code_of_cuts EndsUnsat = 20
 code_of_cuts EndsSatisfiable = 10
 code_of_cuts EndsUnknown = 0
 
