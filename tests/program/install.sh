@@ -51,7 +51,7 @@ for fault in $known; do
 done
 printed=$({
     sed -n '/^pub enum FaultKind/,/^}/p' crates/wcnf/src/faults.rt | grep -oE '^    [A-Z][A-Za-z]+'
-    grep -oE 'b"NO [A-Za-z]+ "' crates/report/src/printing.rt | cut -d ' ' -f 2 | grep -vx Text
+    grep -oE 'b"NO [A-Za-z]+ "' crates/report_text/src/printing.rt | cut -d ' ' -f 2 | grep -vx Text
     printf '%s\n' Output ProofOutput
 } | tr -d ' ')
 for fault in $printed; do ok "docs/FAULTS.md has $fault" grep -qx "$fault" <<< "$known"; done
