@@ -33,4 +33,4 @@ install:
 	install -D -m 755 examples/result_of_others "$(DESTDIR)$(PREFIX)/bin/wmax-result-of-others"
 
 clean:
-	rm -rf crates/*/out .lanes.* wmax wmax.1 build.log
+	rm -rf crates/*/out .build.* wmax wmax.1 build.log
