@@ -38,7 +38,7 @@ done
 # What it looks for is found where it stands.
 mkdir -p "$work/src"
 for line in 'use cdcl::solver::Solver;' '    let log = lrat_log::log::Log::new(alloc);' \
-    'use Rattle.propagate.specs.Trail.{trail}' 'ghost use Rattle.eliminate_tables.specs.Removals.{extend};'; do
+    'use Rattle.propagate.specs.Trail.{trail}' 'ghost use Rattle.reconstruction.specs.Removals.{extended};'; do
     printf '%s\n' "$line" > "$work/src/planted.rt"
     ok "a planted line is not seen: $line" naming "$work/src" > /dev/null
 done

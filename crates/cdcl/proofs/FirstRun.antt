@@ -26,7 +26,9 @@ use Rattle.lrat_log.specs.declared.lines.Name.TheVariants.{Formula, Added}
 use Rattle.lrat_log.specs.Log.{LogLine, id_of, number_in}
 use Rattle.lrat_log.specs.Steps.{StaysLogOver, IsBaseOf, log_live, given_of, AddsNoEmptyClause}
 use Rattle.lrat_log.specs.Steps.{adds_empty_clause, added_count}
-use Rattle.eliminate.specs.Elimination.{StackState, HoldsWhatIsLive, ExtendsBack, IsFree, extended}
+use Rattle.eliminate.specs.Elimination.{HoldsWhatIsLive, ExtendsBack}
+use Rattle.reconstruction.specs.Stack.{StackState, IsFree}
+use Rattle.reconstruction.specs.Removals.{extended}
 use Rattle.eliminate.specs.Elimination.{IsWhole}
 use Rattle.cdcl_search.specs.declared.search.Search.{Search}
 use Rattle.cdcl_search.specs.declared.input.Input.{Input}

@@ -9,8 +9,9 @@ use Rattle.cnf.specs.Literal.{Literal, positive, negative}
 use Rattle.cnf.specs.Clause.{contains_literal}
 use Rattle.propagate.specs.Trail.{Assigned, literals_of, value_in}
 use Rattle.propagate.proofs.Laws.{NoTautology}
-use Rattle.eliminate.specs.Elimination.{Removed, extended, IsFree}
-use Rattle.eliminate.proofs.Laws.{length-extended}
+use Rattle.reconstruction.specs.Stack.{IsFree}
+use Rattle.reconstruction.specs.Removals.{Removed, extended}
+use Rattle.reconstruction.proofs.Laws.{length-extended}
 use Rattle.cdcl_search.specs.Giving.{IsFrozen}
 use Rattle.cdcl.specs.Outcomes.{IsTrueUnder}
 use Rattle.cdcl.specs.Outcomes.{AreValues}

@@ -23,7 +23,8 @@ use Rattle.propagate.specs.Watches.{EngineState}
 use Rattle.lrat_log.specs.declared.lines.Name.{Name}
 use Rattle.lrat_log.specs.Log.{LogLine, Given}
 use Rattle.lrat_log.specs.Steps.{log_live}
-use Rattle.eliminate.specs.Elimination.{StackState, extended}
+use Rattle.reconstruction.specs.Stack.{StackState}
+use Rattle.reconstruction.specs.Removals.{extended}
 use Rattle.cdcl.specs.Solving.{SatisfyGiven, IsLiveRefuted}
 use Rattle.cdcl.specs.Guiding.{IsRefutedAtOnce}
 use Rattle.cdcl_search.specs.declared.input.Input.{Input}

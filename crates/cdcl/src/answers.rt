@@ -6,7 +6,7 @@ ghost use Rattle.propagate.specs.Trail.{literals_of, value_in};
 ghost use Rattle.analyze.specs.Analyzer.{IsFixpoint};
 ghost use Rattle.cdcl_order.specs.Orders.{AreClosed};
 ghost use Rattle.lrat_log.specs.Log.{LogLine};
-ghost use Rattle.eliminate.specs.Elimination.{extended};
+ghost use Rattle.reconstruction.specs.Removals.{extended};
 ghost use Rattle.cdcl.specs.Outcomes.{AreValues};
 ghost use Rattle.cdcl.specs.Solving.{SatisfyGiven};
 ghost use Rattle.cdcl_search.specs.Giving.{IsFrozen};

@@ -1,15 +1,15 @@
 //! Conflict-driven clause learning (CDCL) under a budget.
 #![tactic(auto)]
 
+pub use cdcl_guide::{assumptions, guide};
 pub use cdcl_order::{budget, watch};
 pub use cdcl_search::given;
 
 pub mod answers;
-pub mod assumptions;
 pub mod core_finding;
-pub mod guide;
 pub mod guided;
 pub mod outcome;
 pub mod solver;
 mod tally;
+mod undirected;
 pub mod whole;

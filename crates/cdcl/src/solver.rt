@@ -15,10 +15,10 @@ ghost use Rattle.cdcl_search.specs.Giving.{IsFreshName, IsFrozen};
 
 use crate::answers::bits;
 use crate::budget::Budget;
-use crate::guide::Undirected;
 use crate::guided::{Course, GuidedEnd};
 use crate::outcome::{Outcome, SolveFault};
 use crate::tally::Tally;
+use crate::undirected::Undirected;
 use crate::watch::{SearchWatch, Unwatched};
 use cdcl_search::given::GivenClauses;
 use cdcl_search::giving::{ask_variables, give};

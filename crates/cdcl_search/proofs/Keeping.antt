@@ -12,7 +12,8 @@ use Rattle.clauses.specs.Slots.{Slots, clause_at, Renaming, IsRenaming}
 use Rattle.lrat_log.specs.declared.lines.Name.{Name}
 use Rattle.lrat_log.specs.declared.lines.Name.TheVariants.{Formula, Added}
 use Rattle.lrat_log.specs.Log.{Given}
-use Rattle.eliminate.specs.Elimination.{StackState, extended}
+use Rattle.reconstruction.specs.Stack.{StackState}
+use Rattle.reconstruction.specs.Removals.{extended}
 use Rattle.cdcl_search.specs.Invariant.{name_at, is_kept_name, SatisfiesKept, LeadsBack, KeepsPlain}
 use Rattle.cdcl_search.proofs.Places.{live_within, clause_kept, clause_other, went, same_clause}
 use Rattle.cdcl_search.proofs.Places.{moved_all}

@@ -26,7 +26,8 @@ use Rattle.lrat_log.specs.Log.{LogLine, Given, given_at, number_in}
 use Rattle.lrat_log.specs.Steps.{AddsNoEmptyClause, adds_empty_clause, IsBaseOf, log_live, IsNewTo}
 use Rattle.lrat_log.specs.Steps.{nothing_exempt}
 use Rattle.lrat_log.specs.Axioms.{StaysOpenLogOver}
-use Rattle.eliminate.specs.Elimination.{StackState, Removed, extended, IsFree, becomes_true}
+use Rattle.reconstruction.specs.Stack.{StackState, IsFree}
+use Rattle.reconstruction.specs.Removals.{Removed, extended, becomes_true}
 use Rattle.analyze.specs.Analyzer.{IsAsserting}
 use Rattle.cdcl_search.specs.Running.{is_refuted}
 use Rattle.cdcl_search.specs.Giving.{IsFrozen}

@@ -16,7 +16,7 @@ use Rattle.lrat_log.specs.Log.{LogLine, Given, is_delete, number_in}
 use Rattle.cnf.specs.Clause.{is_empty_clause}
 use Rattle.lrat_log.specs.Steps.{adds_empty_clause}
 use Rattle.lrat_log.proofs.Laws.{one_apart, open_push}
-use Rattle.eliminate.specs.Elimination.{StackState}
+use Rattle.reconstruction.specs.Stack.{StackState}
 use Rattle.cdcl_search.specs.Invariant.{Tables, name_at, is_kept_name, NamesStore, NotesUnits}
 use Rattle.cdcl_search.specs.Invariant.{zero_of, IsRecorded, IsRunning}
 use Rattle.analyze.specs.Analyzer.{IsFixpoint}

@@ -16,7 +16,7 @@ use Rattle.lrat_log.specs.declared.lines.Kind.{Kind}
 use Rattle.lrat_log.specs.declared.lines.Hint.{Hint}
 use Rattle.lrat_log.specs.Log.{LogLine, Given, IsLine, is_delete, name_of, number_in}
 use Rattle.propagate.specs.Trail.{Assigned, literals_of}
-use Rattle.eliminate.specs.Elimination.{StackState}
+use Rattle.reconstruction.specs.Stack.{StackState}
 use Rattle.lrat_log.specs.declared.lines.Name.{Name}
 use Rattle.lrat_log.specs.Steps.{added_count}
 use Rattle.cdcl_search.specs.declared.search.Search.{Search}

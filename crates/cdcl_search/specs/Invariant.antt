@@ -17,7 +17,8 @@ use Rattle.lrat_log.specs.declared.lines.Name.TheVariants.{Formula, Added}
 use Rattle.lrat_log.specs.Log.{LogLine, Given, id_of, number_in}
 use Rattle.lrat_log.specs.Steps.{AddsNoEmptyClause, IsBaseOf, log_live, added_count}
 use Rattle.lrat_log.specs.Axioms.{StaysOpenLogOver}
-use Rattle.eliminate.specs.Elimination.{StackState, extended, IsFree}
+use Rattle.reconstruction.specs.Stack.{StackState, IsFree}
+use Rattle.reconstruction.specs.Removals.{extended}
 
 -- what a solver keeps beside its store and engine
 pub record Tables : Type 0 where

@@ -7,7 +7,7 @@ use Rattle.clauses.specs.Slots.{Slots, clause_at, IsLive}
 use Rattle.propagate.specs.Watches.{EngineState, is_attached}
 use Rattle.propagate.specs.Fits.{Fits, IsWithin}
 use Rattle.lrat_log.specs.Log.{number_in}
-use Rattle.eliminate.specs.Elimination.{StackState}
+use Rattle.reconstruction.specs.Stack.{StackState}
 use Rattle.cdcl_search.specs.declared.search.Search.{Search}
 use Rattle.cdcl_search.specs.Invariant.{name_at}
 use Rattle.cdcl_search.specs.Running.{HasRoom}

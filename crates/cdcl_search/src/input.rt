@@ -1,6 +1,6 @@
 // What a solver was given. A search does not change it.
 use crate::given::GivenClauses;
-use eliminate::elimination::Stack;
+use reconstruction::stack::Stack;
 
 /// The clauses given, and their reconstruction from what elimination left. Much of a search is
 /// handed it and reads none of it: contracts speak of it. A ghost value would do for that, but a

@@ -9,8 +9,8 @@ use crate::search::{Search, memory_of};
 use crate::subsets::Subsets;
 use clauses::store::{MaybeCRef, Store};
 use cnf::clause_list::ClauseList;
-use eliminate::elimination::Stack;
 use propagate::engine::Engine;
+use reconstruction::stack::Stack;
 use std::alloc::AllocError;
 
 /// A store of these clauses, in their order.

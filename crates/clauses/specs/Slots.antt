@@ -1,6 +1,6 @@
 -- A store of clauses: a clause for each live reference.
 use Rattle.std.specs.Prelude.{◌≡◌, ℕ, ◌+◌, ◌≤◌, List, [], ◌∷◌, map, Option, Some, None, slice_get}
-use Rattle.std.specs.Prelude.{All, ◌==◌, if◌then◌else◌, sum_by, length, slice_index_or}
+use Rattle.std.specs.Prelude.{All, ◌==◌, if◌then◌else◌, sum_by, length, slice_index_or, unwrap_or}
 use Rattle.cnf.specs.Literal.{Literal}
 use Rattle.cnf.specs.Refute.{Clauses}
 
@@ -19,6 +19,13 @@ in_slot (Some slot) = slot
 
 abbrev pub clause_at : Slots → Clauses
 clause_at slots r = in_slot (slice_get slots r)
+
+-- the clause under a reference; without literals, where there is none
+abbrev pub clause_under : Slots → ℕ → List Literal
+clause_under slots r = unwrap_or (clause_at slots r) []
+
+abbrev pub clauses_under : Slots → List ℕ → List (List Literal)
+clauses_under slots references = map (clause_under slots) references
 
 abbrev pub IsLive : Slots → ℕ → Type 0
 IsLive slots r = (c : List Literal) × (clause_at slots r ≡ Some c)

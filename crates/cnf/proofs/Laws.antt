@@ -1,6 +1,12 @@
 -- The laws of this crate that other crates cite, from one place.
 pub use Rattle.cnf.proofs.Assignments.{put_here, put_other}
 pub use Rattle.cnf.proofs.Certificates.{certificate_sound, clause_kept, made, made_true, rest_kept}
+pub use Rattle.cnf.proofs.ClauseLiterals.{Covers, any_member, apart-filter, codes_agree}
+pub use Rattle.cnf.proofs.ClauseLiterals.{codes_differ, contains-filter, contains_same}
+pub use Rattle.cnf.proofs.ClauseLiterals.{covered_unit, filter-contains, greatest-filter}
+pub use Rattle.cnf.proofs.ClauseLiterals.{has_repeat-filter, is_tautology-filter}
+pub use Rattle.cnf.proofs.ClauseLiterals.{literal_eq-sides, member-small, not-complement, not_not}
+pub use Rattle.cnf.proofs.ClauseLiterals.{value-filter, without-contains}
 pub use Rattle.cnf.proofs.Hints.{GroupHasIds, more_same, refutes_after, unit_same}
 pub use Rattle.cnf.proofs.Judgement.{extends_own}
 pub use Rattle.cnf.proofs.Laid.{IsCompacting, Layout, compacting_all, compacting_dead}
@@ -15,7 +21,8 @@ pub use Rattle.cnf.proofs.Literals.{literal_eq-complement, literal_eq-refl, lite
 pub use Rattle.cnf.proofs.Literals.{literal_eq_ne, literal_ne, negation_twice, same_variable}
 pub use Rattle.cnf.proofs.Marking.{marked_one, marked_subset, none_marked, place_within}
 pub use Rattle.cnf.proofs.Marking.{places_each, places_within}
-pub use Rattle.cnf.proofs.Members.{absent_above, contains-append, contains_back, contains_front}
+pub use Rattle.cnf.proofs.Members.{absent_above, contains-append, contains-negations}
+pub use Rattle.cnf.proofs.Members.{contains_back, contains_front, literal_eq-negations}
 pub use Rattle.cnf.proofs.Members.{contains_negation, member_pushed, subset_at, subset_from}
 pub use Rattle.cnf.proofs.Numbers.{numbered_past, one_if_le, same_number, tests_agree}
 pub use Rattle.cnf.proofs.Complements.{contained_true, tautologies-more, tautologies_true}

@@ -11,6 +11,7 @@ mod Cutting
 mod Rising
 mod Literals
 mod Members
+mod ClauseLiterals
 mod Repeats
 mod Marking
 mod Complements

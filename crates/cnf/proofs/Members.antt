@@ -1,6 +1,6 @@
 -- Which literals a clause has: one behind another, one of negations, and one that has another.
-use Rattle.std.proofs.Common.{◌≡◌, ◌<◌, true, false, ◌||◌, List, [], ◌∷◌, ◌++◌, map, inl}
-use Rattle.std.proofs.Common.{inr, refl, ◌∙◌, ap, arith, if◌then◌else◌}
+use Rattle.std.proofs.Common.{◌≡◌, ◌<◌, Bool, true, false, not, ◌&&◌, ◌||◌, List, [], ◌∷◌, ◌++◌}
+use Rattle.std.proofs.Common.{map, inl, inr, refl, ◌∙◌, ap, arith, if◌then◌else◌}
 use Rattle.std.proofs.lemmas.Bool.{and_left, cases_Bool, false≢true, ne_eqb, or_cases, or_from}
 use Rattle.std.proofs.lemmas.Bool.{or_left, or_right}
 use Rattle.std.proofs.lemmas.List.Folds.{list_any-append}
@@ -33,6 +33,22 @@ contains_negation l [] = refl
 contains_negation l (k ∷ c) =
     ap (λ b. b || contains_literal l (map negation c)) (literal_eq-swapped l k)
     ∙ ap (λ b. literal_eq (negation l) k || b) (contains_negation l c)
+
+same_bool-not : (a b : Bool) → same_bool (not a) (not b) ≡ same_bool a b
+same_bool-not true true = refl
+same_bool-not true false = refl
+same_bool-not false true = refl
+same_bool-not false false = refl
+
+pub literal_eq-negations : (k l : Literal) → literal_eq (negation k) (negation l) ≡ literal_eq k l
+literal_eq-negations k l =
+    ap (λ b. (k.variable == l.variable) && b) (same_bool-not k.negated l.negated)
+
+-- the negation is among the negations just where the literal is in the clause
+pub contains-negations : (k : Literal) (c : List Literal)
+    → contains_literal (negation k) (map negation c) ≡ contains_literal k c
+contains-negations k [] = refl
+contains-negations k (l ∷ c) = rw (literal_eq-negations, contains-negations k c)
 
 -- a clause on smaller variables lacks the literal
 pub absent_above : (l : Literal) (c : List Literal) → greatest_variable c < l.variable

@@ -8,6 +8,7 @@ ghost use Rattle.contradiction.specs.Contradictions.{AreContradictory, IsTrueFin
 use crate::trials::{Effort, Trial};
 use crate::used::used_by;
 use bound::formulas::hard_formula;
+use cnf::clause_list::ClauseList;
 use cnf::types::Instance;
 use std::alloc::AllocError;
 
@@ -50,11 +51,19 @@ pub fn find_contradiction(instance: &Instance) -> Result<Finding, AllocError>
 /// true.
 fn places_of(instance: &Instance) -> Result<Vec<u32>, AllocError> {
     let formula = hard_formula(instance)?;
-    let mut kept = formula.clauses().iter();
+    let places = find_places(instance.hard(), formula.clauses());
+    // By a call: that is proved once, and not field by field here.
+    drop(formula);
+    places
+}
+
+/// The places of those clauses that are among the kept ones, which stand in the same order.
+fn find_places(clauses: &ClauseList, kept: &ClauseList) -> Result<Vec<u32>, AllocError> {
+    let mut places = Vec::new(clauses.allocator());
+    let mut kept = kept.iter();
     let mut next = kept.next();
-    let mut places = Vec::new(instance.allocator());
     let mut place: u32 = 0;
-    for clause in instance.hard().iter() {
+    for clause in clauses.iter() {
         if next == Some(clause) {
             places.push(place)?;
             next = kept.next();

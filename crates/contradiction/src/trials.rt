@@ -1,19 +1,20 @@
-// Whether some of the hard clauses contradict each other, by a run of the solver on their text
-// alone, whose certificate is checked.
-ghost use Rattle.std.specs.Prelude.{◌≡◌, ◌<◌, All, IfOk, IsTrue, length};
-ghost use Rattle.cnf.specs.Problem.{Problem};
+// Whether some of the hard clauses contradict each other, by a run of the solver on them alone,
+// whose certificate is checked.
+ghost use Rattle.std.specs.Prelude.{◌≡◌, ◌+◌, ◌<◌, ◌≤◌, [], All, IfOk, IsTrue, length};
+ghost use Rattle.cnf.specs.declared.limits.TheConstants.{MOST_PLACES, NUMBER_LIMIT};
+ghost use Rattle.lrat_log.specs.Log.{HasSmallIds};
 ghost use Rattle.contradiction.specs.Contradictions.{IsTrueTrial, IsRefuted, clauses_at};
 
-use adder::profiles::Profile;
 use bound::formulas::hard_formula;
 use cdcl::budget::Budget;
+use cdcl::outcome::Outcome;
+use cdcl::solver::Solver;
 use cnf::clause_list::ClauseList;
-use cnf::types::{Instance, Lit};
+use cnf::types::{Formula, Instance, Lit};
 use lrat_check::certificate::check_lines;
 use lrat_check::verdicts::Verdict;
-use lrat_result::report::Said;
-use lrat_result::result::read_report;
-use report::running::run_as;
+use lrat_log::log::{Log, render};
+use lrat_log::sink::Sink;
 use std::alloc::{AllocError, Global};
 use text::output::{Block, WriteFault};
 use wcnf::reading::read;
@@ -118,72 +119,67 @@ fn try_within(instance: &Instance, places: &[u32], budget: &mut Budget) -> Resul
     if !are_same(part.hard(), instance.hard(), places) {
         return Ok(Trial::Open);
     }
-    run_on(&part, &text, budget)
+    run_on(&part, budget)
 }
 
-/// Runs the solver on this text, which reads as the instance, and checks the certificate: it has to
-/// refute the hard clauses.
-fn run_on(instance: &Instance, text: &[u8], budget: &mut Budget) -> Result<Trial, AllocError>
+/// Runs the solver on the hard clauses, and checks its certificate: it has to refute them.
+fn run_on(instance: &Instance, budget: &mut Budget) -> Result<Trial, AllocError>
     ensures { IfOk result (IsRefuted instance.now) }
 {
-    let alloc = instance.allocator();
-    let mut out = Vec::new(alloc);
-    let mut proof = Vec::new(alloc);
-    match run(alloc, text, budget, &mut out, &mut proof)? {
-        UNSATISFIABLE => {
-            let formula = hard_formula(instance)?;
-            match check_lines(&formula, &proof)? {
-                Verdict::Yes => Ok(Trial::Contradiction(proof)),
-                Verdict::No(_, _) => Ok(Trial::Open),
-            }
+    let formula = hard_formula(instance)?;
+    match solve(&formula, budget)? {
+        Trial::Contradiction(proof) => match check_lines(&formula, &proof)? {
+            Verdict::Yes => Ok(Trial::Contradiction(proof)),
+            Verdict::No(_, _) => Ok(Trial::Open),
+        },
+        Trial::Solution(bits) => Ok(Trial::Solution(bits)),
+        Trial::Open => Ok(Trial::Open),
+    }
+}
+
+/// What the solver says of these clauses, with the text of its certificate, which is not checked
+/// yet.
+fn solve(formula: &Formula, budget: &mut Budget) -> Result<Trial, AllocError> {
+    let mut solver = solver_of(formula)?;
+    let answer = solver.solve(budget);
+    let clauses = solver.given().len() as u64;
+    // The log is dropped by calls: that is proved once, and not field by field here.
+    let log = solver.into_sink();
+    match answer {
+        Ok(Outcome::Unsat) => spell_refutation(log, clauses),
+        Ok(Outcome::Sat(bits)) => {
+            drop(log);
+            Ok(Trial::Solution(bits))
         }
-        OPTIMUM_FOUND => read_solution(alloc, &out),
-        _ => Ok(Trial::Open),
-    }
-}
-
-/// The exit status of a run that says `UNSATISFIABLE`, and of one that says `OPTIMUM FOUND`.
-const UNSATISFIABLE: u8 = 20;
-
-const OPTIMUM_FOUND: u8 = 30;
-
-/// Runs the solver on this text; the exit status. What was found is dropped here, once.
-fn run(
-    alloc: Global,
-    text: &[u8],
-    budget: &mut Budget,
-    out: &mut Vec<u8>,
-    proof: &mut Vec<u8>,
-) -> Result<u8, AllocError> {
-    let mut left = text;
-    match run_as(alloc, &mut left, budget, out, proof, Profile::One) {
-        Ok(status) => {
-            let code = status.code();
-            drop(status);
-            Ok(code)
+        Ok(Outcome::Limit) => {
+            drop(log);
+            Ok(Trial::Open)
         }
-        Err(_) => Err(AllocError),
+        Err(_) => {
+            drop(log);
+            Err(AllocError)
+        }
     }
 }
 
-/// The solution of a result.
-fn read_solution(alloc: Global, said: &[u8]) -> Result<Trial, AllocError>
-    ensures { IfOk result (λ trial. (p : Problem) → IsRefuted p trial) }
+/// A solver of these clauses.
+fn solver_of(formula: &Formula) -> Result<Solver<Log>, AllocError>
+    ensures { IfOk result (λ s. (s.formula ≡ formula.now) × (s.added ≡ [])) }
 {
-    match read_report(alloc, said) {
-        Ok(report) => Ok(solution_of(report.said)),
-        Err(_) => Err(AllocError),
-    }
+    let alloc = formula.allocator();
+    let frozen = Vec::from_elem(alloc, false, formula.vars() as usize)?;
+    Solver::of(formula.try_clone()?, frozen, Log::new(alloc))
 }
 
-/// The bits of a result that has some.
-fn solution_of(said: Said) -> Trial
-    ensures { (p : Problem) → IsRefuted p result }
+/// The text of the log, over so many clauses, as the certificate of a contradiction.
+fn spell_refutation(log: Log, clauses: u64) -> Result<Trial, AllocError>
+    requires few { clauses ≤ MOST_PLACES }
+    requires ids { clauses + length log < NUMBER_LIMIT → HasSmallIds clauses log }
 {
-    match said {
-        Said::Optimum(solution) | Said::Sat(solution) => Trial::Solution(solution.bits),
-        Said::Unsat | Said::Limit => Trial::Open,
-    }
+    log.is_short();
+    let text = render(&log, clauses);
+    drop(log);
+    Ok(Trial::Contradiction(text?))
 }
 
 /// Whether the clauses of the part are those at these places, in their order.

@@ -46,34 +46,37 @@ const DELETION: &[u8] = b"d";
 /// What ends the literals of a line, and its hints.
 const END: &[u8] = b"0";
 
-/// Which of the first clauses are used, where no number is above this one.
+/// Which of the first clauses are used, where no number is above this one, which is no less than
+/// their count.
 fn marks_of(
     alloc: Global,
     additions: &[Addition<'_>],
     most: usize,
     count: usize,
 ) -> Result<Vec<bool>, AllocError> {
-    let mut marks = Vec::from_elem(alloc, false, most.saturating_add(1))?;
+    let mut marks = Vec::from_elem(alloc, false, most)?;
     if let Some(last) = additions.last() {
         mark(&mut marks, last.id);
     }
     for addition in additions.iter().rev() {
-        if marks.get(addition.id as usize).copied().unwrap_or(false) {
+        if is_marked(&marks, addition.id) {
             mark_hints(&mut marks, addition.line);
         }
     }
-    let mut used = Vec::new(alloc);
-    for id in 1..=count {
-        used.push(marks.get(id).copied().unwrap_or(true))?;
-    }
-    Ok(used)
+    marks.truncate(count);
+    Ok(marks)
 }
 
-/// Marks the clause of this number.
+/// Marks the clause of this number, if it has a place.
 fn mark(marks: &mut [bool], id: u64) {
-    if id < marks.len() as u64 {
-        marks[id as usize] = true;
+    if 0 < id && id <= marks.len() as u64 {
+        marks[id as usize - 1] = true;
     }
+}
+
+/// Whether the clause of this number has a place, and is marked.
+fn is_marked(marks: &[bool], id: u64) -> bool {
+    0 < id && id <= marks.len() as u64 && marks[id as usize - 1]
 }
 
 /// Marks the clauses that the hints of a line name: what stands behind its first 0.

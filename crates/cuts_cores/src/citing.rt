@@ -5,7 +5,7 @@
 ghost use Rattle.std.specs.Prelude.{◌≡◌};
 
 use crate::desk::{Desk, DeskFault};
-use cdcl::watch::Way;
+use cdcl_order::watch::Way;
 use forms::types::NamedFact;
 use std::alloc::{AllocError, Global};
 

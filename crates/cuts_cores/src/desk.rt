@@ -2,9 +2,9 @@
 //! solution.
 ghost use Rattle.std.specs.Prelude.{◌≡◌, ℕ, ◌≤◌, true, IsTrue};
 
-use cdcl::assumptions::Assumptions;
-use cdcl::guide::Guide;
-use cdcl::watch::Way;
+use cdcl_guide::assumptions::Assumptions;
+use cdcl_guide::guide::Guide;
+use cdcl_order::watch::Way;
 use cnf::types::{Formula, Lit};
 use forms::state::Forms;
 use forms::types::NamedFact;

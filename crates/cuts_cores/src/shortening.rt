@@ -6,8 +6,7 @@
 
 use crate::desk::{Desk, DeskFault, Trial};
 use crate::items::Items;
-use cdcl::assumptions::Assumptions;
-use cdcl::outcome::{Passed, Share};
+use cdcl_guide::assumptions::{Assumptions, Passed, Share};
 use cnf::types::Lit;
 use std::alloc::{AllocError, Global};
 

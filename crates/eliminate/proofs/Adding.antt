@@ -16,10 +16,11 @@ use Rattle.lrat_log.specs.Steps.{IsBaseOf, log_live}
 use Rattle.eliminate_names.specs.Work.{IsRupLine}
 use Rattle.eliminate_tables.specs.Resolvents.{resolvent}
 use Rattle.cnf.proofs.Laws.{literal_eq-refl}
-use Rattle.eliminate_tables.proofs.Laws.{filter-contains, contains-either, resolvent_refutes}
+use Rattle.eliminate_tables.proofs.Laws.{contains-either, resolvent_refutes}
+use Rattle.cnf.proofs.Laws.{filter-contains}
 use Rattle.eliminate.proofs.Falsified.{has_repeat-filter, AreFalseByUnits, unit_refutes}
 use Rattle.eliminate.proofs.Falsified.{empty_refutes}
-pub use Rattle.eliminate_pairs.proofs.Laws.{greatest-filter, member-small}
+pub use Rattle.cnf.proofs.Laws.{greatest-filter, member-small}
 
 has_repeat-append : (c d : List Literal) → has_repeat c ≡ false → has_repeat d ≡ false
     → ((k : Literal) → contains_literal k d ≡ true → contains_literal k c ≡ false)

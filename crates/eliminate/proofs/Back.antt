@@ -17,11 +17,14 @@ use Rattle.cnf.specs.Clause.{is_tautology, is_subset}
 use Rattle.cnf.specs.Bits.{assignment_of}
 use Rattle.cnf.proofs.Laws.{all_from, contained_true, tautologies_true}
 use Rattle.cnf.proofs.Laws.{made_true, made, clause_kept, rest_kept}
-use Rattle.eliminate.specs.Elimination.{Removed, positive, becomes_true, is_eliminated, extended}
+use Rattle.cnf.specs.Literal.{positive}
+use Rattle.reconstruction.specs.Removals.{Removed, becomes_true, is_eliminated, extended}
 use Rattle.eliminate.specs.Elimination.{SatisfiesAll}
+use Rattle.reconstruction.proofs.Laws.{extended-append, length-extended}
 use Rattle.eliminate.specs.State.{GivesBack}
 use Rattle.eliminate_tables.specs.Resolvents.{resolvent}
-use Rattle.eliminate_tables.proofs.Laws.{not_not, resolvent-parts}
+use Rattle.eliminate_tables.proofs.Laws.{resolvent-parts}
+use Rattle.cnf.proofs.Laws.{not_not}
 
 -- the variable with this value, as a literal
 abbrev pub valued : ℕ → Bool → Literal
@@ -221,12 +224,6 @@ elimination_back t r before after e all k z lt =
       | inr h ↦ kept_value t r.variable (becomes_true t r) (get_or before k z) h.1 h.2 (h.0 t all)
     ]
 
-pub length-extended : (rs : List Removed) (bits : List Bool)
-    → length (extended rs bits) ≡ length bits
-length-extended [] bits = refl
-length-extended (r ∷ rs) bits = length-set (extended rs bits) (r.variable - 1) _
-    ∙ length-extended rs bits
-
 -- the value of one more variable
 pub extended-value : (r : Removed) (rs : List Removed) (bits : List Bool) → 0 < r.variable
     → r.variable ≤ length bits
@@ -240,13 +237,6 @@ pub extends_weaker : (n : ℕ) (rs : List Removed) (before mid after : List (Lis
     → GivesBack n rs before mid → All (Entails after) mid → GivesBack n rs before after
 extends_weaker n rs before mid after e weaker bits few all =
     e bits few (λ k z lt. weaker k z lt (assignment_of bits) all)
-
-pub extended-append : (rs qs : List Removed) (bits : List Bool)
-    → extended (rs ++ qs) bits ≡ extended rs (extended qs bits)
-extended-append [] qs bits = refl
-extended-append (r ∷ rs) qs bits =
-    ap (λ x. slice_set x (r.variable - 1) (becomes_true (assignment_of x) r))
-    (extended-append rs qs bits)
 
 pub extends_eliminated : (n : ℕ) (rs : List Removed) (r : Removed)
     (before mid after : List (List Literal)) → GivesBack n rs before mid → r.variable ≤ n
@@ -283,36 +273,3 @@ pub entails_subsumed : (after : List (List Literal)) (c d : List Literal) → Co
     → is_subset c d ≡ true → Entails after d
 entails_subsumed after c d h s t all =
     subsumed_true t c d s (All-contains (Satisfies t) after c all h)
-
-slice_get-set_other : (bits : List Bool) (i v : ℕ) (b : Bool) → (i ≡ v → ⊥)
-    → slice_get (slice_set bits i b) v ≡ slice_get bits v
-slice_get-set_other [] i v b n = refl
-slice_get-set_other (x ∷ bits) zero zero b n = absurd (n refl)
-slice_get-set_other (x ∷ bits) zero (suc v) b n = refl
-slice_get-set_other (x ∷ bits) (suc i) zero b n = refl
-slice_get-set_other (x ∷ bits) (suc i) (suc v) b n =
-    slice_get-set_other bits i v b (λ e. n (ap suc e))
-
--- the other variables keep their values, where the eliminated ones are from 1
-pub extended-others : (rs : List Removed) (bits : List Bool) (v : ℕ)
-    → AllByRecursion (λ r. 0 < r.variable) rs → is_eliminated rs (v + 1) ≡ false
-    → slice_get (extended rs bits) v ≡ slice_get bits v
-extended-others [] bits v some e = refl
-extended-others (r ∷ rs) bits v some e =
-    let h = or_parts (r.variable == v + 1) (is_eliminated rs (v + 1)) e in
-    slice_get-set_other (extended rs bits) (r.variable - 1) v _
-    (λ same. let on : r.variable ≡ v + 1 = omega (arith, some.0) in
-    both_ways (r.variable == v + 1) h.0 (eq-eqb r.variable (v + 1) on))
-    ∙ extended-others rs bits v some.1 h.1
-
-from_one-each : (rs : List Removed) → All (λ r. 0 < r.variable) rs
-    → AllByRecursion (λ r. 0 < r.variable) rs
-from_one-each [] all = tt
-from_one-each (r ∷ rs) all = (
-  All-head (λ (x : Removed). 0 < x.variable) r rs all,
-  from_one-each rs (All-tail (λ (x : Removed). 0 < x.variable) r rs all),
-)
-
-pub others_keep : (rs : List Removed) (bits : List Bool) (v : ℕ) → All (λ r. 0 < r.variable) rs
-    → is_eliminated rs (v + 1) ≡ false → slice_get (extended rs bits) v ≡ slice_get bits v
-others_keep rs bits v all e = extended-others rs bits v (from_one-each rs all) e

@@ -23,16 +23,20 @@ use Rattle.lrat_log.specs.declared.lines.Hint.TheVariants.{Plain}
 use Rattle.lrat_log.specs.Log.{HasNumber, LogLine, IsLine, IsPlain, number_in}
 use Rattle.eliminate_names.specs.Work.{name_at, delete_line}
 use Rattle.eliminate.specs.declared.simplifier.Simplifier.{Simplifier}
-use Rattle.eliminate.specs.Elimination.{Removed, IsFree, IsRemovedWithin, positive, is_needed}
-use Rattle.eliminate.specs.Elimination.{becomes_true, extended, is_eliminated, SatisfiesAll}
+use Rattle.reconstruction.specs.Stack.{IsFree, IsRemovedWithin}
+use Rattle.cnf.specs.Literal.{positive}
+use Rattle.reconstruction.specs.Removals.{Removed, is_needed}
+use Rattle.eliminate.specs.Elimination.{SatisfiesAll}
+use Rattle.reconstruction.specs.Removals.{becomes_true, extended, is_eliminated}
 use Rattle.eliminate_tables.specs.Resolvents.{resolvent}
-use Rattle.eliminate_tables.specs.Rows.{clause_under, clauses_under}
+use Rattle.clauses.specs.Slots.{clause_under, clauses_under}
 use Rattle.eliminate.specs.State.{Start, IsState, AreFree, GivesBack}
 use Rattle.eliminate.specs.Simplifier.{IsSimplified}
 use Rattle.eliminate.specs.Variables.{IsWith, AreThoseWith, IsPairResolved, ArePairsResolved}
 use Rattle.eliminate.specs.Variables.{LeavesOut, KeepsWork}
 use Rattle.eliminate_names.proofs.Laws.{number_at}
-use Rattle.eliminate.proofs.Back.{negative, extended-append}
+use Rattle.eliminate.proofs.Back.{negative}
+use Rattle.reconstruction.proofs.Laws.{extended-append}
 use Rattle.eliminate.proofs.Deleting.{leaves_join, rows_left}
 use Rattle.eliminate.proofs.Growing.{resolvent-lacks}
 use Rattle.eliminate_tables.proofs.Laws.{not-complement_too, under_live}

@@ -12,7 +12,8 @@ use Rattle.eliminate_names.specs.Work.{NamesState}
 use Rattle.eliminate_names.proofs.Laws.{AreTogether}
 use Rattle.eliminate_pairs.specs.Pairs.{Stage, Ground, IsStage, Passes, FitNames, stage_of}
 use Rattle.eliminate.specs.declared.simplifier.Simplifier.{Simplifier}
-use Rattle.eliminate.specs.Elimination.{Removed, is_eliminated, IsRemovedWithin}
+use Rattle.reconstruction.specs.Stack.{IsRemovedWithin}
+use Rattle.reconstruction.specs.Removals.{Removed, is_eliminated}
 use Rattle.eliminate.specs.Ending.{IsResult}
 use Rattle.eliminate.specs.State.{Start}
 use Rattle.eliminate.specs.Variables.{LeavesLogOver}

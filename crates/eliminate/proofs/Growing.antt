@@ -13,7 +13,8 @@ use Rattle.eliminate.specs.Variables.{IsWith, AreThoseWith, LacksBoth, GrowsWith
 use Rattle.eliminate.specs.Variables.{IsPairResolved, ArePairsResolved}
 use Rattle.eliminate.proofs.Deleting.{take_next}
 use Rattle.clauses.proofs.Laws.{clause_cases, clause_kept}
-use Rattle.eliminate_tables.proofs.Laws.{resolvent-open, resolvent-open_not, not-complement}
+use Rattle.eliminate_tables.proofs.Laws.{resolvent-open, resolvent-open_not}
+use Rattle.cnf.proofs.Laws.{not-complement}
 use Rattle.eliminate_tables.proofs.Laws.{not-complement_too}
 
 pub resolvent-lacks : (p : Literal) (c d : List Literal) → is_tautology c ≡ false

@@ -19,7 +19,7 @@ use Rattle.lrat_log.specs.Log.{HasNumber, LogLine, is_delete, is_learned}
 use Rattle.lrat_log.specs.Steps.{given_of, IsOwnGroup}
 use Rattle.cnf.specs.Marks.{HasPlace}
 use Rattle.eliminate.specs.declared.simplifier.Simplifier.{Simplifier}
-use Rattle.eliminate.specs.Elimination.{is_eliminated}
+use Rattle.reconstruction.specs.Removals.{is_eliminated}
 use Rattle.eliminate_tables.specs.Resolvents.{resolvent}
 use Rattle.eliminate.specs.State.{Start}
 use Rattle.eliminate_names.specs.Work.{name_at}

@@ -19,7 +19,8 @@ use Rattle.lrat_log.specs.declared.lines.Name.TheVariants.{Formula, Added}
 use Rattle.lrat_log.specs.Log.{Given, given_at, id_of, number_in}
 use Rattle.lrat_log.specs.Steps.{given_of, StaysLogOver}
 use Rattle.eliminate.specs.declared.simplifier.Simplifier.{Simplifier}
-use Rattle.eliminate.specs.Elimination.{Removed, IsFree, IsRemovedWithin}
+use Rattle.reconstruction.specs.Stack.{IsFree, IsRemovedWithin}
+use Rattle.reconstruction.specs.Removals.{Removed}
 use Rattle.eliminate.specs.State.{Start, IsState}
 use Rattle.eliminate.specs.Simplifier.{IsSimplified}
 use Rattle.eliminate_names.specs.Work.{NamesState, name_at, formula_names, IsNamed}

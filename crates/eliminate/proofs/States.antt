@@ -18,7 +18,8 @@ use Rattle.lrat_log.specs.declared.lines.Name.{Name}
 use Rattle.lrat_log.specs.Log.{LogLine, is_learned}
 use Rattle.lrat_log.specs.Steps.{given_of, AddsNoEmptyClause, IsOwnGroup}
 use Rattle.cnf.specs.Marks.{HasPlace}
-use Rattle.eliminate.specs.Elimination.{Removed, is_eliminated, positive}
+use Rattle.cnf.specs.Literal.{positive}
+use Rattle.reconstruction.specs.Removals.{Removed, is_eliminated}
 use Rattle.eliminate_tables.specs.Resolvents.{resolvent}
 use Rattle.lrat_log.specs.Steps.{added_count}
 use Rattle.eliminate_names.specs.Work.{name_at, added_line, delete_line, IsRupLine}

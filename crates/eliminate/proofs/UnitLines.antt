@@ -23,7 +23,7 @@ use Rattle.lrat_log.specs.Steps.{given_of, log_live, IsOwnGroup, IsBaseOf}
 use Rattle.cnf.specs.Marks.{mark_of}
 use Rattle.eliminate.specs.declared.simplifier.Simplifier.{Simplifier}
 use Rattle.eliminate.specs.declared.units.Units.{Units}
-use Rattle.eliminate.specs.Elimination.{is_eliminated}
+use Rattle.reconstruction.specs.Removals.{is_eliminated}
 use Rattle.eliminate_names.specs.Work.{name_at, IsRupLine}
 use Rattle.eliminate.specs.State.{Start}
 use Rattle.eliminate.specs.Simplifier.{IsSimplified, IsAddableLine}
@@ -31,7 +31,8 @@ use Rattle.eliminate.specs.Units.{AreUnits, unit_of, unit_name, falsified_in, un
 use Rattle.eliminate.proofs.Adding.{unit_line, empty_line}
 use Rattle.eliminate.proofs.Falsified.{AreFalseByUnits}
 use Rattle.cnf.proofs.Laws.{literal_eq-refl}
-use Rattle.eliminate_tables.proofs.Laws.{filter-contains, member_has}
+use Rattle.eliminate_tables.proofs.Laws.{member_has}
+use Rattle.cnf.proofs.Laws.{filter-contains}
 use Rattle.eliminate_names.proofs.Laws.{number_at}
 use Rattle.eliminate.proofs.ClauseStates.{take_next}
 

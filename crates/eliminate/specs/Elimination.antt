@@ -1,4 +1,4 @@
--- Eliminated variables, and how reconstruction gives them their values back.
+-- What elimination leaves of clauses, and what it gives back.
 use Rattle.std.specs.Prelude.{◌≡◌, ℕ, ◌+◌, ◌-◌, ◌<◌, ◌≤◌, Bool, false, List, [], length}
 use Rattle.std.specs.Prelude.{map, Some, slice_get, All, Contains}
 use Rattle.std.specs.Prelude.{nat_eq}
@@ -13,22 +13,8 @@ use Rattle.lrat_log.specs.declared.lines.Name.{Name}
 use Rattle.lrat_log.specs.Log.{LogLine, id_of, number_in}
 use Rattle.lrat_log.specs.Steps.{IsBaseOf, given_of, log_live}
 use Rattle.eliminate.specs.declared.ending.TheConstants.{MOST_FRESH}
-pub use Rattle.eliminate_tables.specs.Removals.{Removed, positive, is_needed, becomes_true}
-pub use Rattle.eliminate_tables.specs.Removals.{extended, is_eliminated}
-
--- a variable that may stand in the bits
-abbrev pub IsRemovedWithin : ℕ → Removed → Type 0
-IsRemovedWithin variables r = (0 < r.variable) × (r.variable ≤ variables)
-
--- in the order of elimination
-pub record StackState : Type 0 where
-  pub variables : ℕ
-  pub removed : List Removed
-  pub names : List (ℕ × Name)
-
--- the variable is one of the clauses before, and not frozen
-abbrev pub IsFree : List Bool → ℕ → Type 0
-IsFree frozen v = (0 < v) × (slice_get frozen (v - 1) ≡ Some false)
+use Rattle.reconstruction.specs.Removals.{Removed, extended, is_eliminated}
+use Rattle.reconstruction.specs.Stack.{IsFree, StackState}
 
 -- no clause has an eliminated variable
 abbrev pub AreFreeOf : List Removed → List (List Literal) → Type 0

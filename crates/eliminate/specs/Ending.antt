@@ -5,7 +5,8 @@ use Rattle.lrat_log.specs.Steps.{given_of}
 use Rattle.eliminate_names.specs.Work.{IsWork}
 use Rattle.eliminate_pairs.specs.Pairs.{Stage}
 use Rattle.eliminate.specs.declared.ending.TheConstants.{MOST_FRESH}
-use Rattle.eliminate.specs.Elimination.{Removed, IsFree, IsRemovedWithin}
+use Rattle.reconstruction.specs.Stack.{IsFree, IsRemovedWithin}
+use Rattle.reconstruction.specs.Removals.{Removed}
 use Rattle.eliminate.specs.State.{Start, GivesBack, AreFree}
 
 pub record IsResult (start : Start) (removed : List Removed) (s : Stage) : Type 0 where

@@ -12,7 +12,7 @@ use Rattle.cnf.specs.Clause.{is_empty_clause}
 use Rattle.lrat_log.specs.Steps.{IsOwnGroup}
 use Rattle.eliminate.specs.declared.ending.TheConstants.{MOST_FRESH}
 use Rattle.eliminate.specs.declared.simplifier.Simplifier.{Simplifier}
-use Rattle.eliminate.specs.Elimination.{is_eliminated}
+use Rattle.reconstruction.specs.Removals.{is_eliminated}
 use Rattle.lrat_log.specs.Steps.{added_count}
 use Rattle.eliminate_names.specs.Work.{IsRupLine}
 use Rattle.eliminate.specs.State.{Start, IsState}

@@ -1,7 +1,6 @@
-// Elimination and reconstruction.
-ghost use Rattle.std.specs.Prelude.{◌≡◌, ℕ, ◌+◌, false, [], length, slice_get, Contains};
+// Elimination.
+ghost use Rattle.std.specs.Prelude.{◌≡◌, [], length, Contains};
 ghost use Rattle.std.specs.Prelude.{IfOk, OnOk, OnErr};
-ghost use Rattle.std.specs.List.{enumerate_from};
 ghost use Rattle.cnf.specs.Formula.{IsFormula};
 ghost use Rattle.cnf.specs.Refute.{IsRefutedByHints};
 ghost use Rattle.clauses.specs.Slots.{live_clauses};
@@ -11,8 +10,7 @@ ghost use Rattle.eliminate.specs.State.{Start};
 ghost use Rattle.eliminate.specs.Simplifier.{IsSimplified};
 ghost use Rattle.eliminate.specs.Variables.{IsOpenOver, LeavesLogOver};
 ghost use Rattle.eliminate.specs.Ending.{IsResult};
-ghost use Rattle.eliminate.specs.Elimination.{extended, is_eliminated, EliminationLeaves};
-ghost use Rattle.eliminate.specs.Elimination.{IsWhole};
+ghost use Rattle.eliminate.specs.Elimination.{EliminationLeaves, IsWhole};
 
 use crate::ending::define_where_open;
 use crate::rounds::simplify;
@@ -20,79 +18,10 @@ use crate::simplifier::Simplifier;
 use crate::units::propagate_units;
 use clauses::store::Store;
 use eliminate_names::names::{Names, move_together};
-use eliminate_tables::stack::Removals;
-use lrat_log::packed_name::PackedName;
 use lrat_log::sink::Sink;
+use reconstruction::removals::Removals;
+use reconstruction::stack::Stack;
 use std::alloc::AllocError;
-use std::marker::Model;
-use std::mem::replace;
-
-/// The eliminated variables, and the names of the clauses that are left.
-#[derive(Drop)]
-pub struct Stack {
-    // How many variables there are, those that elimination made too; below 2^27.
-    vars: u32,
-    // The reconstruction stack: the eliminated variables, each with the clauses that its value has
-    // to satisfy.
-    removed: Removals,
-    // By reference, from 0, the name in the log of each clause that is left; none once they were
-    // taken.
-    names: Vec<PackedName>,
-}
-
-impl Model for Stack {
-    ghost use Rattle.std.specs.Prelude.{All};
-    ghost use Rattle.std.specs.List.{enumerate_from};
-    ghost use Rattle.eliminate.specs.Elimination.{StackState, IsRemovedWithin};
-
-    ghost Value = { StackState };
-
-    ghost view = { λ s. record {
-      variables = s.vars;
-      removed = s.removed;
-      names = enumerate_from 0 s.names.items;
-    } };
-
-    ghost invariant = { λ s. All (IsRemovedWithin s.vars) s.removed };
-}
-
-impl Stack {
-    /// The number of variables, with the fresh ones.
-    pub fn vars(&self) -> u32
-        ensures { result ≡ self.now.variables }
-    {
-        self.vars
-    }
-
-    /// By reference, from 0, the name of each clause of the store, as `eliminate` left them; none
-    /// after `take_names`.
-    pub fn names(&self) -> &[PackedName]
-        ensures { enumerate_from 0 result.now ≡ self.now.names }
-    {
-        &self.names
-    }
-
-    /// Takes the names out: reconstruction needs none.
-    pub fn take_names(&mut self) -> Vec<PackedName>
-        ensures taken { enumerate_from 0 result.items ≡ self.old.names }
-        ensures rest { self.new ≡ record self.old { names = [] } }
-    {
-        let none = Vec::new(*self.names.allocator());
-        replace(&mut self.names, none)
-    }
-
-    /// Reconstruction sets the eliminated variables, the last eliminated first: each becomes true
-    /// just where some removed clause with it is otherwise false. All other variables keep their
-    /// values.
-    pub fn extend(&self, bits: &mut [bool])
-        requires { length bits.old ≡ self.now.variables }
-        ensures set { bits.new ≡ extended self.now.removed bits.old }
-        ensures others { (v : ℕ) → is_eliminated self.now.removed (v + 1) ≡ false
-            → slice_get bits.new v ≡ slice_get bits.old v }
-    {
-        self.removed.extend(bits);
-    }
-}
 
 /// Eliminates variables that are not frozen, and writes down what it adds and deletes. What is left
 /// is moved together, so that a search sizes its tables by clauses that are there.
@@ -135,11 +64,7 @@ pub fn eliminate<S: Sink>(
             return Err(AllocError);
         }
     };
-    Ok(Stack {
-        vars,
-        removed,
-        names,
-    })
+    Ok(Stack::new(vars, removed, names))
 }
 
 /// Eliminates nothing: what is left is the formula itself, with room for variables up to this one.
@@ -155,11 +80,7 @@ pub fn keep_whole(store: &mut Store, variables: u32) -> Result<Stack, AllocError
     let mut names = Names::of(alloc, store)?;
     move_together(store, &mut names);
     let packed = names.into_packed()?;
-    Ok(Stack {
-        vars: variables,
-        removed: Removals::new(alloc),
-        names: packed,
-    })
+    Ok(Stack::new(variables, Removals::new(alloc), packed))
 }
 
 /// The passes, one after another. The answer is the number of variables. The store and the names

@@ -19,9 +19,9 @@ use eliminate_names::names::{Addition, Names, add, delete};
 use eliminate_tables::bins::Bins;
 use eliminate_tables::rows::Rows;
 use eliminate_tables::schedule::Schedule;
-use eliminate_tables::stack::Removals;
 use lrat_log::lines::{Hint, Kind};
 use lrat_log::sink::Sink;
+use reconstruction::removals::Removals;
 use std::alloc::{AllocError, Global};
 
 /// The tables of preprocessing, which all passes share.

@@ -5,7 +5,8 @@ ghost use Rattle.std.specs.Prelude.{◌≡◌, ℕ, ◌*◌, ◌<◌, true, fals
 ghost use Rattle.cnf.specs.Literal.{negation};
 ghost use Rattle.lrat_log.specs.Log.{IsLine};
 ghost use Rattle.cnf.specs.Marks.{HasPlace};
-ghost use Rattle.eliminate.specs.Elimination.{positive, IsFree};
+ghost use Rattle.reconstruction.specs.Stack.{IsFree};
+ghost use Rattle.cnf.specs.Literal.{positive};
 ghost use Rattle.eliminate_tables.specs.Rows.{AreRows};
 ghost use Rattle.lrat_log.specs.Steps.{added_count};
 ghost use Rattle.eliminate_names.specs.Work.{name_at, delete_line};

@@ -10,7 +10,7 @@ use Rattle.cnf.specs.Refute.{Clauses}
 use Rattle.cnf.specs.Lrat.{CandidateHints, Live, IsAddable, IsRat}
 use Rattle.eliminate_pairs.specs.Pairs.{positive, whole_clause, side_clause}
 use Rattle.cnf.proofs.Laws.{literal_eq-refl, contains_one}
-use Rattle.eliminate_pairs.proofs.Literals.{any_member, negation_twice, contains-filter}
+use Rattle.cnf.proofs.Laws.{any_member, negation_twice, contains-filter}
 
 -- no live clause has the variable
 abbrev pub IsFreshIn : ℕ → Clauses → Type 0

@@ -1,7 +1,6 @@
 mod Defining
 mod Definitions
 mod Leading
-mod Literals
 mod Meetings
 mod Pairing
 mod Replacing

@@ -18,12 +18,12 @@ use Rattle.lrat_log.specs.Steps.{IsBaseOf, log_live}
 use Rattle.eliminate_pairs.specs.Pairs.{positive, whole_clause, side_clause, replaced}
 use Rattle.eliminate_names.specs.Work.{IsRupLine}
 use Rattle.cnf.proofs.Laws.{literal_eq-refl}
-use Rattle.eliminate_pairs.proofs.Literals.{negation_twice, contains-negations}
-use Rattle.eliminate_pairs.proofs.Literals.{without-contains, not-complement, Covers}
-use Rattle.eliminate_pairs.proofs.Literals.{covered_unit}
-use Rattle.eliminate_pairs.proofs.Literals.{literal_eq-sides, apart-filter, has_repeat-filter}
-use Rattle.eliminate_pairs.proofs.Literals.{is_tautology-filter, value-filter}
-use Rattle.eliminate_pairs.proofs.Literals.{greatest-filter}
+use Rattle.cnf.proofs.Laws.{negation_twice, contains-negations}
+use Rattle.cnf.proofs.Laws.{without-contains, not-complement, Covers}
+use Rattle.cnf.proofs.Laws.{covered_unit}
+use Rattle.cnf.proofs.Laws.{literal_eq-sides, apart-filter, has_repeat-filter}
+use Rattle.cnf.proofs.Laws.{is_tautology-filter, value-filter}
+use Rattle.cnf.proofs.Laws.{greatest-filter}
 
 -- a clause with two literals and without z
 pub record HasPair (z : ℕ) (a b : Literal) (c : List Literal) : Type 0 where

@@ -43,7 +43,7 @@ use Rattle.eliminate_pairs.proofs.Replacing.{HasPair, replaced_line, replaced_ba
 use Rattle.eliminate_pairs.proofs.Replacing.{replaced-no_repeat}
 use Rattle.eliminate_pairs.proofs.Replacing.{replaced-no_tautology, pair_variables}
 use Rattle.cnf.proofs.Laws.{literal_eq-refl}
-use Rattle.eliminate_pairs.proofs.Literals.{greatest-filter, member-small}
+use Rattle.cnf.proofs.Laws.{greatest-filter, member-small}
 use Rattle.eliminate_pairs.proofs.Pairing.{lacks_both, stays_whole, stays_side}
 
 -- with a clause more

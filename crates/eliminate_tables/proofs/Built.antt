@@ -13,11 +13,11 @@ use Rattle.cnf.proofs.Laws.{literal_eq-true, contains_front, contains_back}
 use Rattle.cnf.specs.Marks.{IsMarked, mark_of}
 use Rattle.eliminate_tables.specs.Resolvents.{resolvent, unmarked_rest, clashes}
 use Rattle.cnf.proofs.Laws.{literal_eq-refl}
-use Rattle.eliminate_tables.proofs.Resolve.{negation_twice, contains-filter, filter-contains}
+use Rattle.cnf.proofs.Laws.{negation_twice, contains-filter, filter-contains}
 use Rattle.eliminate_tables.proofs.Resolve.{contains-either}
-use Rattle.eliminate_tables.proofs.Resolve.{not-complement}
-use Rattle.eliminate_pairs.proofs.Laws.{is_tautology-filter, literal_eq-sides}
-use Rattle.eliminate_pairs.proofs.Laws.{any_member}
+use Rattle.cnf.proofs.Laws.{not-complement}
+use Rattle.cnf.proofs.Laws.{is_tautology-filter, literal_eq-sides}
+use Rattle.cnf.proofs.Laws.{any_member}
 use Rattle.cnf.proofs.Laws.{at_contains}
 
 -- what holds of each literal holds of one

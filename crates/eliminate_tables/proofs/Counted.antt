@@ -11,7 +11,7 @@ use Rattle.cnf.specs.Clause.{contains_literal, without_literal}
 use Rattle.clauses.specs.Slots.{Slots, clause_at}
 use Rattle.cnf.specs.Marks.{IsMarked, HasPlace}
 use Rattle.eliminate_tables.specs.Resolvents.{unmarked_rest, clashes}
-use Rattle.eliminate_tables.specs.Rows.{clause_under, clauses_under}
+use Rattle.clauses.specs.Slots.{clause_under, clauses_under}
 use Rattle.eliminate_tables.specs.Worthwhile.{rest_of, give_tautology, are_few_and_short}
 use Rattle.eliminate_tables.proofs.Built.{rest_is}
 

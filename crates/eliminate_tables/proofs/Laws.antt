@@ -1,10 +1,8 @@
 -- The laws of this crate that other crates cite, from one place.
 pub use Rattle.eliminate_tables.proofs.Built.{member_has}
 pub use Rattle.eliminate_tables.proofs.Counted.{under_live}
-pub use Rattle.eliminate_tables.proofs.Resolve.{contains-either, filter-contains}
-pub use Rattle.eliminate_tables.proofs.Resolve.{literal_eq-negations, negation_twice}
-pub use Rattle.eliminate_tables.proofs.Resolve.{not-complement}
-pub use Rattle.eliminate_tables.proofs.Resolve.{not-complement_too, not_not, resolvent-open}
+pub use Rattle.eliminate_tables.proofs.Resolve.{contains-either}
+pub use Rattle.eliminate_tables.proofs.Resolve.{not-complement_too, resolvent-open}
 pub use Rattle.eliminate_tables.proofs.Resolve.{resolvent-open_not, resolvent-parts}
-pub use Rattle.eliminate_tables.proofs.Resolve.{resolvent_refutes, without-contains}
+pub use Rattle.eliminate_tables.proofs.Resolve.{resolvent_refutes}
 pub use Rattle.eliminate_tables.proofs.Writing.{some_clause}

@@ -7,11 +7,11 @@ use Rattle.cnf.specs.Clause.{contains_literal, without_literal, is_tautology}
 use Rattle.cnf.specs.Refute.{IsFalseUnder, Clauses, Refutes}
 use Rattle.eliminate_tables.specs.Resolvents.{resolvent}
 use Rattle.cnf.proofs.Laws.{literal_eq-refl, all_from, absent_own, contains_front, contains_back}
-pub use Rattle.eliminate_pairs.proofs.Laws.{not_not, negation_twice, literal_eq-negations}
-pub use Rattle.eliminate_pairs.proofs.Laws.{contains-negations}
-pub use Rattle.eliminate_pairs.proofs.Laws.{Covers, covered_unit, contains_same, contains-filter}
-pub use Rattle.eliminate_pairs.proofs.Laws.{filter-contains, without-contains}
-pub use Rattle.eliminate_pairs.proofs.Laws.{not-complement}
+use Rattle.cnf.proofs.Laws.{not_not, negation_twice, literal_eq-negations}
+use Rattle.cnf.proofs.Laws.{contains-negations}
+use Rattle.cnf.proofs.Laws.{Covers, covered_unit, contains_same, contains-filter}
+use Rattle.cnf.proofs.Laws.{filter-contains, without-contains}
+use Rattle.cnf.proofs.Laws.{not-complement}
 
 covered_false : (p : Literal) (r d : List Literal) → Covers (negation p) r d
     → IsFalseUnder d (p ∷ map negation r)

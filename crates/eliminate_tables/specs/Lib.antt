@@ -1,7 +1,5 @@
 pub mod Against
 pub mod Bins
-pub mod Flat
-pub mod Removals
 pub mod Resolvents
 pub mod Rows
 pub mod Schedule

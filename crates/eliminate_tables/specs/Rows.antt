@@ -1,6 +1,6 @@
 -- Occurrence lists: rows of references, one for each literal.
 use Rattle.std.specs.Prelude.{◌≡◌, ℕ, ◌<◌, Bool, true, false, List, [], ◌∷◌, ◌++◌, length, Option}
-use Rattle.std.specs.Prelude.{Some, None, Contains, filter, fold, map, unwrap_or}
+use Rattle.std.specs.Prelude.{Some, None, Contains, filter, fold}
 use Rattle.std.specs.Prelude.{◌-◌, ◌/◌, nat_lt, slice_set, if◌then◌else◌}
 use Rattle.cnf.specs.Literal.{Literal, index_of}
 use Rattle.cnf.specs.Clause.{contains_literal}
@@ -14,13 +14,6 @@ with_entry r rows l = with_row rows (index_of l) (row_at rows (index_of l) ++ r 
 -- a clause in the rows of its literals
 abbrev pub with_clause_rows : List (List ℕ) → List Literal → ℕ → List (List ℕ)
 with_clause_rows rows c r = fold (with_entry r) rows c
-
--- the clause under a reference; without literals, where there is none
-abbrev pub clause_under : Slots → ℕ → List Literal
-clause_under slots r = unwrap_or (clause_at slots r) []
-
-abbrev pub clauses_under : Slots → List ℕ → List (List Literal)
-clauses_under slots references = map (clause_under slots) references
 
 abbrev pub is_some : Option (List Literal) → Bool
 is_some None = false

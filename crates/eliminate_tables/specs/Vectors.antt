@@ -1,25 +1,14 @@
--- Worked values of extended bits, of rows, of a schedule, and of what is worthwhile; and
+-- Worked values of rows, of a schedule, and of what is worthwhile; and
 -- signatures, entries against one, and clauses against marks.
 use Rattle.std.specs.Prelude.{◌≡◌, ℕ, Bool, true, false, List, [], ◌∷◌, fold, Some, None, refl}
 use Rattle.cnf.specs.Literal.{Literal, positive as p, negative as n}
 use Rattle.eliminate_tables.specs.Against.{against_of}
 use Rattle.eliminate_tables.specs.declared.against.Against.TheVariants.{Apart, Within, ButFor}
-use Rattle.eliminate_tables.specs.Removals.{Removed, extended}
 use Rattle.eliminate_tables.specs.Rows.{Roomed, cleaned, with_space}
 use Rattle.eliminate_tables.specs.Schedule.{ScheduleState, entered, left, first_of, without_first}
 use Rattle.eliminate_tables.specs.Schedule.{is_candidate}
 use Rattle.eliminate_tables.specs.Signatures.{signature_of, all_within}
 use Rattle.eliminate_tables.specs.Worthwhile.{give_tautology, is_worthwhile}
-
--- variable 1 was eliminated from the clauses 1 2 and -1 3
-abbrev one : List Removed
-one = record { variable = 1; clauses = (p 1 ∷ p 2 ∷ []) ∷ (n 1 ∷ p 3 ∷ []) ∷ [] } ∷ []
-
-needed : extended one (false ∷ false ∷ true ∷ []) ≡ true ∷ false ∷ true ∷ []
-needed = refl
-
-not_needed : extended one (true ∷ true ∷ false ∷ []) ≡ false ∷ true ∷ false ∷ []
-not_needed = refl
 
 -- the clause 0 was deleted, and one row is cleaned of it
 one_cleaned : cleaned ((0 ∷ 1 ∷ []) ∷ (0 ∷ []) ∷ []) (None ∷ Some (p 1 ∷ []) ∷ []) 0

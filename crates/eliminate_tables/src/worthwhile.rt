@@ -3,7 +3,7 @@
 ghost use Rattle.std.specs.Prelude.{◌≡◌, true, false, length, All, IfSome, None};
 ghost use Rattle.clauses.specs.Slots.{IsLive};
 ghost use Rattle.eliminate_tables.specs.Bins.{ArePlaced};
-ghost use Rattle.eliminate_tables.specs.Rows.{clause_under, clauses_under};
+ghost use Rattle.clauses.specs.Slots.{clause_under, clauses_under};
 ghost use Rattle.eliminate_tables.specs.Schedule.{is_candidate};
 ghost use Rattle.eliminate_tables.specs.Worthwhile.{are_short, resolvent_count};
 ghost use Rattle.eliminate_tables.specs.Worthwhile.{are_few_and_short, is_worthwhile};

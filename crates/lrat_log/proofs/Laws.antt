@@ -13,7 +13,6 @@ pub use Rattle.lrat_log.proofs.Growing.{live_more, one_apart, open_push, refutes
 pub use Rattle.lrat_log.proofs.Growing.{stops_push}
 pub use Rattle.lrat_log.proofs.Ids.{accepted_ids, small_ids}
 pub use Rattle.lrat_log.proofs.LineTexts.{hints_spaced, item_fault, literals_spaced, with_spaces}
-pub use Rattle.lrat_log.proofs.Literals.{contains-negations, literal_eq-negations}
 pub use Rattle.lrat_log.proofs.MoreGiven.{new_more, new_searched}
 pub use Rattle.lrat_log.proofs.Names.{steps_from_chain}
 pub use Rattle.lrat_log.proofs.NewLines.{first_new, none_new}

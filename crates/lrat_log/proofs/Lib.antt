@@ -6,7 +6,6 @@ mod GivenNumbers
 mod Growing
 mod Ids
 mod LineTexts
-mod Literals
 mod MoreGiven
 mod Names
 mod NearWords

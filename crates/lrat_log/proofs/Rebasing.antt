@@ -36,7 +36,7 @@ use Rattle.lrat_log.proofs.Names.{numbered_on-named, Renames, SameLive, GroupIs,
 use Rattle.lrat_log.proofs.Names.{LineKnown, chain_after, steps_from_chain}
 use Rattle.lrat_log.proofs.Numbering.{log_steps_from, given_below, given_past}
 use Rattle.lrat_log.proofs.Ids.{known_names}
-use Rattle.lrat_log.proofs.Literals.{contains-negations}
+use Rattle.cnf.proofs.Laws.{contains-negations}
 use Rattle.lrat_log.proofs.GivenNumbers.{numbered_left, numbered_right}
 use Rattle.lrat_log.proofs.GivenNumbers.{numbered_within, base_of, given_at-given_of}
 

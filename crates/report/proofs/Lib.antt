@@ -2,7 +2,6 @@ pub mod Searched
 pub mod Ends
 pub mod SeenAs
 pub mod SearchedByCuts
-pub mod Judgings
 pub mod AtOnce
 pub mod CutsTexts
 pub mod CutsEnds

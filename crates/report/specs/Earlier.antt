@@ -1,17 +1,12 @@
 -- A certificate that an earlier run has left.
 use Rattle.std.specs.Prelude.{◌≡◌, ℕ, ◌+◌, ◌*◌, ◌^◌, ◌<◌, ◌≤◌, min, Bool, true, List}
-use Rattle.std.specs.Prelude.{Option, None, IfSome, Err}
+use Rattle.std.specs.Prelude.{Option}
 use Rattle.cnf.specs.Problem.{Problem}
-use Rattle.lrat_cuts.specs.Verdict.{ended_part, judged_text}
 use Rattle.lrat_check.specs.Checks.{CostsAtLeast}
-use Rattle.cuts_log.specs.Judging.{IsEarlier}
-use Rattle.cuts_log.specs.Starts.{IsReached}
 use Rattle.cuts_solver.specs.Solving.{IsRightText}
 use Rattle.improve.specs.Improving.{IsSolution}
 use Rattle.improve.specs.declared.solutions.Solution.{Solution}
 use Rattle.improve_cuts.specs.ByCuts.{BeginsWith}
-use Rattle.report.specs.declared.earlier.Judged.{Judged}
-use Rattle.report.specs.declared.earlier.Judged.TheVariants.{Right, Wrong}
 
 -- a text is right for each cost up to the limit, and ends in the empty clause
 abbrev pub IsRightUpTo : Problem → (limit : ℕ) → List ℕ → Type 0
@@ -29,11 +24,3 @@ room_for softs = min (min (8 * softs + 2000) (2 * softs + 10000)) (2 ^ 20)
 pub record EndsAt (p : Problem) (limit : ℕ) (first : Option Solution) : Type 0 where
   pub begins : BeginsWith p limit first
   pub least : CostsAtLeast p limit
-
--- what a certificate was judged as that a reader gave, up to its last line feed: what its lines
--- leave, or the first fault and its line
-abbrev pub IsJudgedAs : Problem → Option (List ℕ) → Judged → Type 0
-IsJudgedAs p known (Right e) = IsReached p (e.machine).state
-    × IfSome known (λ bytes. IsEarlier p (e.machine).state (ended_part bytes))
-IsJudgedAs p known (Wrong cause line) =
-    IfSome known (λ bytes. judged_text None p (ended_part bytes) ≡ Err (cause, line))

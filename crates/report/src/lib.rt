@@ -2,7 +2,6 @@
 #![tactic(auto)]
 
 pub mod by_cuts;
-pub mod earlier;
 pub mod running;
 pub mod solving;
 

@@ -1,10 +1,5 @@
-//! The command `solve` of the program `wmax`: which files it reads and writes, in which order,
-//! where a search begins, and why there is none.
+//! The command `solve` of the program `wmax`: its search, and what it is given.
 #![tactic(auto)]
 
-mod inputs;
-mod outputs;
-mod refusals;
-mod resuming;
 mod searching;
 pub mod solving;

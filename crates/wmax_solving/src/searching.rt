@@ -1,11 +1,7 @@
 //! A run of `wmax solve` once its files are open: FILE is read, and the search begins.
 ghost use Rattle.std.specs.Prelude.{Some};
-ghost use Rattle.wmax_solving.specs.Resuming.{IsFor};
+ghost use Rattle.wmax_opening.specs.Resuming.{IsFor};
 
-use crate::inputs::Inputs;
-use crate::outputs::RunOutputs;
-use crate::refusals::{Refused, ResumeFault};
-use crate::resuming::Origin;
 use crate::solving::Plan;
 use cdcl::budget::Budget;
 use cnf::types::Instance;
@@ -23,6 +19,10 @@ use wmax_onlooker::onlooker::Onlooker;
 use wmax_onlooker::progress::Meter;
 use wmax_onlooker::standard_error::Messages;
 use wmax_onlooker::standard_output::standard_output;
+use wmax_opening::inputs::Inputs;
+use wmax_opening::outputs::RunOutputs;
+use wmax_opening::refusals::{Refused, ResumeFault};
+use wmax_opening::resuming::Origin;
 
 /// Solves, with what is to be written at hand. FILE is read here, unless something was judged by it
 /// before.

@@ -1,7 +1,4 @@
 //! `wmax solve`: a result and its certificate.
-use crate::inputs::{Inputs, prepare};
-use crate::outputs::{drop_certificate, open_outputs, resume_outputs};
-use crate::refusals::{Refused, tell_refused};
 use crate::searching::solve_over;
 use std::io::Write;
 use std::num::saturating_f64_to_u64;
@@ -12,6 +9,9 @@ use wmax_commands::faults::{Fault, open, tell_text_fault};
 use wmax_commands::profiles::{CUTS, Certifying, NoProfile, choose_profile, refuse_profile};
 use wmax_onlooker::alarm::Deadline;
 use wmax_onlooker::standard_error::Messages;
+use wmax_opening::inputs::{Inputs, prepare};
+use wmax_opening::outputs::{drop_certificate, open_outputs, resume_outputs};
+use wmax_opening::refusals::{Refused, tell_refused};
 
 /// What is said of a time that is none.
 const NO_TIME: &str = "error: --time-limit takes a number of seconds above 0";

@@ -11,8 +11,8 @@ ghost use Rattle.cdcl.specs.Guiding.{GuidedTurns};
 ghost use Rattle.cdcl.specs.declared.guided.GuidedEnd.TheVariants.{Stopped};
 
 use super::GuidedEnd;
-use crate::guide::{Advice, Guide};
 use crate::guided::turns::Course;
+use cdcl_guide::guide::{Advice, Guide};
 use cdcl_search::input::Input;
 use cdcl_search::reducing::reduce;
 use cdcl_search::search::Search;

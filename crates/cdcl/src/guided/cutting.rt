@@ -10,9 +10,9 @@ ghost use Rattle.cdcl.specs.Guiding.{GuidedTurns, TakesCut};
 ghost use Rattle.cdcl.specs.declared.guided.GuidedEnd.TheVariants.{Stopped};
 
 use super::GuidedEnd;
-use crate::guide::Guide;
 use crate::guided::apart::{are_apart, make_room};
 use crate::guided::turns::Course;
+use cdcl_guide::guide::Guide;
 use cdcl_search::axioms::take_axiom;
 use cnf::types::Lit;
 use lrat_log::sink::Sink;

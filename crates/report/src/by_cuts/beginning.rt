@@ -7,10 +7,10 @@ ghost use Rattle.improve.specs.Improving.{IsSolution};
 ghost use Rattle.improve_cuts.specs.ByCuts.{BeginsWith};
 ghost use Rattle.report.specs.Earlier.{EndsAt, room_for};
 
-use crate::earlier::CannotResume;
 use crate::solving::is_solution;
 use cnf::limits::NUMBER_LIMIT;
 use cnf::types::Instance;
+use cuts_earlier::earlier::CannotResume;
 use improve::solutions::{Solution, price};
 
 /// The most variables to count with.

@@ -1,7 +1,7 @@
 use Rattle.std.proofs.Common.{◌≡◌, ◌≤◌, length, ap, subst, sym, ◌∙◌, arith}
 use Rattle.std.proofs.lemmas.List.{length-take-le}
-use Rattle.eliminate.specs.Elimination.{extended}
-use Rattle.eliminate.proofs.Laws.{length-extended}
+use Rattle.reconstruction.specs.Removals.{extended}
+use Rattle.reconstruction.proofs.Laws.{length-extended}
 use Rattle.cdcl.specs.Solving.{SatisfyGiven}
 use Rattle.cdcl_search.specs.Running.{tables_of}
 use Rattle.cdcl.proofs.Satisfied.{answer_sat}

@@ -1,7 +1,7 @@
 use Rattle.std.proofs.Common.{◌≡◌, length, take, sym, ◌∙◌, ap}
 use Rattle.std.proofs.lemmas.List.{with_items_is}
-use Rattle.eliminate.specs.Elimination.{extended}
-use Rattle.eliminate.proofs.Laws.{length-extended}
+use Rattle.reconstruction.specs.Removals.{extended}
+use Rattle.reconstruction.proofs.Laws.{length-extended}
 use Rattle.cdcl.proofs.answers.set_eliminated.Goals as goal
 
 pub returns : goal.returns

@@ -11,8 +11,10 @@ use Rattle.clauses.proofs.Laws.{live_map}
 use Rattle.lrat_log.specs.declared.lines.Name.{Name}
 use Rattle.lrat_log.specs.Steps.{StaysLogOver, given_of}
 use Rattle.lrat_log.proofs.Laws.{clauses_given}
-use Rattle.eliminate.specs.Elimination.{IsWhole, IsFree, StackState, SatisfiesAll, Removed}
-use Rattle.eliminate.specs.Elimination.{extended}
+use Rattle.eliminate.specs.Elimination.{IsWhole, SatisfiesAll}
+use Rattle.reconstruction.specs.Stack.{IsFree, StackState}
+use Rattle.reconstruction.specs.Removals.{Removed}
+use Rattle.reconstruction.specs.Removals.{extended}
 use Rattle.cdcl_search.specs.declared.input.Input.{Input}
 use Rattle.cdcl.proofs.FirstRun.{IsLeft, left_long, left_live, left_numbers, plain_runs}
 use Rattle.cdcl.proofs.FirstRun.{whole_input, whole_left, whole_plain}

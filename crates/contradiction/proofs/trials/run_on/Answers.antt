@@ -6,6 +6,6 @@ use Rattle.contradiction.proofs.trials.run_on.Goals as goal
 
 pub returns-in-Yes : goal.returns-in-Yes
 returns-in-Yes c t f =
-    let k = c.in_ok-formula-in-20.ensures in
-    c.in_ok-check_lines-in-20.ensures.sound c.in-Yes.is t
+    let k = c.in_ok-formula.ensures in
+    c.in_ok-check_lines-in-Contradiction.ensures.sound c.in-Yes.is t
     (subst (λ x. All (Satisfies t) x.clauses) (sym k.clauses) ((k.feasible t).1 f))

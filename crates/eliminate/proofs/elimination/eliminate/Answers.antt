@@ -10,7 +10,8 @@ use Rattle.lrat_log.specs.Log.{LogLine}
 use Rattle.lrat_log.specs.Steps.{given_of, StaysLogOver, log_live, learned_count}
 use Rattle.eliminate_names.specs.Work.{NamesState}
 use Rattle.eliminate_pairs.specs.Pairs.{stage_of}
-use Rattle.eliminate.specs.Elimination.{is_eliminated, AreFreeOf, SatisfiesAll}
+use Rattle.eliminate.specs.Elimination.{AreFreeOf, SatisfiesAll}
+use Rattle.reconstruction.specs.Removals.{is_eliminated}
 use Rattle.eliminate.specs.Ending.{IsResult}
 use Rattle.eliminate.specs.State.{Start}
 use Rattle.eliminate.specs.Simplifier.{IsSimplified}
@@ -105,7 +106,7 @@ returns-clause-leaves g c =
     let removed = c.run_passes.new.simplifier.removals in
     let slots = c.run_passes.new.store.slots in
     let same = same_clauses g (goal.at.returns-clause-leaves g c).After-move_together in
-    rw c.into_left-names.ensures.removals
+    rw (c.new-2.ensures, c.into_left-names.ensures.removals)
     record {
       together = c.move_together.ensures.slots ∙ ap (map Some) (sym same);
       live =
@@ -134,6 +135,6 @@ returns-clause-leaves g c =
           (c.in-Ok.ensures.refuted works);
     }
 
-pub invariant_of-result : goal.invariant_of-result
-invariant_of-result g c = rw c.into_left-names.ensures.removals
-    (ended g (goal.at.invariant_of-result g c).In-Ok).within
+pub new-requires-2 : goal.new-requires-2
+new-requires-2 g c = rw c.into_left-names.ensures.removals
+    (ended g (goal.at.new-requires-2 g c).In-Ok).within

@@ -30,6 +30,7 @@ pub returns : goal.returns
 returns c =
     let slots : Slots = c.args.store.now.slots in
     let names = named (goal.at.returns c).In_ok-names in
+    rw (c.new-2.ensures, c.new.ensures)
     record {
       together = c.move_together.ensures.slots;
       live =
@@ -40,5 +41,5 @@ returns c =
           (c.in_ok-packed.ensures ∙ ap (λ (n : NamesState). n.names) c.move_together.ensures.names)
           (names.live base above);
       variables_are = refl;
-      none_removed = c.new.ensures;
+      none_removed = refl;
     }

@@ -5,7 +5,8 @@ use Rattle.cnf.specs.Literal.{Literal}
 use Rattle.clauses.specs.Slots.{Slots, StoreState}
 use Rattle.lrat_log.specs.Log.{LogLine}
 use Rattle.eliminate.specs.declared.simplifier.Simplifier.{Simplifier}
-use Rattle.eliminate.specs.Elimination.{positive, IsFree}
+use Rattle.reconstruction.specs.Stack.{IsFree}
+use Rattle.cnf.specs.Literal.{positive}
 use Rattle.eliminate.specs.Variables.{StaysOver}
 use Rattle.eliminate.proofs.Tables.{simplified_beside, simplified_at}
 use Rattle.eliminate.proofs.variables.eliminate_variables.Given.{Over}

@@ -7,7 +7,9 @@ use Rattle.cnf.specs.Literal.{Literal, negation}
 use Rattle.clauses.specs.Slots.{Slots, IsLive}
 use Rattle.lrat_log.specs.Log.{LogLine}
 use Rattle.eliminate.specs.declared.simplifier.Simplifier.{Simplifier}
-use Rattle.eliminate.specs.Elimination.{Removed, IsFree, positive}
+use Rattle.reconstruction.specs.Stack.{IsFree}
+use Rattle.cnf.specs.Literal.{positive}
+use Rattle.reconstruction.specs.Removals.{Removed}
 use Rattle.eliminate.specs.State.{IsState}
 use Rattle.eliminate.specs.Variables.{AreThoseWith, ArePairsResolved, LeavesOut, KeepsWork}
 use Rattle.eliminate.proofs.Deleting.{keeps_join, log_after}

@@ -2,7 +2,8 @@
 use Rattle.std.proofs.Common.{◌≡◌, ◌∙◌, sym, subst}
 use Rattle.std.proofs.lemmas.Result.{MatchResult-from_err}
 use Rattle.cnf.specs.Literal.{Literal, negation}
-use Rattle.eliminate.specs.Elimination.{positive, IsFree}
+use Rattle.reconstruction.specs.Stack.{IsFree}
+use Rattle.cnf.specs.Literal.{positive}
 use Rattle.eliminate.specs.State.{Start}
 use Rattle.eliminate.specs.Simplifier.{IsSimplified}
 use Rattle.eliminate.proofs.Growing.{those_later, those_not_later, pairs_now}

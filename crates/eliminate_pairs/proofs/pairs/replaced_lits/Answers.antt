@@ -8,7 +8,7 @@ use Rattle.std.proofs.lemmas.List.Elements.{filter-append}
 use Rattle.cnf.specs.Literal.{Literal, literal_eq}
 use Rattle.cnf.specs.Clause.{without_literal}
 use Rattle.eliminate_pairs.specs.Pairs.{positive, replaced}
-use Rattle.eliminate_pairs.proofs.Literals.{codes_agree, codes_differ, literal_eq-sides}
+use Rattle.cnf.proofs.Laws.{codes_agree, codes_differ, literal_eq-sides}
 use Rattle.eliminate_pairs.proofs.pairs.replaced_lits.Goals as goal
 use Rattle.eliminate_pairs.proofs.pairs.replaced_lits.Goals.{
   then-ne+then-ne-2+in_ok-push-2,

@@ -6,7 +6,7 @@ use Rattle.std.proofs.lemmas.Bool.{not-true, not-false}
 use Rattle.std.proofs.lemmas.List.Folds.{list_any-append}
 use Rattle.cnf.specs.Literal.{Literal, negation}
 use Rattle.cnf.specs.Marks.{mark_of}
-use Rattle.eliminate_pairs.proofs.Laws.{literal_eq-sides, codes_differ, codes_agree}
+use Rattle.cnf.proofs.Laws.{literal_eq-sides, codes_differ, codes_agree}
 use Rattle.eliminate_tables.specs.Resolvents.{unmarked_rest, clashes}
 use Rattle.eliminate_tables.proofs.Built.{clash_at, rest_more, rest_one, rest_none, rest_marked}
 use Rattle.eliminate_tables.proofs.resolvents.add_rest.Goals as goal

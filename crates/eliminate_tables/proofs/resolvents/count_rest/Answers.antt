@@ -3,7 +3,7 @@ use Rattle.std.proofs.Common.{◌≡◌, ◌∙◌, sym, ap, true, false, rules}
 use Rattle.cnf.specs.Literal.{negation}
 use Rattle.cnf.specs.Marks.{mark_of}
 use Rattle.eliminate_tables.proofs.Built.{clash_at}
-use Rattle.eliminate_pairs.proofs.Laws.{codes_differ}
+use Rattle.cnf.proofs.Laws.{codes_differ}
 use Rattle.eliminate_tables.proofs.resolvents.count_rest.Goals as goal
 
 pub returns-then-is_marked-clause-clash : goal.returns-then-is_marked-clause-clash

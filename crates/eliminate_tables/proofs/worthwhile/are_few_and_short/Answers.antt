@@ -8,7 +8,7 @@ use Rattle.std.proofs.lemmas.List.{length-map}
 use Rattle.std.proofs.lemmas.List.Folds.{list_all_at, list_all_more}
 use Rattle.cnf.specs.Literal.{Literal}
 use Rattle.clauses.specs.Slots.{Slots, IsLive}
-use Rattle.eliminate_tables.specs.Rows.{clause_under, clauses_under}
+use Rattle.clauses.specs.Slots.{clause_under, clauses_under}
 use Rattle.eliminate_tables.proofs.Counted.{under_at}
 use Rattle.eliminate_tables.proofs.worthwhile.are_few_and_short.Goals as goal
 

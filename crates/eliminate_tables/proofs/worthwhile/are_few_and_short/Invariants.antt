@@ -2,7 +2,7 @@
 use Rattle.std.proofs.Common.{◌≡◌, true, take, length}
 use Rattle.std.specs.Prelude.{nat_le}
 use Rattle.std.specs.List.{list_all}
-use Rattle.eliminate_tables.specs.Rows.{clauses_under}
+use Rattle.clauses.specs.Slots.{clauses_under}
 use Rattle.eliminate_tables.proofs.worthwhile.are_few_and_short.Given as goal
 
 abbrev pub invariant-loop-reference : goal.invariant-loop-reference

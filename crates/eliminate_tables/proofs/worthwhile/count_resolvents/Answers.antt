@@ -12,7 +12,7 @@ use Rattle.cnf.specs.Marks.{HasPlace}
 use Rattle.std.specs.Prelude.{All}
 use Rattle.std.specs.List.{list_any}
 use Rattle.eliminate_tables.specs.Resolvents.{unmarked_rest, clashes}
-use Rattle.eliminate_tables.specs.Rows.{clause_under, clauses_under}
+use Rattle.clauses.specs.Slots.{clause_under, clauses_under}
 use Rattle.eliminate_tables.specs.Worthwhile.{rest_of, give_tautology, is_short, are_short}
 use Rattle.eliminate_tables.proofs.Counted.{rest_marked, clash_marked, under_at, under_live}
 use Rattle.eliminate_tables.proofs.worthwhile.count_resolvents.Goals as goal

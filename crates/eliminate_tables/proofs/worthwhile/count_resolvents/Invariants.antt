@@ -1,6 +1,6 @@
 -- There are `count` resolvents so far, none of which is long.
 use Rattle.std.proofs.Common.{◌≡◌, ◌≤◌, true, take}
-use Rattle.eliminate_tables.specs.Rows.{clauses_under}
+use Rattle.clauses.specs.Slots.{clauses_under}
 use Rattle.eliminate_tables.specs.Worthwhile.{are_short, resolvent_count}
 use Rattle.eliminate_tables.proofs.worthwhile.count_resolvents.Given as goal
 

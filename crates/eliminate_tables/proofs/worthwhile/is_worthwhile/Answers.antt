@@ -9,7 +9,7 @@ use Rattle.std.proofs.lemmas.List.Sums.{sum_by_more, count_by-le-length}
 use Rattle.cnf.specs.Literal.{Literal}
 use Rattle.clauses.specs.Slots.{IsLive}
 use Rattle.eliminate_tables.specs.Bins.{ArePlaced}
-use Rattle.eliminate_tables.specs.Rows.{clause_under, clauses_under}
+use Rattle.clauses.specs.Slots.{clause_under, clauses_under}
 use Rattle.eliminate_tables.specs.Worthwhile.{give_tautology, are_short, resolvent_count}
 use Rattle.eliminate_tables.specs.Worthwhile.{are_few_and_short}
 use Rattle.eliminate_tables.proofs.Counted.{under_item, few_length}

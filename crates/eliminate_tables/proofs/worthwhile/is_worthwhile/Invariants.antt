@@ -2,7 +2,7 @@
 use Rattle.std.proofs.Common.{◌≡◌, ◌≤◌, ◌*◌, true, length, take}
 use Rattle.std.specs.Prelude.{sum_by}
 use Rattle.std.specs.List.{list_all}
-use Rattle.eliminate_tables.specs.Rows.{clauses_under}
+use Rattle.clauses.specs.Slots.{clauses_under}
 use Rattle.eliminate_tables.specs.Worthwhile.{are_short, resolvent_count}
 use Rattle.eliminate_tables.proofs.worthwhile.is_worthwhile.Given as goal
 

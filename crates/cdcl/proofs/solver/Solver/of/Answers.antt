@@ -10,7 +10,8 @@ use Rattle.clauses.proofs.Laws.{live_map}
 use Rattle.lrat_log.specs.declared.lines.Name.{Name}
 use Rattle.lrat_log.specs.Steps.{StaysLogOver, given_of}
 use Rattle.lrat_log.proofs.Laws.{clauses_given}
-use Rattle.eliminate.specs.Elimination.{ExtendsBack, IsFree, StackState}
+use Rattle.eliminate.specs.Elimination.{ExtendsBack}
+use Rattle.reconstruction.specs.Stack.{IsFree, StackState}
 use Rattle.cdcl_search.specs.declared.input.Input.{Input}
 use Rattle.cdcl_search.proofs.Laws.{added_few}
 use Rattle.cdcl.proofs.FirstRun.{IsLeft, formula_again, left_from, left_long, left_live}

@@ -5,8 +5,8 @@ use Rattle.cnf.specs.declared.limits.TheConstants.{NUMBER_LIMIT}
 use Rattle.cuts_log.specs.Logs.{start_of}
 use Rattle.cuts_solver.specs.Solving.{CanResume, instance_of}
 use Rattle.improve_cuts.specs.ByCuts.{BeginsWith}
-use Rattle.report.specs.declared.earlier.CannotResume.{CannotResume}
-use Rattle.report.specs.declared.earlier.CannotResume.TheVariants.{Lacking, Unfit}
+use Rattle.cuts_earlier.specs.declared.earlier.CannotResume.{CannotResume}
+use Rattle.cuts_earlier.specs.declared.earlier.CannotResume.TheVariants.{Lacking, Unfit}
 use Rattle.report.specs.Earlier.{EndsAt, IsDearer}
 use Rattle.report.proofs.CutsTexts.{earlier_before, ends_as, least_where_ended, leaves_as}
 use Rattle.report.proofs.CutsTexts.{right_where_ended}

@@ -1,0 +1,4 @@
+mod Extended
+mod Needed
+mod StackPieces
+pub mod Laws

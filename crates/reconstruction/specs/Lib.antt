@@ -1,0 +1,4 @@
+pub mod Flat
+pub mod Removals
+pub mod Stack
+pub mod Vectors
