@@ -21,7 +21,7 @@ use Rattle.cdcl.specs.declared.guided.GuidedEnd.{GuidedEnd}
 use Rattle.cdcl.specs.declared.guided.GuidedEnd.TheVariants.{Satisfied, Refuted, Stopped, Spent}
 use Rattle.cdcl.proofs.Laws.{paid_axiom, paid_join}
 use Rattle.cuts_solver.specs.Solving.{HasOpenLines, IsLeast, IsSolver, PaysLines, SolverState}
-use Rattle.cuts_solver.specs.Solving.{base_of, instance_of}
+use Rattle.cuts_solver.specs.Solving.{SameSolver, base_of, instance_of}
 use Rattle.cuts_solver.proofs.Working.{fails_solver, goes_on, open_runs, stays_solver}
 use Rattle.cuts_solver.proofs.Written.{nothing_less}
 
@@ -148,6 +148,16 @@ pays_on old mid new had spent left same first next =
     paid_join (new.input).given ls (lines_seen mid.log) (lines_seen new.log) had spent left
     (subst (λ (i : Input). PaysOpen i.given ls (lines_seen mid.log) had spent) (sym same) first)
     next
+
+-- what is the same in two steps
+pub same_on : (old mid new : SolverState) → SameSolver old mid → SameSolver mid new
+    → SameSolver old new
+same_on old mid new first next = record {
+  problem = next.problem ∙ first.problem;
+  start = next.start ∙ first.start;
+  origin = next.origin ∙ first.origin;
+  cost = next.cost ∙ first.cost;
+}
 
 -- however a search has ended, its log is open
 pub ended_stays : (s : SolverState) (b : BudgetState) (end : GuidedEnd)

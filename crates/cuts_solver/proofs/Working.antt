@@ -1,7 +1,8 @@
 -- A solver and its log go on together.
 use Rattle.std.proofs.Common.{◌≡◌, ℕ, ◌-◌, ◌≤◌, Bool, true, false, List, [], ◌∷◌, ◌++◌, not}
-use Rattle.std.proofs.Common.{Option, length, map, take, refl, sym, ◌∙◌, ap, subst, append-nil}
+use Rattle.std.proofs.Common.{Option, length, map, min, take, refl, sym, ◌∙◌, ap, subst, append-nil}
 use Rattle.std.proofs.Common.{arith}
+use Rattle.std.proofs.Math.Nat.{min-le_right}
 use Rattle.std.proofs.lemmas.List.{take_all}
 use Rattle.std.proofs.lemmas.Bool.{false≢true, not_from_false, true_from_ne_false, true≢false}
 use Rattle.cnf.specs.Literal.{Assignment, Literal}
@@ -205,6 +206,44 @@ brings_solver old new made h works same b input refuted going runs =
     (subst (λ i. HasOpenLines i new.log) (sym input)
     (open_brings old.input old.log new.log made h.lines same b.lines stays))
     (λ _. goes_on new b.works going runs)
+
+-- nothing came
+pub stays_open : (old : SolverState) (l : LogState) → IsSolver old → old.failed ≡ false
+    → l ≡ old.log → IsSolver (record old { log = l; failed = false })
+stays_open old l h works same =
+    subst (λ (x : LogState). IsSolver (record old { log = x; failed = false })) (sym same)
+    (subst (λ (f : Bool). IsSolver (record old { failed = f })) works h)
+
+-- a line without clauses came, or was refused
+pub takes_plain : (old : SolverState) (l : LogState) (taken : Bool) → IsSolver old
+    → old.failed ≡ false → old.refuted ≡ false → SameLog old.log l
+    → (taken ≡ true → Brings [] old.log l) → (taken ≡ false → l ≡ old.log)
+    → IsSolver (record old { log = l; failed = false })
+takes_plain old l true h works going same brings none =
+    let b = brings refl in
+    brings_solver old (record old { log = l; failed = false }) [] h works same b refl refl going
+    (subst (Runs old.search old.input) (sym (b.lines ∙ append-nil (lines_seen old.log)))
+    ((h.working works).runs going))
+takes_plain old l false h works going same brings none = stays_open old l h works (none refl)
+
+-- cuts have to hold for less
+pub cheaper_solver : (old : SolverState) (l : LogState) (cost : ℕ) → IsSolver old
+    → l ≡ record old.log { cost = min cost (old.log).cost } → IsSolver (record old { log = l })
+cheaper_solver old l cost h is =
+    subst (λ (x : LogState). IsSolver (record old { log = x })) (sym is) (record {
+      instance = h.instance;
+      input = h.input;
+      given = h.given;
+      variables = h.variables;
+      least = λ e u f.
+          let low = min-le_right cost (old.log).cost in
+          let least = h.least e u f in
+          omega (arith, low, least);
+      lines = record { stays = (h.lines).stays; follows = (h.lines).follows };
+      working = λ e.
+          let w = h.working e in
+          record { works = w.works; refuted_is = w.refuted_is; runs = w.runs };
+    })
 
 -- the search moves
 pub moves_solver : (old : SolverState) (n : Search) → IsSolver old → old.failed ≡ false

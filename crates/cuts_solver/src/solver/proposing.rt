@@ -1,13 +1,13 @@
 // Lines that are proposed to the solver: what the log makes of them goes to the engine.
 ghost use Rattle.std.specs.Prelude.{◌≡◌, ◌+◌, ◌<◌, [], ◌∷◌, ◌++◌, List, true, false};
-ghost use Rattle.std.specs.Prelude.{IfOk, OnOk, length, map};
+ghost use Rattle.std.specs.Prelude.{IfOk, OnErr, OnOk, length, map};
 ghost use Rattle.cnf.specs.Literal.{Literal};
 ghost use Rattle.std.specs.List.{AllByRecursion};
 ghost use Rattle.lrat_log.specs.Log.{LogLine, axiom_line};
 ghost use Rattle.lrat_log.specs.Axioms.{IsNewClause};
 ghost use Rattle.propagate.specs.Fits.{IsWithin};
 ghost use Rattle.cdcl_search.specs.Running.{Runs};
-ghost use Rattle.cuts_log.specs.Logs.{lines_seen};
+ghost use Rattle.cuts_log.specs.Logs.{Brings, SameLog, lines_seen};
 ghost use Rattle.cuts_log.specs.Made.{IsMadeClause};
 
 use super::CutsSolver;
@@ -66,9 +66,103 @@ fn give_cut<W: Write + Drop>(
     take_axiom(search, lits, Some(lits.len().min(u32::MAX as usize) as u32))
 }
 
+/// A line of which the log makes clauses.
+#[derive(Drop)]
+enum MadeLine<'a> {
+    /// A count with so many outputs of these literals.
+    Count(u64, &'a [Lit]),
+    /// One more output of the count with this number.
+    More(u64),
+}
+
+/// The log takes the line, or refuses it.
+fn put_made<W: Write + Drop>(
+    log: &mut CutsLog<W>,
+    line: MadeLine<'_>,
+    made: &mut ClauseList,
+) -> Result<bool, AllocError>
+    ensures taken { IfOk result (λ taken. taken ≡ true
+        → Brings (map axiom_line made.new) log.old log.new) }
+    ensures made { IfOk result (λ taken. taken ≡ true
+        → AllByRecursion (IsMadeClause log.new.standing.forms.variables) made.new) }
+    ensures refused { IfOk result (λ taken. taken ≡ false → log.new ≡ log.old) }
+    ensures err { OnErr result (lines_seen log.new ≡ lines_seen log.old) }
+    ensures same { SameLog log.old log.new }
+{
+    match line {
+        MadeLine::Count(outputs, inputs) => log.count(outputs, inputs, made),
+        MadeLine::More(number) => log.more(number, made),
+    }
+}
+
+/// A line of which the log makes no clauses.
+#[derive(Drop)]
+enum PlainLine<'a> {
+    /// `scale` times the cost, less these facts.
+    Form(u64, &'a [NamedFact]),
+    /// The present form less these facts.
+    FormMore(&'a [NamedFact]),
+    /// A group of these literals, by clauses with these ids.
+    Group(&'a [Lit], &'a [u64]),
+    /// A lower bound of the cost.
+    Bound(u64),
+}
+
+/// The log takes the line, or refuses it.
+fn put<W: Write + Drop>(log: &mut CutsLog<W>, line: PlainLine<'_>) -> Result<bool, AllocError>
+    ensures taken { IfOk result (λ taken. taken ≡ true → Brings [] log.old log.new) }
+    ensures refused { IfOk result (λ taken. taken ≡ false → log.new ≡ log.old) }
+    ensures err { OnErr result (lines_seen log.new ≡ lines_seen log.old) }
+    ensures same { SameLog log.old log.new }
+{
+    match line {
+        PlainLine::Form(scale, facts) => log.form(scale, facts),
+        PlainLine::FormMore(facts) => log.form_more(facts),
+        PlainLine::Group(inputs, ids) => log.group(inputs, ids),
+        PlainLine::Bound(lower) => log.bound(lower),
+    }
+}
+
 impl<W: Write + Drop> CutsSolver<W> {
-    ghost use Rattle.cuts_log.specs.Logs.{Brings};
     ghost use Rattle.cuts_solver.specs.Solving.{PaysLines, SameSolver};
+
+    /// The line goes to the log, and the clauses that it makes of it to the engine. There has to be
+    /// room for `most` variables.
+    fn take_made(&mut self, most: u64, line: MadeLine<'_>) -> Result<bool, AllocError>
+        ensures taken { IfOk result (λ taken. taken ≡ true → (made : List (List Literal))
+            × Brings (map axiom_line made) self.old.log self.new.log) }
+        ensures refused { IfOk result (λ taken. taken ≡ false → self.new ≡ self.old) }
+        ensures same { SameSolver self.old self.new }
+    {
+        if !self.is_open()? || !self.has_room(most) {
+            return Ok(false);
+        }
+        self.failed = true;
+        let is_taken = put_made(&mut self.log, line, &mut self.made)?;
+        if !is_taken {
+            self.failed = false;
+            return Ok(false);
+        }
+        give_made(&mut self.search, &self.input, &self.log, &self.made)?;
+        self.failed = false;
+        Ok(true)
+    }
+
+    /// The line goes to the log.
+    fn take_plain(&mut self, line: PlainLine<'_>) -> Result<bool, AllocError>
+        ensures taken { IfOk result (λ taken. taken ≡ true
+            → Brings [] self.old.log self.new.log) }
+        ensures refused { IfOk result (λ taken. taken ≡ false → self.new ≡ self.old) }
+        ensures same { SameSolver self.old self.new }
+    {
+        if !self.is_open()? {
+            return Ok(false);
+        }
+        self.failed = true;
+        let is_taken = put(&mut self.log, line)?;
+        self.failed = false;
+        Ok(is_taken)
+    }
 
     /// A count of these literals with `outputs` outputs. False where the log refuses it, where
     /// there is no room for its variables, and where the empty clause was added.
@@ -83,18 +177,7 @@ impl<W: Write + Drop> CutsSolver<W> {
         ensures same { SameSolver self.old self.new }
     {
         let most = outputs.saturating_mul(inputs.len() as u64);
-        if !self.is_open()? || !self.has_room(most) {
-            return Ok(false);
-        }
-        self.failed = true;
-        let is_taken = self.log.count(outputs, inputs, &mut self.made)?;
-        if !is_taken {
-            self.failed = false;
-            return Ok(false);
-        }
-        give_made(&mut self.search, &self.input, &self.log, &self.made)?;
-        self.failed = false;
-        Ok(true)
+        self.take_made(most, MadeLine::Count(outputs, inputs))
     }
 
     /// One more output of the count with this number. False where the log refuses it, where there
@@ -111,18 +194,7 @@ impl<W: Write + Drop> CutsSolver<W> {
     {
         let inputs = self.log.forms().inputs(number);
         let most = inputs.map_or(0, |lits| lits.len() as u64);
-        if !self.is_open()? || !self.has_room(most) {
-            return Ok(false);
-        }
-        self.failed = true;
-        let is_taken = self.log.more(number, &mut self.made)?;
-        if !is_taken {
-            self.failed = false;
-            return Ok(false);
-        }
-        give_made(&mut self.search, &self.input, &self.log, &self.made)?;
-        self.failed = false;
-        Ok(true)
+        self.take_made(most, MadeLine::More(number))
     }
 
     /// `scale` times the cost, less these facts, in place of the present form. False where the log
@@ -137,13 +209,7 @@ impl<W: Write + Drop> CutsSolver<W> {
         ensures refused { IfOk result (λ taken. taken ≡ false → self.new ≡ self.old) }
         ensures same { SameSolver self.old self.new }
     {
-        if !self.is_open()? {
-            return Ok(false);
-        }
-        self.failed = true;
-        let is_taken = self.log.form(scale, facts)?;
-        self.failed = false;
-        Ok(is_taken)
+        self.take_plain(PlainLine::Form(scale, facts))
     }
 
     /// The present form less these facts. False where the log refuses it, and where the empty
@@ -158,13 +224,7 @@ impl<W: Write + Drop> CutsSolver<W> {
         ensures refused { IfOk result (λ taken. taken ≡ false → self.new ≡ self.old) }
         ensures same { SameSolver self.old self.new }
     {
-        if !self.is_open()? {
-            return Ok(false);
-        }
-        self.failed = true;
-        let is_taken = self.log.form_more(facts)?;
-        self.failed = false;
-        Ok(is_taken)
+        self.take_plain(PlainLine::FormMore(facts))
     }
 
     /// A group of these literals, at most one of which is true; its number follows that of the last
@@ -181,13 +241,7 @@ impl<W: Write + Drop> CutsSolver<W> {
         ensures refused { IfOk result (λ taken. taken ≡ false → self.new ≡ self.old) }
         ensures same { SameSolver self.old self.new }
     {
-        if !self.is_open()? {
-            return Ok(false);
-        }
-        self.failed = true;
-        let is_taken = self.log.group(inputs, ids)?;
-        self.failed = false;
-        Ok(is_taken)
+        self.take_plain(PlainLine::Group(inputs, ids))
     }
 
     /// A lower bound of the cost, if the present form is worth it. False where the log refuses it,
@@ -202,13 +256,7 @@ impl<W: Write + Drop> CutsSolver<W> {
         ensures refused { IfOk result (λ taken. taken ≡ false → self.new ≡ self.old) }
         ensures same { SameSolver self.old self.new }
     {
-        if !self.is_open()? {
-            return Ok(false);
-        }
-        self.failed = true;
-        let is_taken = self.log.bound(lower)?;
-        self.failed = false;
-        Ok(is_taken)
+        self.take_plain(PlainLine::Bound(lower))
     }
 
     /// A cut of these literals under the present form, for a unit of the budget; the empty one ends

@@ -1,13 +1,14 @@
 use Rattle.std.proofs.Common.{◌≡◌, true, false, [], ◌∷◌, length, refl, sym, ◌∙◌, rules, subst}
 use Rattle.std.proofs.lemmas.Bool.{eqb-true}
 use Rattle.std.proofs.lemmas.List.{nil_from_length}
+use Rattle.std.proofs.lemmas.Result.{IfOk-from_err}
 use Rattle.cuts_log.specs.Logs.{LogState, lines_seen}
 use Rattle.cdcl.specs.Guiding.{PaysOpen}
 use Rattle.cdcl.proofs.Laws.{paid_axiom, paid_nothing}
 use Rattle.cuts_solver.specs.Solving.{SolverState}
 use Rattle.cuts_solver.proofs.Searching.{cut_ends}
 use Rattle.cuts_solver.proofs.MadeLines.{fails_cut}
-use Rattle.cuts_solver.proofs.Working.{brings_solver}
+use Rattle.cuts_solver.proofs.Working.{brings_solver, fails_same, same_log, stays_open}
 use Rattle.cuts_solver.proofs.solver.CutsSolver.cut.Goals as goal
 
 pub returns-in_err-is_open-clause-pays : goal.returns-in_err-is_open-clause-pays
@@ -53,6 +54,25 @@ returns-then-not-is_taken-clause-pays g c =
     subst (λ (s : SolverState). PaysOpen given (lines_seen s.log) now b b)
     c.self.view_is (subst (λ (l : LogState). PaysOpen given ls (lines_seen l) b b)
     (sym (c.in_ok-is_taken.ensures.refused c.if-not-is_taken.true)) (paid_nothing given ls b))
+
+pub invariant_of-self : goal.invariant_of-self
+invariant_of-self g c =
+    fails_same _ _ c.self.invariant (same_log c.self.inside.log) refl refl refl refl
+
+pub invariant_of-self-then-not-are_apart : goal.invariant_of-self-then-not-are_apart
+invariant_of-self-then-not-are_apart g c =
+    let works : c.self.inside.failed ≡ false = search rules in
+    stays_open _ _ c.self.invariant works refl
+
+pub invariant_of-self-in_err-is_taken : goal.invariant_of-self-in_err-is_taken
+invariant_of-self-in_err-is_taken g c =
+    let e = c.in_err-is_taken.ensures in
+    fails_same _ _ c.self.invariant e.same e.err refl refl refl
+
+pub invariant_of-self-then-not-is_taken : goal.invariant_of-self-then-not-is_taken
+invariant_of-self-then-not-is_taken g c =
+    let works : c.self.inside.failed ≡ false = search rules in
+    stays_open _ _ c.self.invariant works (c.in_ok-is_taken.ensures.refused c.if-not-is_taken.true)
 
 pub invariant_of-self-then-is_empty : goal.invariant_of-self-then-is_empty
 invariant_of-self-then-is_empty g c =
@@ -159,3 +179,35 @@ returns-clause-pays g c =
     let lines = (c.in_ok-is_taken.ensures.taken c.if-not-is_taken.false).lines in
     subst (λ (s : SolverState). PaysOpen given (lines_seen s.log) now b left) c.self.view_is
     (paid_axiom given ls now c.args.lits.now b left lines c.count_learned.ensures)
+
+pub returns-in_err-is_taken-clause-taken : goal.returns-in_err-is_taken-clause-taken
+returns-in_err-is_taken-clause-taken g c =
+    IfOk-from_err c.from_residual-in_err-is_taken.result _ c.from_residual-in_err-is_taken.ensures.0
+
+pub returns-in_err-is_taken-clause-paid : goal.returns-in_err-is_taken-clause-paid
+returns-in_err-is_taken-clause-paid g c =
+    IfOk-from_err c.from_residual-in_err-is_taken.result _ c.from_residual-in_err-is_taken.ensures.0
+
+pub returns-in_err-is_taken-clause-refused : goal.returns-in_err-is_taken-clause-refused
+returns-in_err-is_taken-clause-refused g c =
+    IfOk-from_err c.from_residual-in_err-is_taken.result _ c.from_residual-in_err-is_taken.ensures.0
+
+pub returns-in_err-is_taken-clause-unpaid : goal.returns-in_err-is_taken-clause-unpaid
+returns-in_err-is_taken-clause-unpaid g c =
+    IfOk-from_err c.from_residual-in_err-is_taken.result _ c.from_residual-in_err-is_taken.ensures.0
+
+pub returns-in_err-give_cut-clause-taken : goal.returns-in_err-give_cut-clause-taken
+returns-in_err-give_cut-clause-taken g c =
+    IfOk-from_err c.from_residual-in_err-give_cut.result _ c.from_residual-in_err-give_cut.ensures.0
+
+pub returns-in_err-give_cut-clause-paid : goal.returns-in_err-give_cut-clause-paid
+returns-in_err-give_cut-clause-paid g c =
+    IfOk-from_err c.from_residual-in_err-give_cut.result _ c.from_residual-in_err-give_cut.ensures.0
+
+pub returns-in_err-give_cut-clause-refused : goal.returns-in_err-give_cut-clause-refused
+returns-in_err-give_cut-clause-refused g c =
+    IfOk-from_err c.from_residual-in_err-give_cut.result _ c.from_residual-in_err-give_cut.ensures.0
+
+pub returns-in_err-give_cut-clause-unpaid : goal.returns-in_err-give_cut-clause-unpaid
+returns-in_err-give_cut-clause-unpaid g c =
+    IfOk-from_err c.from_residual-in_err-give_cut.result _ c.from_residual-in_err-give_cut.ensures.0
