@@ -155,7 +155,12 @@ impl<W: Write + Drop> CutsSolver<W> {
             formula,
             weights,
         } = CutsLog::begin(instance, writer)?;
-        let (search, input) = start_whole(formula, room.min(MOST_ROOM))?;
+        let Ok((search, input)) = start_whole(formula, room.min(MOST_ROOM)) else {
+            // By a call: that is proved once, and not field by field here.
+            drop(weights);
+            drop(log);
+            return Err(AllocError);
+        };
         let solver = CutsSolver {
             search,
             input,

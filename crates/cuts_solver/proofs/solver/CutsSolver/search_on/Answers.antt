@@ -1,4 +1,5 @@
-use Rattle.std.proofs.Common.{◌≡◌, true, false, refl, sym, ◌∙◌, ap, subst}
+use Rattle.std.proofs.Common.{◌≡◌, true, false, refl, rules, sym, ◌∙◌, ap, subst}
+use Rattle.std.proofs.lemmas.Result.{IfOk-from_err}
 use Rattle.cuts_log.specs.Logs.{SameLog, lines_seen}
 use Rattle.cdcl.specs.Guiding.{IsGuidedEnd}
 use Rattle.cuts_solver.specs.Solving.{SolverState}
@@ -28,10 +29,21 @@ invariant_of-self g c =
     searched_fails old new c.args.budget.now c.run.new.self.budget.now c.self.invariant same refl
     e.pays (e.err).stays refl refl
 
-pub returns-in_err-end-clause-same : goal.returns-in_err-end-clause-same
-returns-in_err-end-clause-same g c =
-    subst (λ (s : SolverState). SameLog s.log c.run.new.self.sink.now) c.self.view_is
-    (c.run.ensures.sink_follows c.self.inside.log (same_log c.self.inside.log))
+pub returns-in_err-end : goal.returns-in_err-end
+returns-in_err-end g c =
+    let r = c.run.ensures in
+    record {
+      end = IfOk-from_err c.from_residual.result _ c.from_residual.ensures.0;
+      works = IfOk-from_err c.from_residual.result _ c.from_residual.ensures.0;
+      pays = search rules;
+      same =
+          subst (λ (s : SolverState). SameLog s.log c.run.new.self.sink.now) c.self.view_is
+          (r.sink_follows c.self.inside.log (same_log c.self.inside.log));
+      same_input = ap (λ (s : SolverState). s.input) c.self.view_is;
+      waives = search rules;
+      same_seen = r.same_seen;
+      follows = r.follows;
+    }
 
 pub invariant_of-self-then-has_failed : goal.invariant_of-self-then-has_failed
 invariant_of-self-then-has_failed g c =
@@ -55,10 +67,21 @@ invariant_of-self-then-has_failed g c =
     searched_fails old new c.args.budget.now left c.self.invariant same refl e.pays
     (ended_stays new left c.in_ok-end.end e.ends) refl refl
 
-pub returns-then-has_failed-clause-same : goal.returns-then-has_failed-clause-same
-returns-then-has_failed-clause-same g c =
-    subst (λ (s : SolverState). SameLog s.log c.run.new.self.sink.now) c.self.view_is
-    (c.run.ensures.sink_follows c.self.inside.log (same_log c.self.inside.log))
+pub returns-then-has_failed : goal.returns-then-has_failed
+returns-then-has_failed g c =
+    let r = c.run.ensures in
+    record {
+      end = tt;
+      works = tt;
+      pays = search rules;
+      same =
+          subst (λ (s : SolverState). SameLog s.log c.run.new.self.sink.now) c.self.view_is
+          (r.sink_follows c.self.inside.log (same_log c.self.inside.log));
+      same_input = ap (λ (s : SolverState). s.input) c.self.view_is;
+      waives = search rules;
+      same_seen = r.same_seen;
+      follows = r.follows;
+    }
 
 pub invariant_of-self-then-is_refutation : goal.invariant_of-self-then-is_refutation
 invariant_of-self-then-is_refutation g c =
@@ -90,10 +113,21 @@ invariant_of-self-then-is_refutation g c =
     ends_solver old new c.args.budget.now left c.self.invariant works same refl e.pays
     (sym whole ∙ c.if-has_failed.false) refl ended l.kept l.book law.end law.cost
 
-pub returns-then-is_refutation-clause-same : goal.returns-then-is_refutation-clause-same
-returns-then-is_refutation-clause-same g c =
-    subst (λ (s : SolverState). SameLog s.log c.run.new.self.sink.now) c.self.view_is
-    (c.run.ensures.sink_follows c.self.inside.log (same_log c.self.inside.log))
+pub returns-then-is_refutation : goal.returns-then-is_refutation
+returns-then-is_refutation g c =
+    let r = c.run.ensures in
+    record {
+      end = refl;
+      works = refl;
+      pays = search rules;
+      same =
+          subst (λ (s : SolverState). SameLog s.log c.run.new.self.sink.now) c.self.view_is
+          (r.sink_follows c.self.inside.log (same_log c.self.inside.log));
+      same_input = ap (λ (s : SolverState). s.input) c.self.view_is;
+      waives = search rules;
+      same_seen = r.same_seen;
+      follows = r.follows;
+    }
 
 pub invariant_of-self-2 : goal.invariant_of-self-2
 invariant_of-self-2 g c =
@@ -123,7 +157,18 @@ invariant_of-self-2 g c =
     (sym c.has_failed.ensures ∙ c.if-has_failed.false) refl going
     (runs_on new left c.in_ok-end.end e.ends no)
 
-pub returns-clause-same : goal.returns-clause-same
-returns-clause-same g c =
-    subst (λ (s : SolverState). SameLog s.log c.run.new.self.sink.now) c.self.view_is
-    (c.run.ensures.sink_follows c.self.inside.log (same_log c.self.inside.log))
+pub returns : goal.returns
+returns g c =
+    let r = c.run.ensures in
+    record {
+      end = search rules;
+      works = refl;
+      pays = search rules;
+      same =
+          subst (λ (s : SolverState). SameLog s.log c.run.new.self.sink.now) c.self.view_is
+          (r.sink_follows c.self.inside.log (same_log c.self.inside.log));
+      same_input = ap (λ (s : SolverState). s.input) c.self.view_is;
+      waives = search rules;
+      same_seen = r.same_seen;
+      follows = r.follows;
+    }
