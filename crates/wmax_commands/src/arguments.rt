@@ -98,19 +98,19 @@ impl<'a> Request<'a> {
     pub fn of(matches: &'a ArgMatches<'_>) -> Option<Self> {
         let (name, found) = matches.subcommand()?;
         match name {
-            SOLVE => Some(Request::Solve(SolveRequest::of(found)?)),
-            CHECK => Some(Request::Check(CheckRequest::of(found)?)),
-            LOWER => Some(Request::Lower(LowerRequest::of(found)?)),
-            EXPLAIN => Some(Request::Explain(ExplainRequest::of(found)?)),
-            ENCODE => Some(Request::Encode(EncodeRequest::of(found)?)),
+            SOLVE => SolveRequest::of(found),
+            CHECK => CheckRequest::of(found),
+            LOWER => LowerRequest::of(found),
+            EXPLAIN => ExplainRequest::of(found),
+            ENCODE => EncodeRequest::of(found),
             _ => None,
         }
     }
 }
 
 impl<'a> SolveRequest<'a> {
-    fn of(matches: &'a ArgMatches<'_>) -> Option<Self> {
-        Some(SolveRequest {
+    fn of(matches: &'a ArgMatches<'_>) -> Option<Request<'a>> {
+        Some(Request::Solve(SolveRequest {
             text: matches.get_str(FILE)?,
             limit: matches.get_one::<u64>(CONFLICTS_OPTION)?,
             seconds: matches.get_one::<f64>(TIME_LIMIT_OPTION),
@@ -120,48 +120,48 @@ impl<'a> SolveRequest<'a> {
             best: matches.get_str(BEST_OPTION),
             from: matches.get_str(FROM_OPTION),
             is_told: matches.get_flag(PROGRESS_OPTION),
-        })
+        }))
     }
 }
 
 impl<'a> CheckRequest<'a> {
-    fn of(matches: &'a ArgMatches<'_>) -> Option<Self> {
-        Some(CheckRequest {
+    fn of(matches: &'a ArgMatches<'_>) -> Option<Request<'a>> {
+        Some(Request::Check(CheckRequest {
             text: matches.get_str(FILE)?,
             result: matches.get_str(RESULT)?,
             proof: matches.get_str(PROOF)?,
             profile: matches.get_str(PROFILE_OPTION),
-        })
+        }))
     }
 }
 
 impl<'a> LowerRequest<'a> {
-    fn of(matches: &'a ArgMatches<'_>) -> Option<Self> {
-        Some(LowerRequest {
+    fn of(matches: &'a ArgMatches<'_>) -> Option<Request<'a>> {
+        Some(Request::Lower(LowerRequest {
             text: matches.get_str(FILE)?,
             proof: matches.get_str(PROOF)?,
-        })
+        }))
     }
 }
 
 impl<'a> ExplainRequest<'a> {
-    fn of(matches: &'a ArgMatches<'_>) -> Option<Self> {
-        Some(ExplainRequest {
+    fn of(matches: &'a ArgMatches<'_>) -> Option<Request<'a>> {
+        Some(Request::Explain(ExplainRequest {
             text: matches.get_str(FILE)?,
             result: matches.get_str(RESULT),
             proof: matches.get_str(PROOF),
-        })
+        }))
     }
 }
 
 impl<'a> EncodeRequest<'a> {
-    fn of(matches: &'a ArgMatches<'_>) -> Option<Self> {
-        Some(EncodeRequest {
+    fn of(matches: &'a ArgMatches<'_>) -> Option<Request<'a>> {
+        Some(Request::Encode(EncodeRequest {
             text: matches.get_str(FILE)?,
             cost: matches.get_one::<u64>(COST)?,
             proof: matches.get_str(PROOF_OPTION),
             lrat: matches.get_str(LRAT_OPTION),
             profile: matches.get_str(PROFILE_OPTION),
-        })
+        }))
     }
 }

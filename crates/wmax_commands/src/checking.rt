@@ -5,7 +5,7 @@ ghost use Rattle.lrat_check.specs.Left.{AreRead};
 ghost use Rattle.wmax_commands.specs.Checking.{later};
 
 use crate::arguments::CheckRequest;
-use crate::faults::{Fault, end_output, open, read_whole, tell_packed};
+use crate::faults::{Fault, end_output, open, read_whole, say, tell_packed};
 use crate::profiles::{Certifying, choose_profile, refuse_profile};
 use adder::profiles::Profile;
 use command_line::words::ANY;
@@ -46,15 +46,53 @@ pub fn check<'a, R: Files + AllocGlobal + Print + Env, E: Write>(
         Ok(profile) => profile,
         Err(why) => return refuse_profile(messages, why),
     };
-    let mut text = Beginning::new(open(rt, request.text)?);
-    let mut answer = open(rt, request.result)?;
-    let mut proof = Beginning::new(open(rt, request.proof)?);
-    let texts = read_inputs(rt, request, &mut text, &mut answer)?;
-    match check_as(&texts, &mut proof, profile) {
+    let mut files = open_all(rt, request)?;
+    check_opened(rt, messages, request, profile, &mut files)
+}
+
+/// The files of a check, which are open.
+#[derive(Drop)]
+struct Opened<F: Read> {
+    /// FILE.
+    text: Beginning<F>,
+    /// RESULT.
+    answer: F,
+    /// The certificate.
+    proof: Beginning<F>,
+}
+
+/// Opens the files in their order.
+fn open_all<'a, R: Files>(
+    rt: &R,
+    request: &CheckRequest<'a>,
+) -> Result<Opened<R::File>, Fault<'a>> {
+    let text = open(rt, request.text)?;
+    let answer = open(rt, request.result)?;
+    let proof = open(rt, request.proof)?;
+    Ok(Opened {
+        text: Beginning::new(text),
+        answer,
+        proof: Beginning::new(proof),
+    })
+}
+
+/// Checks what stands in these files; the exit status.
+fn check_opened<'a, R: AllocGlobal + Print, E: Write, F: Read>(
+    rt: &R,
+    messages: &mut Messages<'_, E>,
+    request: &CheckRequest<'a>,
+    profile: Certifying,
+    files: &mut Opened<F>,
+) -> Result<u8, Fault<'a>> {
+    let texts = read_inputs(rt, request, &mut files.text, &mut files.answer)?;
+    let checked = check_as(&texts, &mut files.proof, profile);
+    // By a call: that is proved once, and not field by field here.
+    drop(texts);
+    match checked {
         Ok(verdict) => {
-            let status = show_for(rt, messages, text.first(), &verdict)?;
+            let status = show_for(rt, messages, files.text.first(), &verdict)?;
             if status == 1 {
-                advise_cuts(messages, proof.first(), profile);
+                advise_cuts(messages, files.proof.first(), profile);
             }
             Ok(status)
         }
@@ -89,7 +127,7 @@ fn read_inputs<'a, R: AllocGlobal, T: Read, A: Read>(
 /// and it was another one.
 fn advise_cuts<E: Write>(messages: &mut Messages<'_, E>, first: &[u8], profile: Certifying) {
     if !profile.is_cuts() && begins_with_any(first, &WORDS_OF_CUTS) {
-        let _ = writeln!(messages.below(), "{CUTS_ADVICE}");
+        say(messages, CUTS_ADVICE);
     }
 }
 
@@ -98,7 +136,7 @@ fn begins_with_any(first: &[u8], words: &[&[u8]; 6]) -> bool {
     words.iter().any(|word| first.starts_with(word))
 }
 
-/// The certificate is opened anew for each profile, so it has to be a file.
+/// As `check`, in any profile.
 fn check_any<'a, R: Files + AllocGlobal + Print, E: Write>(
     rt: &R,
     messages: &mut Messages<'_, E>,
@@ -106,16 +144,29 @@ fn check_any<'a, R: Files + AllocGlobal + Print, E: Write>(
 ) -> Result<u8, Fault<'a>> {
     let mut text = Beginning::new(open(rt, request.text)?);
     let mut answer = open(rt, request.result)?;
+    check_any_opened(rt, messages, request, &mut text, &mut answer)
+}
+
+/// The certificate is opened anew for each profile, so it has to be a file.
+fn check_any_opened<'a, R: Files + AllocGlobal + Print, E: Write, T: Read, A: Read>(
+    rt: &R,
+    messages: &mut Messages<'_, E>,
+    request: &CheckRequest<'a>,
+    text: &mut Beginning<T>,
+    answer: &mut A,
+) -> Result<u8, Fault<'a>> {
     let Ok(data) = fs::metadata(rt, request.proof) else {
         return Err(Fault::Unreadable(request.proof));
     };
     if !data.is_file() {
-        let _ = writeln!(messages.below(), "{NO_FILE}");
+        say(messages, NO_FILE);
         return Ok(2);
     }
-    let texts = read_inputs(rt, request, &mut text, &mut answer)?;
-    let verdict = check_each(rt, &texts, request.proof)?;
-    show_for(rt, messages, text.first(), &verdict)
+    let texts = read_inputs(rt, request, text, answer)?;
+    let verdict = check_each(rt, &texts, request.proof);
+    // By a call: that is proved once, and not field by field here.
+    drop(texts);
+    show_for(rt, messages, text.first(), &verdict?)
 }
 
 /// The profiles that are tried, the one that finds most optima first.

@@ -3,7 +3,7 @@ ghost use Rattle.std.specs.Prelude.{◌<◌};
 ghost use Rattle.cnf.specs.declared.limits.TheConstants.{NUMBER_LIMIT};
 
 use crate::arguments::EncodeRequest;
-use crate::faults::{Fault, end_output, open, tell_text_fault};
+use crate::faults::{Fault, end_output, open, say, tell_text_fault};
 use crate::plain_encoding::encode_plain;
 use crate::profiles::{Certifying, choose_profile, refuse_profile};
 use bound::encoding::{WatchedWriter, write_formula};
@@ -41,11 +41,11 @@ pub fn encode<'a, R: Files + AllocGlobal + Print + Env, E: Write>(
     // `clap` lets no greater cost pass; said again, since nothing is known of that here.
     let cost = request.cost.min(MOST_COST);
     if request.lrat.is_some() && (request.proof.is_none() || !profile.is_cuts()) {
-        let _ = writeln!(messages.below(), "{NO_PLAIN}");
+        say(messages, NO_PLAIN);
         return Ok(2);
     }
     if request.proof.is_some() && !profile.is_cuts() {
-        let _ = writeln!(messages.below(), "{NO_PROOF}");
+        say(messages, NO_PROOF);
         return Ok(2);
     }
     let mut text = Beginning::new(open(rt, request.text)?);

@@ -86,8 +86,13 @@ pub fn tell_fault<E: Write>(messages: &mut Messages<'_, E>, fault: Fault<'_>) ->
 /// Tells what to do with a text that is packed.
 pub(crate) fn tell_packed<E: Write>(messages: &mut Messages<'_, E>, text: &[u8]) {
     if let Some(advice) = advise_unpacking(text) {
-        let _ = writeln!(messages.below(), "{advice}");
+        say(messages, advice);
     }
+}
+
+/// Tells a line. One that cannot be told changes nothing else.
+pub fn say<E: Write>(messages: &mut Messages<'_, E>, line: &str) {
+    let _ = writeln!(messages.below(), "{line}");
 }
 
 /// Tells why a command that reads FILE from this path has no answer; the exit status. `first` are

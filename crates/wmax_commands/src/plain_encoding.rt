@@ -1,6 +1,6 @@
 //! `wmax encode --profile 3 --proof`: a certificate of forms and cuts for checkers from elsewhere.
 use crate::arguments::EncodeRequest;
-use crate::faults::{Fault, end_output, is_regular, open};
+use crate::faults::{Fault, end_output, is_regular, open, say};
 use bound::encoding::WatchedWriter;
 use lrat_plain::faults::PlainFault;
 use lrat_plain::streams::{Claim, Sizes, measure, write_plain};
@@ -32,7 +32,7 @@ pub(crate) fn encode_plain<'a, R: Files + AllocGlobal + Print, E: Write, T: Read
 ) -> Result<u8, Fault<'a>> {
     let mut proof = open(rt, path)?;
     if !is_regular(rt, path) {
-        let _ = writeln!(messages.below(), "{NO_FILE}");
+        say(messages, NO_FILE);
         return Ok(2);
     }
     let instance = match read_from(rt.alloc(), text) {
@@ -43,13 +43,23 @@ pub(crate) fn encode_plain<'a, R: Files + AllocGlobal + Print, E: Write, T: Read
         instance: &instance,
         cost: request.cost,
     };
-    let written = match measure(claim, &mut proof) {
-        Ok(sizes) => write_twice(rt, request, claim, sizes, path)?,
-        Err(fault) => Err(fault),
-    };
-    match written {
+    match read_twice(rt, request, claim, &mut proof, path)? {
         Ok(()) => Ok(0),
         Err(fault) => tell_plain(messages, fault, path),
+    }
+}
+
+/// The first pass, and the second where that finds no fault.
+fn read_twice<'a, R: Files + AllocGlobal + Print, P: Read>(
+    rt: &R,
+    request: &EncodeRequest<'a>,
+    claim: Claim<'_>,
+    proof: &mut P,
+    path: &'a str,
+) -> Result<Result<(), PlainFault>, Fault<'a>> {
+    match measure(claim, proof) {
+        Ok(sizes) => write_twice(rt, request, claim, sizes, path),
+        Err(fault) => Ok(Err(fault)),
     }
 }
 
@@ -66,11 +76,18 @@ fn write_twice<'a, R: Files + AllocGlobal + Print>(
         return print_formula(rt, claim, sizes, &mut proof, &mut io::sink());
     };
     let read = read_files(rt, request, &proof, path)?;
-    let mut certificate = open_proof(rt, out, read)?;
-    if !empty(&certificate) {
-        return Err(Fault::Run(RunFault::ProofOutput));
-    }
+    let mut certificate = open_empty(rt, out, read)?;
     print_formula(rt, claim, sizes, &mut proof, &mut certificate)
+}
+
+/// Opens the file of the plain certificate, and empties it.
+fn open_empty<'a, R: Files>(rt: &R, path: &str, read: [FileId; 2]) -> Result<R::File, Fault<'a>> {
+    let file = open_proof(rt, path, read)?;
+    if empty(&file) {
+        Ok(file)
+    } else {
+        Err(Fault::Run(RunFault::ProofOutput))
+    }
 }
 
 /// The files that are read: FILE and the certificate, which is open.
@@ -80,8 +97,12 @@ fn read_files<'a, R: Files>(
     proof: &R::File,
     path: &'a str,
 ) -> Result<[FileId; 2], Fault<'a>> {
-    let here = find_path_id(rt, request.text).ok_or(Fault::Unreadable(request.text))?;
-    let there = find_file_id(proof).ok_or(Fault::Unreadable(path))?;
+    let Some(here) = find_path_id(rt, request.text) else {
+        return Err(Fault::Unreadable(request.text));
+    };
+    let Some(there) = find_file_id(proof) else {
+        return Err(Fault::Unreadable(path));
+    };
     Ok([here, there])
 }
 
@@ -94,21 +115,35 @@ fn print_formula<'a, R: Print, P: Read, C: Write>(
     certificate: &mut C,
 ) -> Result<Result<(), PlainFault>, Fault<'a>> {
     let mut out = standard_output(rt);
-    let mut watched = WatchedWriter::new(&mut out);
-    let fault = match write_plain(claim, sizes, proof, &mut watched, certificate) {
-        Ok(()) => None,
-        Err(PlainFault::Output) if !watched.has_failed() => {
-            return Err(Fault::Run(RunFault::ProofOutput));
-        }
-        Err(fault) => Some(fault),
-    };
-    let written = match fault {
-        Some(PlainFault::Output) => Err(RunFault::Output),
-        Some(fault) => return Ok(Err(fault)),
-        None => deliver(Ok(()), &mut out),
+    let written = match write_both(claim, sizes, proof, &mut out, certificate) {
+        Ok(Ok(())) => deliver(Ok(()), &mut out),
+        Ok(Err(fault)) => return Ok(Err(fault)),
+        Err(fault) => Err(fault),
     };
     end_output(written.map(|()| 0), out.is_closed())?;
     Ok(Ok(()))
+}
+
+/// Writes the formula and the plain certificate.
+///
+/// # Errors
+///
+/// `Output` where the writer of the formula failed, `ProofOutput` where that of the certificate
+/// did.
+fn write_both<P: Read, W: Write, C: Write>(
+    claim: Claim<'_>,
+    sizes: Sizes,
+    proof: &mut P,
+    out: &mut W,
+    certificate: &mut C,
+) -> Result<Result<(), PlainFault>, RunFault> {
+    let mut watched = WatchedWriter::new(out);
+    match write_plain(claim, sizes, proof, &mut watched, certificate) {
+        Ok(()) => Ok(Ok(())),
+        Err(PlainFault::Output) if watched.has_failed() => Err(RunFault::Output),
+        Err(PlainFault::Output) => Err(RunFault::ProofOutput),
+        Err(fault) => Ok(Err(fault)),
+    }
 }
 
 /// Tells why there is no plain certificate; the exit status.
@@ -123,7 +158,7 @@ fn tell_plain<'a, E: Write>(
             Ok(2)
         }
         PlainFault::Changed => {
-            let _ = writeln!(messages.below(), "{CHANGED}");
+            say(messages, CHANGED);
             Ok(3)
         }
         PlainFault::Memory => Err(Fault::Run(RunFault::Memory)),
