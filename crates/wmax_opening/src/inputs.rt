@@ -123,7 +123,9 @@ pub fn prepare<'a, R: Files + AllocGlobal>(
     let read = match request.from {
         Some(path) => take_start(rt, path, inputs)?,
         None => {
-            let here = inputs.source.here.ok_or(UNREADABLE)?;
+            let Some(here) = inputs.source.here else {
+                return Err(Refused::from(UNREADABLE));
+            };
             [here, here]
         }
     };
@@ -140,23 +142,40 @@ fn take_start<'a, R: Files + AllocGlobal>(
     path: &'a str,
     inputs: &mut Inputs<'a, R::File>,
 ) -> Result<[FileId; 2], Refused<'a>> {
-    let mut result = File::open(rt, path).map_err(|_| Refused::of_file(UNREADABLE, path))?;
-    let here = inputs.source.here.ok_or(UNREADABLE)?;
+    let Ok(mut result) = File::open(rt, path) else {
+        return Err(Refused::of_file(UNREADABLE, path));
+    };
+    let Some(here) = inputs.source.here else {
+        return Err(Refused::from(UNREADABLE));
+    };
     let Some(there) = find_file_id(&result) else {
         return Err(Refused::of_file(UNREADABLE, path));
     };
     inputs.source.read(rt)?;
-    let instance = inputs.source.instance();
-    let said = read_file(rt, &mut result).map_err(|fault| Refused::of_file(fault, path))?;
-    match judge_left(rt.alloc(), instance, &said)? {
-        Judgement::Unknown | Judgement::Unsatisfiable => {}
-        Judgement::Right(cost) => inputs.start = read_start(rt.alloc(), &said, cost)?,
-        Judgement::Wrong => {
-            return Err(Refused::Wrong(find_fault(rt.alloc(), instance, &said)?));
-        }
-    }
+    let said = match read_file(rt, &mut result) {
+        Ok(said) => said,
+        Err(fault) => return Err(Refused::of_file(fault, path)),
+    };
+    inputs.start = judge_start(rt.alloc(), inputs.source.instance(), &said)?;
     inputs.result = Some(result);
     Ok([here, there])
+}
+
+/// The solution that a result has, if it has one, as the instance judges it.
+///
+/// # Errors
+///
+/// `Wrong`, and `Fault` with `Memory`.
+fn judge_start<'a>(
+    alloc: Global,
+    instance: &Instance,
+    said: &[u8],
+) -> Result<Option<FirstSolution>, Refused<'a>> {
+    match judge_left(alloc, instance, said)? {
+        Judgement::Unknown | Judgement::Unsatisfiable => Ok(None),
+        Judgement::Right(cost) => Ok(read_start(alloc, said, cost)?),
+        Judgement::Wrong => Err(Refused::Wrong(find_fault(alloc, instance, said)?)),
+    }
 }
 
 /// What `check` says of a result that is wrong, whatever its certificate is.
@@ -215,26 +234,38 @@ fn take_best<'a, R: Files + AllocGlobal>(
     inputs: &mut Inputs<'a, R::File>,
 ) -> Result<(), Refused<'a>> {
     let [here, result] = read;
-    let paths = WholePaths::new(rt, path).map_err(|_| RunFault::Memory)?;
+    let Ok(paths) = WholePaths::new(rt, path) else {
+        return Err(Refused::from(RunFault::Memory));
+    };
     let is_named = are_named(rt, &paths, request.proof, here);
     if is_named || paths.is_part_taken(rt, &[result]) {
         return Err(Refused::Best(KeptFileFault::Taken));
     }
-    let left = paths
-        .read_earlier(rt)
-        .map_err(|fault| Refused::of_file(fault, path))?;
-    let is_free = left.is_empty();
-    let cost = if is_free {
-        None
-    } else {
-        take_earlier(rt, inputs, &left)?
-    };
+    let (is_free, cost) = take_left(rt, path, inputs, &paths)?;
     inputs.kept = Some(BestPaths {
         paths,
         cost,
         is_free,
     });
     Ok(())
+}
+
+/// Takes what is in the file of `--best`, which is at this path. It answers whether that is
+/// nothing, and what the solution costs that is there, if one is.
+fn take_left<'a, R: Files + AllocGlobal>(
+    rt: &R,
+    path: &'a str,
+    inputs: &mut Inputs<'a, R::File>,
+    paths: &WholePaths<'a>,
+) -> Result<(bool, Option<u64>), Refused<'a>> {
+    let left = match paths.read_earlier(rt) {
+        Ok(left) => left,
+        Err(fault) => return Err(Refused::of_file(fault, path)),
+    };
+    if left.is_empty() {
+        return Ok((true, None));
+    }
+    Ok((false, take_earlier(rt, inputs, &left)?))
 }
 
 /// Takes the solution that an earlier run left, which FILE judges; what it costs. The search begins

@@ -52,9 +52,13 @@ pub fn open_outputs<'a, R: Files>(
 {
     let [here, _] = read;
     let proof = open_proof(rt, path, read)?;
-    let there = find_file_id(&proof).ok_or(RunFault::ProofOutput)?;
+    let Some(there) = find_file_id(&proof) else {
+        return Err(Refused::from(RunFault::ProofOutput));
+    };
     let keeper = start_keeper(rt, inputs.kept.take(), [here, there], FirstText::Now)?;
     if !empty(&proof) {
+        // By a call: that is proved once, and not field by field here.
+        drop(keeper);
         return Err(Refused::Fault(Fault::Run(RunFault::ProofOutput)));
     }
     Ok(RunOutputs {

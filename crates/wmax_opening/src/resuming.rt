@@ -57,11 +57,7 @@ pub fn take_certificate<'a, R: Files + AllocGlobal>(
 {
     // First, since the file of the certificate may be created then.
     inputs.source.read(rt)?;
-    let file = open_resumed(rt, path, read).map_err(|fault| Refused::of_file(fault, path))?;
-    if !is_regular(&file) {
-        return Err(Refused::Resume(ResumeFault::NotRegular));
-    }
-    let there = find_file_id(&file).ok_or(RunFault::ProofOutput)?;
+    let (file, there) = open_earlier(rt, path, read)?;
     let mut lines = WholeLines::new(file);
     let earlier = read_earlier(path, &inputs.source, &mut lines)?;
     let kept = lines.ended();
@@ -73,6 +69,29 @@ pub fn take_certificate<'a, R: Files + AllocGlobal>(
         proof: ResumedFile::new(file, kept),
         there,
     })
+}
+
+/// Opens the certificate at this path, which goes on. It answers which file that is, too.
+///
+/// # Errors
+///
+/// Those of `take_certificate` that are none of its text.
+fn open_earlier<'a, R: Files>(
+    rt: &R,
+    path: &'a str,
+    read: [FileId; 2],
+) -> Result<(R::File, FileId), Refused<'a>> {
+    let file = match open_resumed(rt, path, read) {
+        Ok(file) => file,
+        Err(fault) => return Err(Refused::of_file(fault, path)),
+    };
+    if !is_regular(&file) {
+        return Err(Refused::Resume(ResumeFault::NotRegular));
+    }
+    let Some(there) = find_file_id(&file) else {
+        return Err(Refused::from(RunFault::ProofOutput));
+    };
+    Ok((file, there))
 }
 
 /// Judges the certificate, which is at this path, by FILE.

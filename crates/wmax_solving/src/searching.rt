@@ -52,7 +52,13 @@ pub(crate) fn solve_over<'a, R: Files + AllocGlobal + Print + Clock, E: Write, P
         alarm: Alarm::new(rt, plan.deadline),
         messages,
     };
-    inputs.source.read(rt)?;
+    if let Err(fault) = inputs.source.read(rt) {
+        // Here and below by calls: that is proved once, and not field by field.
+        drop(onlooker);
+        drop(proof);
+        drop(origin);
+        return Err(Refused::from(fault));
+    }
     let start = inputs.start.take().map(|start| start.bits);
     let search = Search {
         instance: inputs.source.instance(),
@@ -62,7 +68,9 @@ pub(crate) fn solve_over<'a, R: Files + AllocGlobal + Print + Clock, E: Write, P
         budget,
     };
     let mut out = standard_output(rt);
-    match run_search(rt.alloc(), search, &mut out, proof, &mut onlooker) {
+    let ended = run_search(rt.alloc(), search, &mut out, proof, &mut onlooker);
+    drop(onlooker);
+    match ended {
         Ok(ended) => end_output(ended, out.is_closed()).map_err(|fault| Refused::Fault(fault)),
         Err(why) => Err(Refused::Resume(why)),
     }

@@ -5,7 +5,7 @@ use std::num::saturating_f64_to_u64;
 use std::rt::{Clock, Env, Files};
 use std::time::Duration;
 use wmax_commands::arguments::SolveRequest;
-use wmax_commands::faults::{Fault, open, tell_text_fault};
+use wmax_commands::faults::{Fault, open, say, tell_text_fault};
 use wmax_commands::profiles::{CUTS, Certifying, NoProfile, choose_profile, refuse_profile};
 use wmax_onlooker::alarm::Deadline;
 use wmax_onlooker::standard_error::Messages;
@@ -37,7 +37,7 @@ pub fn solve<'a, R: Files + AllocGlobal + Print + Env + Clock, E: Write>(
     request: &SolveRequest<'a>,
 ) -> Result<u8, Fault<'a>> {
     if let Some(said) = misuse_of(request) {
-        let _ = writeln!(messages.below(), "{said}");
+        say(messages, said);
         return Ok(2);
     }
     let certifying = match choose_certifying(rt, request) {
@@ -45,7 +45,7 @@ pub fn solve<'a, R: Files + AllocGlobal + Print + Env + Clock, E: Write>(
         Err(why) => return refuse_profile(messages, why),
     };
     let Some(limit) = limit_of(request.seconds) else {
-        let _ = writeln!(messages.below(), "{NO_TIME}");
+        say(messages, NO_TIME);
         return Ok(2);
     };
     let plan = Plan {
@@ -121,13 +121,16 @@ fn solve_file<'a, R: Files + AllocGlobal + Print + Clock, E: Write>(
         Ok(status) => Ok(status),
         Err(refused) => tell_refused(rt, messages, refused),
     };
-    match ended {
+    let status = match ended {
         Ok(status) => status,
         Err(fault) => {
             let fault = fault.of_text(plan.request.text);
             tell_text_fault(messages, fault, inputs.source.first())
         }
-    }
+    };
+    // By a call: that is proved once, and not field by field here.
+    drop(inputs);
+    status
 }
 
 /// Solves, with the certificate in its file, which may be none of those that are read.
