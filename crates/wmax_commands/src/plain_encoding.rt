@@ -76,18 +76,11 @@ fn write_twice<'a, R: Files + AllocGlobal + Print>(
         return print_formula(rt, claim, sizes, &mut proof, &mut io::sink());
     };
     let read = read_files(rt, request, &proof, path)?;
-    let mut certificate = open_empty(rt, out, read)?;
-    print_formula(rt, claim, sizes, &mut proof, &mut certificate)
-}
-
-/// Opens the file of the plain certificate, and empties it.
-fn open_empty<'a, R: Files>(rt: &R, path: &str, read: [FileId; 2]) -> Result<R::File, Fault<'a>> {
-    let file = open_proof(rt, path, read)?;
-    if empty(&file) {
-        Ok(file)
-    } else {
-        Err(Fault::Run(RunFault::ProofOutput))
+    let mut certificate = open_proof(rt, out, read)?;
+    if !empty(&certificate) {
+        return Err(Fault::Run(RunFault::ProofOutput));
     }
+    print_formula(rt, claim, sizes, &mut proof, &mut certificate)
 }
 
 /// The files that are read: FILE and the certificate, which is open.

@@ -139,11 +139,15 @@ fn run_search<O: Write, P: Write + Drop, K: RunWatch>(
     };
     match certifying {
         Certifying::Formula(profile) => {
-            // By a call: that is proved once, and not field by field here.
+            // Here and below by a call: that is proved once, and not field by field.
             drop(origin);
             let mut proof = proof;
             let ended = run.solve_read(alloc, instance, &mut proof, profile);
-            Ok(ended.map(|status| status.code()))
+            Ok(ended.map(|status| {
+                let code = status.code();
+                drop(status);
+                code
+            }))
         }
         Certifying::Cuts => run_by_cuts(&mut run, alloc, instance, origin, proof),
     }
