@@ -9,7 +9,7 @@ use Rattle.cnf.specs.Clause.{greatest_variable}
 use Rattle.lrat_log.specs.Log.{LogLine, Given}
 use Rattle.lrat_log.specs.Steps.{IsLogOver, IsAcceptedLog, StaysLogOver}
 use Rattle.lrat_log.specs.Steps.{AddsNoEmptyClause, adds_empty_clause}
-use Rattle.lrat_log.specs.Steps.{IsLearnedOrShort, given_of}
+use Rattle.lrat_log.specs.Steps.{IsLearnedOrShort, IsShortLine, given_of, learned_count}
 use Rattle.lrat_log.specs.Axioms.{StaysOpenLogOver}
 use Rattle.lrat_log.proofs.Laws.{accepted_log}
 use Rattle.cdcl_search.specs.declared.search.Search.{Search}
@@ -28,6 +28,20 @@ drop_front (l ∷ before) more = drop_front before more
 pub since_more : (before after more : List LogLine) → after ≡ before ++ more
     → lines_since before after ≡ more
 since_more before after more e = ap (drop (length before)) e ∙ drop_front before more
+
+-- where nothing was written
+module _ (before : List LogLine) {after : List LogLine} (same : after ≡ before) where
+  none_since : lines_since before after ≡ []
+  none_since = since_more before after [] (same ∙ sym (append-nil before))
+
+  pub same_grows : after ≡ before ++ lines_since before after
+  same_grows = same ∙ sym (append-nil before) ∙ ap (λ x. before ++ x) (sym none_since)
+
+  pub same_learned : learned_count (lines_since before after) ≡ 0
+  same_learned = ap learned_count none_since
+
+  pub same_short : All IsShortLine (lines_since before after)
+  same_short = subst (All IsShortLine) (sym none_since) (All-nil IsShortLine)
 
 module _ (given : Given) (before after : List LogLine) (n : ℕ)
     (w : Writes given before after n) where

@@ -1,5 +1,5 @@
 -- Turns of a search, and what they write.
-use Rattle.std.proofs.Common.{◌≡◌, ℕ, ◌+◌, ◌≤◌, Bool, true, false, cond, List, [], ◌∷◌, ◌++◌}
+use Rattle.std.proofs.Common.{◌≡◌, ℕ, ◌+◌, ◌<◌, ◌≤◌, Bool, true, false, cond, List, [], ◌∷◌, ◌++◌}
 use Rattle.std.proofs.Common.{Option, Some, None, length, inl, inr, refl, sym, ◌∙◌, ap, subst}
 use Rattle.std.proofs.Common.{append_assoc, arith}
 use Rattle.std.specs.Prelude.{Result, Ok, IsErr, IfSome, IfNone, All}
@@ -9,16 +9,19 @@ use Rattle.std.proofs.lemmas.List.Elements.{All-head, All-tail}
 use Rattle.std.proofs.lemmas.List.Sums.{sum_by-append, sum_by-cons}
 use Rattle.std.proofs.lemmas.Result.{IfOk-weaker, IfOk-from_err}
 use Rattle.cnf.specs.Literal.{Literal}
+use Rattle.propagate.specs.Trail.{literals_of}
+use Rattle.analyze.specs.Analyzer.{IsFixpoint}
 use Rattle.lrat_log.specs.Log.{LogLine, Given, is_axiom, is_learned, axiom_line}
 use Rattle.lrat_log.specs.Steps.{IsLearnedOrShort, LearnsNew, nothing_exempt}
 use Rattle.lrat_log.specs.Axioms.{FollowByRup, TakesNoAxiom}
 use Rattle.lrat_log.proofs.Laws.{when_err, follow_append}
-use Rattle.cdcl_order.specs.Budgets.{BudgetState}
+use Rattle.cdcl_order.specs.Budgets.{BudgetState, left_of}
 use Rattle.cdcl_search.specs.declared.input.Input.{Input}
 use Rattle.cdcl_search.specs.declared.search.Search.{Search}
 use Rattle.std.specs.declared.vec.Vec.{Vec}
 use Rattle.std.specs.declared.alloc.Global.{Global}
 use Rattle.cdcl_search.specs.Cores.{IsShown}
+use Rattle.cdcl_search.specs.Invariant.{zero_of}
 use Rattle.cdcl_search.specs.Running.{Runs, Writes, StaysOpen}
 use Rattle.cdcl_search.proofs.Laws.{learns_join, writes_none}
 use Rattle.cdcl.specs.declared.guided.GuidedEnd.{GuidedEnd}
@@ -26,7 +29,7 @@ use Rattle.cdcl.specs.Turns.{RoundGoesOn}
 use Rattle.cdcl.specs.Guiding.{axiom_count, IsGuidedLine, WritesOpen, PaysOpen, IsGuidedEnd}
 use Rattle.cdcl.specs.declared.guided.cutting.Taking.{Taking}
 use Rattle.cdcl.specs.declared.guided.cutting.Taking.TheVariants.{Refused}
-use Rattle.cdcl.specs.Guiding.{GuidedEnds, GuidedTurns, IsTaking, TakesCut, FindsCore}
+use Rattle.cdcl.specs.Guiding.{IsStopped, GuidedEnds, GuidedTurns, IsTaking, TakesCut, FindsCore}
 use Rattle.cdcl.proofs.Rounds.{fewer_before}
 
 -- What is written.
@@ -319,3 +322,20 @@ finds_fails result new p asked before after had left fails log pays kept = recor
   kept = kept;
   err = when_err result log;
 }
+
+-- Where the search is as it was.
+
+pub stopped_same : {s t : Search} {p : Input} {ls : List LogLine} → t ≡ s → (b : BudgetState)
+    → Runs s p ls → IsFixpoint (s.store).slots (literals_of (s.engine).trail)
+    → length (zero_of (s.engine).trail) ≤ s.noted → 0 < left_of b → IsStopped t p ls b
+stopped_same {p = p} {ls = ls} same b runs fixpoint noted left =
+    subst (λ x. IsStopped x p ls b) (sym same)
+    (record { runs = runs; fixpoint = fixpoint; noted = noted; left = left })
+
+pub turns_same : {E : Type 0} {result : Result (Option GuidedEnd) E} {s t new : Search} {p : Input}
+    {before after : List LogLine} {had left : BudgetState} → t ≡ s
+    → GuidedTurns result t new p before after had left
+    → GuidedTurns result s new p before after had left
+turns_same {result = result} {new = new} {p = p} {before = before} {after = after} {had = had}
+    {left = left} same turns =
+    subst (λ x. GuidedTurns result x new p before after had left) same turns

@@ -1,11 +1,11 @@
 -- What a solver answers, from what its search does.
 use Rattle.std.proofs.Common.{◌≡◌, ℕ, ◌+◌, true, false, Bool, List, [], ◌++◌, length, take, map}
 use Rattle.std.proofs.Common.{◌⊎◌, inl, inr, refl, sym, ◌∙◌, ap, subst, arith}
-use Rattle.std.specs.Prelude.{Ok, Err, Contains}
+use Rattle.std.specs.Prelude.{Result, Ok, Err, IsErr, Contains}
 use Rattle.std.specs.declared.alloc.AllocError.{AllocError}
 use Rattle.std.proofs.lemmas.Bool.{both_ways, false≢true}
 use Rattle.cnf.specs.Refute.{IsRefutedByHints}
-use Rattle.lrat_log.specs.Log.{LogLine}
+use Rattle.lrat_log.specs.Log.{LogLine, Given}
 use Rattle.lrat_log.specs.Steps.{IsAcceptedLog, StaysLogOver, AddsNoEmptyClause, IsBaseOf}
 use Rattle.lrat_log.specs.Steps.{LearnsNew, nothing_exempt, learned_count}
 use Rattle.cdcl_order.specs.Budgets.{BudgetState, left_of}
@@ -18,7 +18,7 @@ use Rattle.cdcl.specs.declared.outcome.SolveFault.TheVariants.{Memory, Failed}
 use Rattle.cdcl.specs.Solving.{SolverState, Solves, lines_since, OnSat, OnUnsat, OnLimit}
 use Rattle.cdcl.specs.Solving.{SatisfyGiven, IsLiveRefuted, Answer, answer_count}
 use Rattle.cdcl_search.specs.Running.{is_refuted, Writes, IsInput, StaysOpen}
-use Rattle.cdcl.specs.Guiding.{IsRefutedAtOnce, axiom_count}
+use Rattle.cdcl.specs.Guiding.{IsRefutedAtOnce, PaysOpen, axiom_count}
 use Rattle.cdcl.specs.Outcomes.{IsAnswer, PaysFor}
 use Rattle.cdcl.proofs.Answered.{seen_given, given_seen, log_now, ended_log, view_of}
 use Rattle.cdcl.proofs.Answered.{answered_open, since_more, written_short}
@@ -217,3 +217,24 @@ module _ {S : Type 0} (lines : S → List LogLine) {p : Input} {sink : S} {faile
         answers = omega arith;
         same_limit = refl;
       })
+
+-- What a search has paid is what an answer without bits costs.
+
+pub err_without : {E : Type 0} (answer : Result Outcome E) → IsErr answer → answer_count answer ≡ 0
+err_without (Ok o) fails = absurd (false≢true fails)
+err_without (Err e) fails = refl
+
+pub pays_without : {E : Type 0} {given : Given} {a b : List LogLine} (s t : BudgetState)
+    (answer : Result Outcome E) → answer_count answer ≡ 0 → PaysOpen given a b s t
+    → PaysFor answer given a b s t
+pays_without s t answer none pays =
+    let same : s.answers ≡ s.answers + answer_count answer = omega (arith, none) in (
+      pays.0,
+      pays.1,
+      pays.2 ∙ (λ i. record {
+        limit = s.limit;
+        learned = s.learned + pays.0;
+        answers = same i;
+        waived = t.waived;
+      }),
+    )

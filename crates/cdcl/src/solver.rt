@@ -108,14 +108,14 @@ impl<S: Sink> Solver<S> {
         formula.limits();
         let clauses = formula.into_clauses();
         let mut store = store_of(&clauses)?;
+        let given = GivenClauses::of(clauses)?;
+        let first = given.len();
         let mut tally = Tally {
             sink,
             additions: 0,
             refuted: false,
         };
         let mut stack = eliminate(&mut store, &frozen, &mut tally)?;
-        let given = GivenClauses::of(clauses)?;
-        let first = given.len();
         tally.is_short();
         let search = start(store, &mut stack, tally.additions)?;
         Ok(Solver {

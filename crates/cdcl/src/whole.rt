@@ -36,12 +36,12 @@ pub fn start_whole(formula: Formula, room: u32) -> Result<(Search, Input), Alloc
 {
     let variables = formula.vars();
     let clauses = formula.into_clauses();
-    let mut store = store_of(&clauses)?;
-    let mut stack = keep_whole(&mut store, variables + room)?;
     let frozen = freeze_all(clauses.allocator(), variables)?;
+    let mut store = store_of(&clauses)?;
     let given = GivenClauses::of(clauses)?;
     // There are fewer of them than numbers.
     let _ = given.len();
+    let mut stack = keep_whole(&mut store, variables + room)?;
     let search = start(store, &mut stack, 0)?;
     let input = Input {
         stack,

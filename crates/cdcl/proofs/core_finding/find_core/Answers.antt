@@ -1,7 +1,8 @@
-use Rattle.std.proofs.Common.{◌+◌, subst, sym, refl}
+use Rattle.std.proofs.Common.{◌+◌, ◌≤◌, length, subst, sym, refl}
 use Rattle.cdcl_search.specs.declared.search.Search.{Search}
 use Rattle.cdcl_search.specs.Running.{Runs, StaysOpen}
-use Rattle.cdcl_search.specs.Cores.{HasSubset, IsRefusal, IsShown}
+use Rattle.cdcl_search.specs.Cores.{HasSubset, IsCoreClause, IsRefusal, IsShown}
+use Rattle.cdcl_search.specs.Invariant.{zero_of}
 use Rattle.cdcl.specs.Guiding.{PaysOpen}
 use Rattle.cdcl.proofs.Rounds.{open_log}
 use Rattle.cdcl.proofs.Guiding.{finds_none, finds_fails, open_writes, paid_nothing}
@@ -91,4 +92,28 @@ returns-in_ok-learn_core-in-Follows-clause-finds g c =
       );
       kept = waived_of b paid (b.learned + 1) c.count_learned.ensures;
       err = tt;
+    }
+
+pub refuse-requires-clause-ready : goal.refuse-requires-clause-ready
+refuse-requires-clause-ready g c =
+    let runs = c.requires.runs in
+    record {
+      searches = runs.running.searches;
+      room = runs.room;
+      named = runs.running.recorded.names.as_many;
+    }
+
+pub learn_core-requires : goal.learn_core-requires
+learn_core-requires g c =
+    let s = c.args.search.now in
+    let p = c.args.input.now in
+    let ls = g.S.Sink.lines c.args.sink.now in
+    let same = sym c.refuse.ensures.unchanged in
+    let refusal =
+    subst (IsRefusal s c.lits-2.result.now) c.in-Follows.is c.in_ok-refusal.ensures.refusal in
+    record {
+      runs = subst (λ (x : Search). Runs x p ls) same c.requires.runs;
+      noted = subst (λ (x : Search). length (zero_of x.engine.trail) ≤ x.noted) same
+          c.requires.noted;
+      lesson = subst (λ (x : Search). IsCoreClause x c.in-Follows.clause) same refusal.lesson;
     }

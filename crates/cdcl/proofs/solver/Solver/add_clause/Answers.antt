@@ -1,10 +1,11 @@
-use Rattle.std.proofs.Common.{◌≡◌, true, sym, ◌∙◌, ap, subst}
+use Rattle.std.proofs.Common.{◌≡◌, true, refl, sym, ◌∙◌, ap, subst}
 use Rattle.std.specs.Prelude.{All}
 use Rattle.lrat_log.specs.declared.lines.Name.TheVariants.{Formula}
 use Rattle.cdcl.specs.Solving.{given_to}
 use Rattle.cdcl_search.specs.Giving.{IsFrozen, IsFreshName}
 use Rattle.cdcl.specs.Outcomes.{IsSolver}
-use Rattle.cdcl.proofs.Answered.{given_seen, log_now, seen_log}
+use Rattle.cdcl.proofs.Answered.{given_seen, log_now, seen_log, same_grows, same_learned}
+use Rattle.cdcl.proofs.Answered.{same_short}
 use Rattle.cdcl.proofs.GivenClause.{gives_solver, fails_solver, frozen_within}
 use Rattle.cdcl.proofs.solver.Solver.add_clause.Goals as goal
 use Rattle.cdcl.proofs.solver.Solver.add_clause.Goals.{In-Ok, In-Err}
@@ -76,3 +77,42 @@ pub returns-in-Err-clause-lines : goal.returns-in-Err-clause-lines
 returns-in-Err-clause-lines g c =
     let bad = fails g (goal.at.returns-in-Err-clause-lines g c).In-Err in
     log_now c.give.new.input (g.S.Sink.lines c.self.inside.tally.sink) bad.input bad.lines
+
+pub returns-then-self-clause-grows : goal.returns-then-self-clause-grows
+returns-then-self-clause-grows g c = same_grows (g.S.Sink.lines c.args.self.now.sink) refl
+
+pub returns-then-self-clause-none_learned : goal.returns-then-self-clause-none_learned
+returns-then-self-clause-none_learned g c = same_learned (g.S.Sink.lines c.args.self.now.sink) refl
+
+pub returns-then-self-clause-short : goal.returns-then-self-clause-short
+returns-then-self-clause-short g c = same_short (g.S.Sink.lines c.args.self.now.sink) refl
+
+pub returns-in-Ok-clause-grows : goal.returns-in-Ok-clause-grows
+returns-in-Ok-clause-grows g c =
+    same_grows (g.S.Sink.lines c.args.self.now.sink)
+    (ap (λ s. g.S.Sink.lines s.sink) c.self.view_is)
+
+pub returns-in-Ok-clause-none_learned : goal.returns-in-Ok-clause-none_learned
+returns-in-Ok-clause-none_learned g c =
+    same_learned (g.S.Sink.lines c.args.self.now.sink)
+    (ap (λ s. g.S.Sink.lines s.sink) c.self.view_is)
+
+pub returns-in-Ok-clause-short : goal.returns-in-Ok-clause-short
+returns-in-Ok-clause-short g c =
+    same_short (g.S.Sink.lines c.args.self.now.sink)
+    (ap (λ s. g.S.Sink.lines s.sink) c.self.view_is)
+
+pub returns-in-Err-clause-grows : goal.returns-in-Err-clause-grows
+returns-in-Err-clause-grows g c =
+    same_grows (g.S.Sink.lines c.args.self.now.sink)
+    (ap (λ s. g.S.Sink.lines s.sink) c.self.view_is)
+
+pub returns-in-Err-clause-none_learned : goal.returns-in-Err-clause-none_learned
+returns-in-Err-clause-none_learned g c =
+    same_learned (g.S.Sink.lines c.args.self.now.sink)
+    (ap (λ s. g.S.Sink.lines s.sink) c.self.view_is)
+
+pub returns-in-Err-clause-short : goal.returns-in-Err-clause-short
+returns-in-Err-clause-short g c =
+    same_short (g.S.Sink.lines c.args.self.now.sink)
+    (ap (λ s. g.S.Sink.lines s.sink) c.self.view_is)

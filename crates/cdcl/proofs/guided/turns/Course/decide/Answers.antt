@@ -1,16 +1,22 @@
-use Rattle.std.proofs.Common.{subst, sym, ◌∙◌, ap, arith}
-use Rattle.propagate.specs.Trail.{literals_of}
-use Rattle.analyze.specs.Analyzer.{IsFixpoint}
+use Rattle.std.proofs.Common.{◌∙◌, ap, arith}
 use Rattle.cdcl_order.specs.Policies.{PolicyState}
 use Rattle.cdcl_search.specs.declared.search.Search.{Search}
 use Rattle.cdcl.proofs.Rounds.{goes_decided}
-use Rattle.cdcl.proofs.Guiding.{guided_breaks, guided_goes, paid_none}
+use Rattle.cdcl.proofs.Guiding.{guided_breaks, guided_goes, paid_none, stopped_same}
+use Rattle.cdcl.proofs.Guiding.{turns_same}
 use Rattle.cdcl.proofs.guided.turns.Course.decide.Goals as goal
 
-pub branch-self-requires-clause-fixpoint : goal.branch-self-requires-clause-fixpoint
-branch-self-requires-clause-fixpoint g c =
-    subst (λ (s : Search). IsFixpoint s.store.slots (literals_of s.engine.trail))
-    (sym (c.decide_open.ensures.stays c.if-not-decide_open.true)) c.requires.fixpoint
+pub branch-self-requires : goal.branch-self-requires
+branch-self-requires g c =
+    let r = c.requires in
+    let same = c.decide_open.ensures.stays c.if-not-decide_open.true in
+    let s = stopped_same same c.args.self.now.budget.now r.runs r.fixpoint r.noted r.left in
+    record { runs = s.runs; fixpoint = s.fixpoint; noted = s.noted; left = s.left }
+
+pub returns-then-not-decide_open-clause-turns : goal.returns-then-not-decide_open-clause-turns
+returns-then-not-decide_open-clause-turns g c =
+    turns_same (c.decide_open.ensures.stays c.if-not-decide_open.true)
+    c.branch-self.ensures.turns
 
 pub thin_out-requires : goal.thin_out-requires
 thin_out-requires g c =

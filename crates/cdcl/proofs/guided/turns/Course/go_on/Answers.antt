@@ -1,11 +1,7 @@
-use Rattle.std.proofs.Common.{subst, sym}
-use Rattle.propagate.specs.Trail.{literals_of}
-use Rattle.analyze.specs.Analyzer.{IsFixpoint}
-use Rattle.cdcl_search.specs.declared.search.Search.{Search}
-use Rattle.cdcl.specs.Guiding.{IsStopped}
 use Rattle.cdcl.specs.declared.guided.GuidedEnd.TheVariants.{Stopped}
 use Rattle.cdcl.proofs.Rounds.{open_log}
-use Rattle.cdcl.proofs.Guiding.{guided_breaks, guided_ends, paid_nothing}
+use Rattle.cdcl.proofs.Guiding.{guided_breaks, guided_ends, paid_nothing, stopped_same}
+use Rattle.cdcl.proofs.Guiding.{turns_same}
 use Rattle.cdcl.proofs.guided.turns.Course.go_on.Goals as goal
 
 pub returns-in_err-advice-clause-turns : goal.returns-in_err-advice-clause-turns
@@ -26,25 +22,35 @@ returns-in-Stop-clause-turns g c =
     let ls = g.S.Sink.lines o.sink.now in
     let s = o.search.now in
     guided_ends s c.ask.new.search p ls ls b b Stopped
-    (subst (λ x. IsStopped x p ls b) (sym c.in_ok-advice.ensures.unchanged)
-    (record {
-      runs = c.requires.runs;
-      fixpoint = c.requires.fixpoint;
-      noted = c.requires.noted;
-      left = c.requires.left;
-    })) (paid_nothing p.given ls b)
+    (stopped_same c.in_ok-advice.ensures.unchanged b c.requires.runs c.requires.fixpoint
+    c.requires.noted c.requires.left) (paid_nothing p.given ls b)
 
-pub decide-requires-clause-fixpoint : goal.decide-requires-clause-fixpoint
-decide-requires-clause-fixpoint g c =
-    subst (λ (s : Search). IsFixpoint s.store.slots (literals_of s.engine.trail))
-    (sym c.ask.ensures.unchanged) c.requires.fixpoint
+pub decide-requires : goal.decide-requires
+decide-requires g c =
+    let r = c.requires in
+    let b = c.args.self.now.budget.now in
+    let s = stopped_same c.ask.ensures.unchanged b r.runs r.fixpoint r.noted r.left in
+    record { runs = s.runs; fixpoint = s.fixpoint; noted = s.noted; left = s.left }
 
-pub cut-requires-clause-fixpoint : goal.cut-requires-clause-fixpoint
-cut-requires-clause-fixpoint g c =
-    subst (λ (s : Search). IsFixpoint s.store.slots (literals_of s.engine.trail))
-    (sym c.ask.ensures.unchanged) c.requires.fixpoint
+pub cut-requires : goal.cut-requires
+cut-requires g c =
+    let r = c.requires in
+    let b = c.args.self.now.budget.now in
+    let s = stopped_same c.ask.ensures.unchanged b r.runs r.fixpoint r.noted r.left in
+    record { runs = s.runs; fixpoint = s.fixpoint; noted = s.noted; left = s.left }
 
-pub branch-self-requires-clause-fixpoint : goal.branch-self-requires-clause-fixpoint
-branch-self-requires-clause-fixpoint g c =
-    subst (λ (s : Search). IsFixpoint s.store.slots (literals_of s.engine.trail))
-    (sym c.ask.ensures.unchanged) c.requires.fixpoint
+pub branch-self-requires : goal.branch-self-requires
+branch-self-requires g c =
+    let r = c.requires in
+    let b = c.args.self.now.budget.now in
+    let s = stopped_same c.ask.ensures.unchanged b r.runs r.fixpoint r.noted r.left in
+    record { runs = s.runs; fixpoint = s.fixpoint; noted = s.noted; left = s.left }
+
+pub returns-in-Decide-clause-turns : goal.returns-in-Decide-clause-turns
+returns-in-Decide-clause-turns g c = turns_same c.ask.ensures.unchanged c.decide.ensures.turns
+
+pub returns-in-Cut-clause-turns : goal.returns-in-Cut-clause-turns
+returns-in-Cut-clause-turns g c = turns_same c.ask.ensures.unchanged c.cut.ensures.turns
+
+pub returns-in-Explain-clause-turns : goal.returns-in-Explain-clause-turns
+returns-in-Explain-clause-turns g c = turns_same c.ask.ensures.unchanged c.branch-self.ensures.turns

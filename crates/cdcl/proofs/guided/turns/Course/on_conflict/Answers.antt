@@ -1,4 +1,5 @@
-use Rattle.std.proofs.Common.{sym, ◌∙◌, subst, arith}
+use Rattle.std.proofs.Common.{refl, sym, ◌∙◌, subst, arith}
+use Rattle.std.proofs.lemmas.Result.{IfOk-from_err}
 use Rattle.cdcl.specs.declared.guided.GuidedEnd.TheVariants.{Refuted, Spent}
 use Rattle.cdcl_search.specs.Running.{StaysOpen, Writes}
 use Rattle.cdcl_search.proofs.Laws.{writes_none}
@@ -67,3 +68,22 @@ returns-clause-turns g c =
     (goes_learned o.search.now c.learn.new.search p more b paid learns.runs learns.variables
     e.pays e.more (omega (arith, c.left.ensures.left, c.if-left-eq0.false)))
     (1, open_writes p.given ls more 1 learns.writes, e.pays)
+
+pub returns-in_err-write_empty-clause-flat : goal.returns-in_err-write_empty-clause-flat
+returns-in_err-write_empty-clause-flat g c =
+    λ flat. IfOk-from_err c.from_residual.result _ c.from_residual.ensures.0
+
+pub returns-then-depth-eq0-clause-flat : goal.returns-then-depth-eq0-clause-flat
+returns-then-depth-eq0-clause-flat g c = λ flat. refl
+
+pub returns-then-left-eq0-clause-flat : goal.returns-then-left-eq0-clause-flat
+returns-then-left-eq0-clause-flat g c =
+    λ flat. absurd (omega (arith, c.depth.ensures, c.if-depth-eq0.false, flat))
+
+pub returns-in_err-learn-clause-flat : goal.returns-in_err-learn-clause-flat
+returns-in_err-learn-clause-flat g c =
+    λ flat. absurd (omega (arith, c.depth.ensures, c.if-depth-eq0.false, flat))
+
+pub returns-clause-flat : goal.returns-clause-flat
+returns-clause-flat g c =
+    λ flat. absurd (omega (arith, c.depth.ensures, c.if-depth-eq0.false, flat))

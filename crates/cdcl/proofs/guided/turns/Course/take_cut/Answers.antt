@@ -3,6 +3,7 @@ use Rattle.std.proofs.Common.{arith}
 use Rattle.std.proofs.lemmas.Bool.{eqb-true, eqb-false}
 use Rattle.std.proofs.lemmas.List.{nil_from_length}
 use Rattle.cnf.specs.Literal.{Literal}
+use Rattle.propagate.specs.Fits.{IsWithin}
 use Rattle.lrat_log.specs.Log.{axiom_line}
 use Rattle.lrat_log.specs.Axioms.{IsNewClause}
 use Rattle.cdcl_search.specs.Running.{IsEnded, Runs, StaysOpen}
@@ -115,4 +116,27 @@ returns-clause-taking g c =
           c.count_learned.ensures;
       kept = waived_of b c.count_learned.new.self (b.learned + 1) c.count_learned.ensures;
       err = tt;
+    }
+
+pub take_axiom-requires-clause-new : goal.take_axiom-requires-clause-new
+take_axiom-requires-clause-new g c = c.are_apart.ensures.new c.if-not-are_apart.false
+
+pub take_axiom-requires-clause-some : goal.take_axiom-requires-clause-some
+take_axiom-requires-clause-some g c =
+    let long =
+    eqb-false (length c.args.lits.now) 0 (sym c.is_empty.ensures ∙ c.if-is_empty.false) in
+    omega (arith, long)
+
+pub take_axiom-requires-clause-can : goal.take_axiom-requires-clause-can
+take_axiom-requires-clause-can g c =
+    let runs = c.requires.runs in
+    record {
+      ready = record {
+        searches = runs.running.searches;
+        room = runs.room;
+        named = runs.running.recorded.names.as_many;
+      };
+      within =
+          subst (λ v. IsWithin v c.args.lits.now) c.variables-variables.ensures
+          (c.are_apart.ensures.within c.if-not-are_apart.false);
     }
