@@ -28,7 +28,7 @@ use cdcl_guide::assumptions::{Assumptions, Passed, Share};
 use cnf::clause_list::ClauseList;
 use cnf::types::Lit;
 use forms::types::NamedFact;
-use std::alloc::AllocError;
+use std::alloc::{AllocError, Global};
 
 /// About how many literals there are for each assumption in what explains the assumptions that are
 /// passed over in one search.
@@ -59,6 +59,13 @@ pub struct Cores {
     lower: u64,
     // Whether no further core is looked for.
     is_over: bool,
+}
+
+/// A list of one clause, the negations of these literals.
+fn list_negated(alloc: Global, lits: &[Lit]) -> Result<ClauseList, AllocError> {
+    let mut list = ClauseList::new(alloc);
+    list.push(&negations(alloc, lits)?)?;
+    Ok(list)
 }
 
 impl Cores {
@@ -211,7 +218,10 @@ impl Cores {
         let start = desk.learned();
         let mut guide = Assumptions::new(alloc, assumed, share, Passed::new(alloc, room));
         let trial = desk.assume(&mut guide);
-        self.follow(desk, trial, guide.passed(), start)
+        let course = self.follow(desk, trial, guide.passed(), start);
+        // By a call: that is proved once, and not field by field here.
+        drop(guide);
+        course
     }
 
     /// What follows from a search of the stratum: `passed` are the cores that it went past, and
@@ -229,9 +239,7 @@ impl Cores {
             Trial::Refuted | Trial::Spent => Ok(Course::Ended),
             Trial::Met => self.after_solution(desk),
             Trial::Core(lits) => {
-                let alloc = desk.allocator();
-                let mut one = ClauseList::new(alloc);
-                one.push(&negations(alloc, &lits)?)?;
+                let one = list_negated(desk.allocator(), &lits)?;
                 self.take_all(desk, &one, start)
             }
             Trial::Stopped => self.take_all(desk, &passed.clauses, start),
@@ -314,24 +322,38 @@ impl Cores {
         let mut is_idle = true;
         let order = least_common_first(desk.allocator(), cores, desk.last())?;
         for core in &order {
-            if !self.is_open(desk, core) {
-                is_idle = false;
-                continue;
-            }
-            match shorten(desk, &mut self.items, core)? {
-                Shortened::Ended => return Ok(Course::Ended),
-                Shortened::Open => {}
-                Shortened::Core(lits) => {
-                    self.take(desk, lits)?;
-                    self.tell_in_time(desk)?;
-                    is_idle = false;
-                }
+            match self.take_shorter(desk, core)? {
+                Some(is_open) => is_idle = is_idle && is_open,
+                None => return Ok(Course::Ended),
             }
         }
         if is_idle && desk.learned() == start {
             return Ok(Course::Over);
         }
         Ok(Course::GoesOn)
+    }
+
+    /// Shortens a core and takes it, where all its literals have a rest; answers whether it stays
+    /// open, and nothing where the search has ended.
+    fn take_shorter<D: Desk>(
+        &mut self,
+        desk: &mut D,
+        core: &[Lit],
+    ) -> Result<Option<bool>, DeskFault>
+        ensures follows { (first : D) → D.follows first desk.old → D.follows first desk.new }
+    {
+        if !self.is_open(desk, core) {
+            return Ok(Some(false));
+        }
+        match shorten(desk, &mut self.items, core)? {
+            Shortened::Ended => Ok(None),
+            Shortened::Open => Ok(Some(true)),
+            Shortened::Core(lits) => {
+                self.take(desk, lits)?;
+                self.tell_in_time(desk)?;
+                Ok(Some(false))
+            }
+        }
     }
 
     /// Whether all literals of a core have a rest, and none has a value.
@@ -354,12 +376,21 @@ impl Cores {
             return Ok(());
         }
         self.lower = self.lower.saturating_add(weight);
+        self.charge(desk, &lits, weight)?;
+        self.counting.add(lits, weight)?;
+        Ok(())
+    }
+
+    /// Takes the weight from each literal. Where one is the last output of a count, that gets one
+    /// more.
+    fn charge<D: Desk>(&mut self, desk: &mut D, lits: &[Lit], weight: u64) -> Result<(), DeskFault>
+        ensures follows { (first : D) → D.follows first desk.old → D.follows first desk.new }
+    {
         for place in 0..lits.len() {
-            let lit = at(&lits, place);
+            let lit = at(lits, place);
             self.items.charge(lit, weight);
             self.counting.grow_after(desk, &mut self.items, lit)?;
         }
-        self.counting.add(lits, weight)?;
         Ok(())
     }
 

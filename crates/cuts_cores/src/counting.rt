@@ -315,6 +315,9 @@ fn refute<D: Desk>(desk: &mut D, lit: Lit, conflicts: u64) -> Result<(), DeskFau
         until: u64::MAX,
     };
     let mut guide = Assumptions::new(alloc, assumed, share, Passed::new(alloc, 0));
-    desk.assume(&mut guide)?;
+    let trial = desk.assume(&mut guide);
+    // By a call: that is proved once, and not field by field at each exit.
+    drop(guide);
+    trial?;
     Ok(())
 }

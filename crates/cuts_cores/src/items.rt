@@ -30,18 +30,28 @@ impl Items {
         weights: &[Relaxation],
         last: u32,
     ) -> Result<Self, AllocError> {
-        let rows = (last as usize).saturating_mul(2);
         let mut items = Items {
-            rests: Vec::from_elem(alloc, 0, rows)?,
-            listed: Vec::from_elem(alloc, false, rows)?,
+            rests: Vec::new(alloc),
+            listed: Vec::new(alloc),
             list: Vec::new(alloc),
-            origins: Vec::from_elem(alloc, 0, (last as usize).saturating_add(1))?,
-            marks: Vec::from_elem(alloc, false, rows)?,
+            origins: Vec::new(alloc),
+            marks: Vec::new(alloc),
         };
-        for weight in weights {
-            items.credit(weight.lit, weight.weight)?;
-        }
+        items.fill(weights, last)?;
         Ok(items)
+    }
+
+    /// Makes room for variables up to `last`, and takes the relaxation literals.
+    fn fill(&mut self, weights: &[Relaxation], last: u32) -> Result<(), AllocError> {
+        let rows = (last as usize).saturating_mul(2);
+        self.rests.resize(rows, 0)?;
+        self.listed.resize(rows, false)?;
+        self.origins.resize((last as usize).saturating_add(1), 0)?;
+        self.marks.resize(rows, false)?;
+        for weight in weights {
+            self.credit(weight.lit, weight.weight)?;
+        }
+        Ok(())
     }
 
     /// Of a literal and its negation one is true: takes from both what the cheaper one costs, and

@@ -64,16 +64,10 @@ fn search_again<D: Desk>(
 ) -> Result<Shortened, DeskFault>
     ensures follows { (first : D) → D.follows first desk.old → D.follows first desk.new }
 {
-    let share = Share {
-        learned: AGAIN_CONFLICTS,
-        decisions: u64::MAX,
-        until: u64::MAX,
-    };
     let mut core = first;
     let mut is_shown = false;
     for _ in 0..AGAIN {
-        core.sort_by_key(|lit| u64::MAX.saturating_sub(items.rest(*lit)))?;
-        match find_core(desk, &core, core.len(), share)? {
+        match search_under(desk, items, &mut core)? {
             Shortened::Core(shorter) => {
                 let shrinks = shorter.len() < core.len();
                 is_shown = true;
@@ -93,6 +87,23 @@ fn search_again<D: Desk>(
     }
 }
 
+/// Searches under the core once, the dearest first.
+fn search_under<D: Desk>(
+    desk: &mut D,
+    items: &Items,
+    core: &mut Vec<Lit>,
+) -> Result<Shortened, DeskFault>
+    ensures follows { (first : D) → D.follows first desk.old → D.follows first desk.new }
+{
+    let share = Share {
+        learned: AGAIN_CONFLICTS,
+        decisions: u64::MAX,
+        until: u64::MAX,
+    };
+    core.sort_by_key(|lit| u64::MAX.saturating_sub(items.rest(*lit)))?;
+    find_core(desk, core, core.len(), share)
+}
+
 /// Leaves out each literal that is not needed, the cheapest first.
 fn leave_out_each<D: Desk>(
     desk: &mut D,
@@ -101,11 +112,6 @@ fn leave_out_each<D: Desk>(
 ) -> Result<Shortened, DeskFault>
     ensures follows { (first : D) → D.follows first desk.old → D.follows first desk.new }
 {
-    let share = Share {
-        learned: WITHOUT_ONE,
-        decisions: DECISIONS,
-        until: u64::MAX,
-    };
     let mut core = first;
     if core.len() < 2 || core.len() > LONG {
         return Ok(Shortened::Core(core));
@@ -119,13 +125,34 @@ fn leave_out_each<D: Desk>(
         if place >= core.len() || core.len() < 2 || spent > WITHOUT_EACH {
             break;
         }
-        match find_core(desk, &core, place, share)? {
-            Shortened::Core(needed) => place = items.keep_needed(&mut core, &needed, place),
-            Shortened::Open => place = place.saturating_add(1),
-            Shortened::Ended => return Ok(Shortened::Ended),
+        match leave_out(desk, items, &mut core, place)? {
+            Some(next) => place = next,
+            None => return Ok(Shortened::Ended),
         }
     }
     Ok(Shortened::Core(core))
+}
+
+/// Leaves out the literal at a place, if it is not needed; answers the place of the next one, and
+/// nothing where the search has ended.
+fn leave_out<D: Desk>(
+    desk: &mut D,
+    items: &mut Items,
+    core: &mut Vec<Lit>,
+    place: usize,
+) -> Result<Option<usize>, DeskFault>
+    ensures follows { (first : D) → D.follows first desk.old → D.follows first desk.new }
+{
+    let share = Share {
+        learned: WITHOUT_ONE,
+        decisions: DECISIONS,
+        until: u64::MAX,
+    };
+    match find_core(desk, core, place, share)? {
+        Shortened::Core(needed) => Ok(Some(items.keep_needed(core, &needed, place))),
+        Shortened::Open => Ok(Some(place.saturating_add(1))),
+        Shortened::Ended => Ok(None),
+    }
 }
 
 /// Those with the least rest come first.

@@ -1,5 +1,5 @@
 -- The desk came from the first one by its calls alone.
-use Rattle.cuts_cores.proofs.cores.Cores.take.Given as goal
+use Rattle.cuts_cores.proofs.cores.Cores.charge.Given as goal
 
 abbrev pub invariant-loop-place : goal.invariant-loop-place
 invariant-loop-place g l = record {
