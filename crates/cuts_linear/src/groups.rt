@@ -181,24 +181,26 @@ impl Groups {
         let mut last: usize = 0;
         for lits in clauses.iter() {
             clause = clause.saturating_add(1);
-            if let [first, second] = lits {
-                if values.value(*first).is_some() || values.value(*second).is_some() {
-                    continue;
-                }
-                let (from, to) = (first.negation(), second.negation());
+            if let Some((from, to)) = open_pair(lits, values) {
                 last = last.max(from.index()).max(to.index());
-                self.edges.push(Edge { from, to, clause })?;
-                self.edges.push(Edge {
-                    from: to,
-                    to: from,
-                    clause,
-                })?;
+                self.add_edges(from, to, clause)?;
             }
         }
         self.edges
             .sort_by_key(|edge| (edge.from.index(), edge.to.index()))?;
         self.starts.resize(last.saturating_add(2), 0)?;
         self.fill_starts();
+        Ok(())
+    }
+
+    // Both sides of a clause.
+    fn add_edges(&mut self, from: Lit, to: Lit, clause: u32) -> Result<(), AllocError> {
+        self.edges.push(Edge { from, to, clause })?;
+        self.edges.push(Edge {
+            from: to,
+            to: from,
+            clause,
+        })?;
         Ok(())
     }
 
@@ -228,6 +230,19 @@ impl Groups {
 
     // Finds cliques, those around literals with many neighbours first.
     fn find_all(&mut self, alloc: Global) -> Result<(), AllocError> {
+        let order = self.centers(alloc)?;
+        let mut near = Vec::new(alloc);
+        for from in &order {
+            if self.work == 0 {
+                break;
+            }
+            self.find_around(alloc, *from, &mut near)?;
+        }
+        Ok(())
+    }
+
+    // The literals with more than one neighbour, those with many first.
+    fn centers(&self, alloc: Global) -> Result<Vec<Lit>, AllocError> {
         let mut order: Vec<Lit> = Vec::new(alloc);
         for edge in &self.edges {
             let is_new = order.last().copied() != Some(edge.from);
@@ -236,17 +251,25 @@ impl Groups {
             }
         }
         order.sort_by_key(|from| usize::MAX.saturating_sub(self.around(*from).len()))?;
-        let mut near = Vec::new(alloc);
-        for from in &order {
-            near.clear();
-            near.extend_from_slice(self.around(*from))?;
-            near.sort_by_key(|edge| usize::MAX.saturating_sub(self.around(edge.to).len()))?;
-            for first in 0..near.len() {
-                if self.work == 0 {
-                    return Ok(());
-                }
-                self.find_one(alloc, &near, first)?;
+        Ok(order)
+    }
+
+    // Finds cliques around a literal, those with neighbours that have many first; `near` is for
+    // its edges.
+    fn find_around(
+        &mut self,
+        alloc: Global,
+        from: Lit,
+        near: &mut Vec<Edge>,
+    ) -> Result<(), AllocError> {
+        near.clear();
+        near.extend_from_slice(self.around(from))?;
+        near.sort_by_key(|edge| usize::MAX.saturating_sub(self.around(edge.to).len()))?;
+        for first in 0..near.len() {
+            if self.work == 0 {
+                break;
             }
+            self.find_one(alloc, near, first)?;
         }
         Ok(())
     }
@@ -259,15 +282,7 @@ impl Groups {
         if at(&self.covered, edge.clause as usize) {
             return Ok(());
         }
-        let mut members = Vec::new(alloc);
-        members.push(edge.from)?;
-        members.push(edge.to)?;
-        self.work = self.work.saturating_sub(near.len() as u64);
-        for other in near {
-            if members.len() < LARGEST && self.excludes_all(other.to, &members) {
-                members.push(other.to)?;
-            }
-        }
+        let members = self.members(alloc, near, edge.from, edge.to)?;
         set(&mut self.covered, edge.clause as usize, true);
         if members.len() < 3 {
             return Ok(());
@@ -286,6 +301,24 @@ impl Groups {
         Ok(())
     }
 
+    // The ends of an edge, and of the neighbours those that exclude each other.
+    fn members(
+        &mut self,
+        alloc: Global,
+        near: &[Edge],
+        from: Lit,
+        to: Lit,
+    ) -> Result<Vec<Lit>, AllocError> {
+        let mut members = Vec::from_slice(alloc, &[from, to])?;
+        self.work = self.work.saturating_sub(near.len() as u64);
+        for other in near {
+            if members.len() < LARGEST && self.excludes_all(other.to, &members) {
+                members.push(other.to)?;
+            }
+        }
+        Ok(members)
+    }
+
     // Whether no member is true beside this literal, which is a neighbour of the first one.
     fn excludes_all(&mut self, to: Lit, members: &[Lit]) -> bool {
         for member in members.get(1..).unwrap_or(&[]) {
@@ -295,6 +328,16 @@ impl Groups {
             }
         }
         true
+    }
+}
+
+/// The negations of a clause of two literals that are open.
+fn open_pair<V: Values>(lits: &[Lit], values: &V) -> Option<(Lit, Lit)> {
+    match lits {
+        [first, second] if values.value(*first).is_none() && values.value(*second).is_none() => {
+            Some((first.negation(), second.negation()))
+        }
+        _ => None,
     }
 }
 
