@@ -1,6 +1,6 @@
 // The best bits that a search met. Bits that are better take the place of these by the flips that
 // led to them: if each better solution of 200,000 variables is copied, 42 copies use up all visits.
-use crate::checked::{at, set};
+use crate::checked::{at, copy, set};
 use std::alloc::{AllocError, Global};
 
 /// The best bits so far, and the flips that lead from them to those of the search.
@@ -27,7 +27,7 @@ impl Best {
 
     /// A search begins, of which these bits are the best so far.
     pub(crate) fn begin(&mut self, bits: &[bool]) {
-        self.copy(bits);
+        copy(&mut self.bits, bits);
         self.flips = 0;
     }
 
@@ -52,7 +52,7 @@ impl Best {
         let flips = self.flips;
         self.flips = 0;
         if flips > self.flipped.len() {
-            self.copy(bits);
+            copy(&mut self.bits, bits);
             return self.bits.len() as u64;
         }
         for place in 0..flips {
@@ -61,12 +61,5 @@ impl Best {
             }
         }
         flips as u64
-    }
-
-    // All bits become these.
-    fn copy(&mut self, bits: &[bool]) {
-        for (place, bit) in self.bits.iter_mut().enumerate() {
-            *bit = at(bits, place);
-        }
     }
 }

@@ -20,6 +20,13 @@ pub(crate) fn fill<T: Copy + Drop>(table: &mut [T], value: T) {
     }
 }
 
+/// Writes at each place what stands there in the other table.
+pub(crate) fn copy(table: &mut [bool], other: &[bool]) {
+    for (place, bit) in table.iter_mut().enumerate() {
+        *bit = at(other, place);
+    }
+}
+
 /// The number in four bytes; the greatest of those where it has no room.
 pub(crate) fn narrow(number: usize) -> u32 {
     u32::try_from(number).unwrap_or(u32::MAX)

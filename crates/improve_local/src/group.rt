@@ -13,12 +13,18 @@ pub(crate) struct Group {
 }
 
 impl Group {
-    /// None of the numbers below the bound.
-    pub(crate) fn new(alloc: Global, bound: usize) -> Result<Self, AllocError> {
-        let mut members = Vec::new(alloc);
-        members.reserve(bound)?;
-        let places = Vec::from_elem(alloc, 0, bound)?;
-        Ok(Group { members, places })
+    /// None of the numbers below 0.
+    pub(crate) fn new(alloc: Global) -> Self {
+        Group {
+            members: Vec::new(alloc),
+            places: Vec::new(alloc),
+        }
+    }
+
+    /// A group of none gets room for the numbers below the bound.
+    pub(crate) fn size(&mut self, bound: usize) -> Result<(), AllocError> {
+        self.members.reserve(bound)?;
+        self.places.resize(bound, 0)
     }
 
     /// Takes all out.

@@ -51,5 +51,8 @@ fn walk_from(instance: &Instance, bits: &[bool], cost: u64) -> Option<Vec<bool>>
         visits.min(MOST_VISITS),
         visits.saturating_mul(2).min(MOST_VISITS),
     ];
-    search.walk_rounds(instance, bits, cost, &ends).better
+    let found = search.walk_rounds(instance, bits, cost, &ends);
+    // By a call: that is proved once, and not field by field here.
+    drop(search);
+    found.better
 }

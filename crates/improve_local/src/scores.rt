@@ -7,7 +7,7 @@
 // Soft clauses weigh what they cost at the start, and hard ones what a soft one weighs in the mean.
 // Half of that is as good on small texts. On one with 500,000 variables the priced walk then leaves
 // the solutions, and does not come back before its visits are used up.
-use crate::checked::{at, fill, narrow, set};
+use crate::checked::{at, copy, fill, narrow, set};
 use crate::clauses::{Occurrences, count, lits, price};
 use crate::group::Group;
 use cnf::types::{Instance, Lit};
@@ -67,28 +67,46 @@ pub(crate) struct Scores {
 impl Scores {
     /// Tables for bits that are not known yet, each of them false.
     pub(crate) fn new(alloc: Global, instance: &Instance) -> Result<Self, AllocError> {
-        let clauses = count(instance);
-        let variables = instance.vars() as usize;
         let sum = sum_of_prices(instance);
         let scale = if sum < SMALL { UNITS } else { 1 };
         let soft_clauses = instance.soft().len().max(1) as u64;
         let unit = (sum / soft_clauses).saturating_mul(scale) / UNITS;
-        Ok(Scores {
-            bits: Vec::from_elem(alloc, false, variables)?,
-            true_counts: Vec::from_elem(alloc, 0, clauses)?,
-            true_variables: Vec::from_elem(alloc, 0, clauses)?,
-            weights: Vec::from_elem(alloc, 0, clauses)?,
-            scores: Vec::from_elem(alloc, 0, variables)?,
-            good: Group::new(alloc, variables)?,
-            false_hard: Group::new(alloc, clauses)?,
-            false_soft: Group::new(alloc, clauses)?,
+        let mut scores = Scores {
+            bits: Vec::new(alloc),
+            true_counts: Vec::new(alloc),
+            true_variables: Vec::new(alloc),
+            weights: Vec::new(alloc),
+            scores: Vec::new(alloc),
+            good: Group::new(alloc),
+            false_hard: Group::new(alloc),
+            false_soft: Group::new(alloc),
             cost: 0,
             scale,
             unit: i64::try_from(unit).unwrap_or(i64::MAX).max(1),
             next_hard: 0,
             is_weighed: false,
             work: 0,
-        })
+        };
+        match scores.size(instance.vars() as usize, count(instance)) {
+            Ok(()) => Ok(scores),
+            Err(AllocError) => {
+                // By a call: that is proved once, and not field by field here.
+                drop(scores);
+                Err(AllocError)
+            }
+        }
+    }
+
+    // The tables, which are empty, get room for so many variables and clauses.
+    fn size(&mut self, variables: usize, clauses: usize) -> Result<(), AllocError> {
+        self.bits.resize(variables, false)?;
+        self.true_counts.resize(clauses, 0)?;
+        self.true_variables.resize(clauses, 0)?;
+        self.weights.resize(clauses, 0)?;
+        self.scores.resize(variables, 0)?;
+        self.good.size(variables)?;
+        self.false_hard.size(clauses)?;
+        self.false_soft.size(clauses)
     }
 
     /// Begins with these bits, and with the weights that there are, if they are kept; else with
@@ -97,9 +115,7 @@ impl Scores {
         if !(keeps_weights && self.is_weighed) {
             self.weigh_anew(instance);
         }
-        for (place, bit) in self.bits.iter_mut().enumerate() {
-            *bit = at(bits, place);
-        }
+        copy(&mut self.bits, bits);
         fill(&mut self.true_counts, 0);
         fill(&mut self.true_variables, 0);
         fill(&mut self.scores, 0);
