@@ -5,6 +5,7 @@ mod Flat
 mod GivenNumbers
 mod Growing
 mod Ids
+mod Kept
 mod LineTexts
 mod MoreGiven
 mod Names
