@@ -209,7 +209,13 @@ fn read_left(
     let texts = read_texts(alloc, text, answer)?;
     match texts {
         Texts::Refused(verdict) => Ok(Left::Nothing(verdict)),
-        Texts::Read(instance, report) => read_claim(&instance, &report, profile),
+        Texts::Read(instance, report) => {
+            let left = read_claim(&instance, &report, profile);
+            // By calls: that is proved once, and not field by field here.
+            drop(instance);
+            drop(report);
+            left
+        }
     }
 }
 
@@ -227,10 +233,17 @@ pub fn read_texts(alloc: Global, text: &[u8], answer: &[u8]) -> Result<Texts, Al
         Err(fault) if fault.kind == FaultKind::Memory => return Err(AllocError),
         Err(fault) => return Ok(Texts::Refused(Verdict::No(Cause::Text, fault.line))),
     };
+    // Dropped by calls: that is proved once, and not field by field here.
     match read_report(alloc, answer) {
         Ok(report) => Ok(Texts::Read(instance, report)),
-        Err(ReportFault::Form(line)) => Ok(Texts::Refused(Verdict::No(Cause::ResultForm, line))),
-        Err(ReportFault::Memory) => Err(AllocError),
+        Err(ReportFault::Form(line)) => {
+            drop(instance);
+            Ok(Texts::Refused(Verdict::No(Cause::ResultForm, line)))
+        }
+        Err(ReportFault::Memory) => {
+            drop(instance);
+            Err(AllocError)
+        }
     }
 }
 

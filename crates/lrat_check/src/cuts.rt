@@ -52,7 +52,10 @@ pub fn check_cuts_from<R: Read>(
     ensures sound { IfOk result (λ v. v ≡ Verdict.Yes → IsTrueResult text.now answer.now) }
 {
     let texts = read_texts(alloc, text, answer)?;
-    check_cuts_texts(&texts, proof)
+    let verdict = check_cuts_texts(&texts, proof);
+    // By a call: that is proved once, and not field by field here.
+    drop(texts);
+    verdict
 }
 
 /// As `check_cuts_from`, of texts that were read. They stay as they are, so that one certificate

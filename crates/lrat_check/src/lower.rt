@@ -66,7 +66,10 @@ pub fn lower_cuts_from<R: Read>(
     match read(alloc, text) {
         Ok(instance) => {
             instance.limits();
-            judge_own(&instance, proof)
+            let lower = judge_own(&instance, proof);
+            // By a call: that is proved once, and not field by field here.
+            drop(instance);
+            lower
         }
         Err(fault) if fault.kind == FaultKind::Memory => Err(CheckFault::Memory),
         Err(fault) => Ok(LowerVerdict::No(Cause::Text, fault.line)),

@@ -10,16 +10,16 @@ use Rattle.lrat_check.proofs.checking.read_left.Goals as goal
 pub returns-in-Read-clause-verdict : goal.returns-in-Read-clause-verdict
 returns-in-Read-clause-verdict c =
     let k = rw c.in-Read.is at c.in_ok-texts.ensures in
-    IfOk-weaker c.read_claim.result _ _
+    IfOk-weaker c.read_claim-left.result _ _
     (λ left h proof. reported_verdict c.args.profile c.args.text.now c.args.answer.now proof
     c.in-Read.instance k.0 c.in-Read.report k.1 {E = ℕ} (Ok (verdict_left left proof)) (h proof))
-    c.read_claim.ensures.verdict
+    c.read_claim-left.ensures.verdict
 
 pub returns-in-Read-clause-sound : goal.returns-in-Read-clause-sound
 returns-in-Read-clause-sound c =
     let k = rw c.in-Read.is at c.in_ok-texts.ensures in
-    IfOk-weaker c.read_claim.result _ _
+    IfOk-weaker c.read_claim-left.result _ _
     (λ left h. shows_more left _ _
     (λ t. reported_sound c.args.profile c.args.text.now c.args.answer.now [] c.in-Read.instance
     k.0 c.in-Read.report k.1 {E = ℕ} (Ok Yes) (λ _. t) refl) h)
-    c.read_claim.ensures.sound
+    c.read_claim-left.ensures.sound
