@@ -156,7 +156,7 @@ impl<W: Write + Drop> CutsSolver<W> {
             weights,
         } = CutsLog::begin(instance, writer)?;
         let Ok((search, input)) = start_whole(formula, room.min(MOST_ROOM)) else {
-            // By a call: that is proved once, and not field by field here.
+            // By calls: that is proved once, and not field by field here.
             drop(weights);
             drop(log);
             return Err(AllocError);

@@ -3,12 +3,12 @@
 use Rattle.std.proofs.Common.{◌≡◌, ℕ, zero, suc, Bool, true, false, not, ◌&&◌, ◌+◌, ◌-◌, ◌<◌}
 use Rattle.std.proofs.Common.{◌≤◌, List, [], ◌∷◌, ◌++◌, length, ◌⊎◌, inl, inr, refl, sym, ◌∙◌, ap}
 use Rattle.std.proofs.Common.{subst, arith, get_or, set}
-use Rattle.std.specs.Prelude.{if◌then◌else◌, ◌==◌, All, Contains, slice_get, slice_set, unwrap_or}
+use Rattle.std.specs.Prelude.{if◌then◌else◌, All, Contains, slice_get, slice_set, unwrap_or}
 use Rattle.std.specs.List.{AllByRecursion, list_any}
 use Rattle.std.proofs.lemmas.Bool.{not-true, not-false, or_cases, or_parts, and_parts}
 use Rattle.std.proofs.lemmas.Bool.{and_cases, both_ways, cases_eq, eq-eqb, ne_eqb, false≢true}
-use Rattle.std.proofs.lemmas.List.{length-set, get_or-set_same, get_or-set_other}
-use Rattle.std.proofs.lemmas.List.Elements.{All-nil, All-cons, All-contains, All-head, All-tail}
+use Rattle.std.proofs.lemmas.List.{get_or-set_same, get_or-set_other}
+use Rattle.std.proofs.lemmas.List.Elements.{All-nil, All-cons, All-contains}
 use Rattle.std.proofs.lemmas.Option.{unwrap_or-slice_get}
 use Rattle.cnf.specs.Literal.{Literal, Assignment, negation, literal_value}
 pub use Rattle.cnf.specs.Literal.{negative}
@@ -18,7 +18,7 @@ use Rattle.cnf.specs.Bits.{assignment_of}
 use Rattle.cnf.proofs.Laws.{all_from, contained_true, tautologies_true}
 use Rattle.cnf.proofs.Laws.{made_true, made, clause_kept, rest_kept}
 use Rattle.cnf.specs.Literal.{positive}
-use Rattle.reconstruction.specs.Removals.{Removed, becomes_true, is_eliminated, extended}
+use Rattle.reconstruction.specs.Removals.{Removed, becomes_true, extended}
 use Rattle.eliminate.specs.Elimination.{SatisfiesAll}
 use Rattle.reconstruction.proofs.Laws.{extended-append, length-extended}
 use Rattle.eliminate.specs.State.{GivesBack}

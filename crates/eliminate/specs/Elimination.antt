@@ -1,7 +1,6 @@
 -- What elimination leaves of clauses, and what it gives back.
 use Rattle.std.specs.Prelude.{◌≡◌, ℕ, ◌+◌, ◌-◌, ◌<◌, ◌≤◌, Bool, false, List, [], length}
-use Rattle.std.specs.Prelude.{map, Some, slice_get, All, Contains}
-use Rattle.std.specs.Prelude.{nat_eq}
+use Rattle.std.specs.Prelude.{map, Some, All, Contains, nat_eq}
 use Rattle.std.specs.List.{IsDistinct}
 use Rattle.cnf.specs.Literal.{Literal, Assignment}
 use Rattle.cnf.specs.Clause.{Satisfies}

@@ -2,11 +2,10 @@
 // variable are replaced by their resolvents on it, where these are no more and none is long.
 // Variables are tried in the order in which their clauses changed.
 ghost use Rattle.std.specs.Prelude.{◌≡◌, ℕ, ◌*◌, ◌<◌, true, false, length, All, IfOk, OnErr};
-ghost use Rattle.cnf.specs.Literal.{negation};
+ghost use Rattle.cnf.specs.Literal.{negation, positive};
 ghost use Rattle.lrat_log.specs.Log.{IsLine};
 ghost use Rattle.cnf.specs.Marks.{HasPlace};
 ghost use Rattle.reconstruction.specs.Stack.{IsFree};
-ghost use Rattle.cnf.specs.Literal.{positive};
 ghost use Rattle.eliminate_tables.specs.Rows.{AreRows};
 ghost use Rattle.lrat_log.specs.Steps.{added_count};
 ghost use Rattle.eliminate_names.specs.Work.{name_at, delete_line};

@@ -7,7 +7,7 @@ use Rattle.cnf.specs.Clause.{contains_literal, without_literal, is_tautology}
 use Rattle.cnf.specs.Refute.{IsFalseUnder, Clauses, Refutes}
 use Rattle.eliminate_tables.specs.Resolvents.{resolvent}
 use Rattle.cnf.proofs.Laws.{literal_eq-refl, all_from, absent_own, contains_front, contains_back}
-use Rattle.cnf.proofs.Laws.{not_not, negation_twice, literal_eq-negations}
+use Rattle.cnf.proofs.Laws.{negation_twice}
 use Rattle.cnf.proofs.Laws.{contains-negations}
 use Rattle.cnf.proofs.Laws.{Covers, covered_unit, contains_same, contains-filter}
 use Rattle.cnf.proofs.Laws.{filter-contains, without-contains}

@@ -40,8 +40,8 @@ impl Model for Stack {
 }
 
 impl Stack {
-    /// The variables of this number, of which these were eliminated; the last of them first when
-    /// they get their values back. By reference, from 0, the name of each clause that is left.
+    /// A stack of a text with so many variables, of which these were eliminated, and the name of
+    /// each clause that is left, by its reference, from 0.
     pub fn new(vars: u32, removed: Removals, names: Vec<PackedName>) -> Self
         requires { All (IsRemovedWithin vars) removed }
         ensures { result ≡ record {

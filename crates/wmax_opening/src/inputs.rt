@@ -35,14 +35,14 @@ pub struct Inputs<'a, F: Read> {
     /// Where the search begins, if it has such a solution.
     pub start: Option<FirstSolution>,
     /// Where the best solution is kept, if it is to be kept.
-    pub kept: Option<BestPaths<'a>>,
+    pub(crate) kept: Option<BestPaths<'a>>,
 }
 
 /// FILE, which may be a pipe.
 #[derive(Drop)]
 pub struct Source<F: Read> {
     /// What is left of it.
-    pub file: Beginning<F>,
+    pub(crate) file: Beginning<F>,
     /// Which file it is; none where it cannot be looked at.
     here: Option<FileId>,
     /// What it reads as, once it was read.
@@ -86,7 +86,7 @@ impl<F: Read> Source<F> {
 #[derive(Drop)]
 pub struct FirstSolution {
     /// What it costs.
-    pub cost: u64,
+    pub(crate) cost: u64,
     /// Its bits.
     pub bits: Vec<bool>,
 }

@@ -52,7 +52,7 @@ impl From<RunFault> for Refused<'_> {
 
 impl<'a> Refused<'a> {
     /// Why there is no run where this file cannot be read whole.
-    pub fn of_file(fault: RunFault, path: &'a str) -> Self {
+    pub(crate) fn of_file(fault: RunFault, path: &'a str) -> Self {
         Refused::Fault(Fault::of_file(fault, path))
     }
 }

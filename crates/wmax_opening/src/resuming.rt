@@ -30,13 +30,13 @@ pub enum Origin {
 
 /// A certificate that a run goes on with.
 #[derive(Drop)]
-pub struct Resumed<F: Write + Seek + OpenFile> {
+pub(crate) struct Resumed<F: Write + Seek + OpenFile> {
     /// Where the search begins: before the first line where those that are there are of no use.
-    pub origin: Origin,
+    pub(crate) origin: Origin,
     /// Where it goes on.
-    pub proof: ResumedFile<F>,
+    pub(crate) proof: ResumedFile<F>,
     /// Which file that is.
-    pub there: FileId,
+    pub(crate) there: FileId,
 }
 
 /// Reads FILE, opens the certificate at this path, and reads it: FILE judges it. Nothing is written
@@ -47,7 +47,7 @@ pub struct Resumed<F: Write + Seek + OpenFile> {
 /// `Wrong` with its first fault; `Resume`; `Fault` where a file cannot be read, where that of the
 /// certificate cannot be written or looked at, or is one of those that are read, with a fault of
 /// FILE, or with `Memory`.
-pub fn take_certificate<'a, R: Files + AllocGlobal>(
+pub(crate) fn take_certificate<'a, R: Files + AllocGlobal>(
     rt: &R,
     path: &'a str,
     inputs: &mut Inputs<'a, R::File>,

@@ -1,5 +1,4 @@
 -- The texts are those that were read.
-use Rattle.std.proofs.lemmas.Result.{IfOk-weaker}
 use Rattle.lrat_check.proofs.cuts.check_cuts_from.Goals as goal
 
 pub returns-clause-verdict : goal.returns-clause-verdict
