@@ -16,20 +16,15 @@ use crate::ordering::put_in_order;
 use clauses::store::{CRef, Store};
 use cnf::types::Lit;
 use propagate::engine::Engine;
-use smallvec::SmallVec;
 use std::alloc::{AllocError, Global};
 use std::marker::Model;
-
-/// The most literals that a learned clause keeps inline, so that it takes no memory except for its
-/// hints.
-pub const SHORT: usize = 8;
 
 /// A clause that follows, and what shows it.
 #[derive(Drop)]
 pub struct Learned {
     /// The first is the asserting literal, the only one of the current level. The others are of
     /// lower levels above 0.
-    pub lits: SmallVec<Lit, SHORT>,
+    pub lits: Vec<Lit>,
     /// The level to backtrack to: the greatest of the other literals, or 0.
     pub back_level: u32,
     /// Clauses that are unit in turn where all these literals are false and those of level 0 hold,
@@ -42,7 +37,7 @@ pub struct Learned {
 pub struct FinalClause {
     /// The first is the negation of the literal, which is true. The others are false, and of levels
     /// above 0: the negations of the decisions on which it rests.
-    pub lits: SmallVec<Lit, SHORT>,
+    pub lits: Vec<Lit>,
     /// Clauses that are unit in turn where all these literals are false and those of level 0 hold,
     /// in the order of the trail, and last the reason of the first, which is false then.
     pub hints: Vec<CRef>,
@@ -200,7 +195,7 @@ fn learn(
     put_in_order(engine, marking);
     marking.list.clear();
     let alloc = store.allocator();
-    let mut lits = SmallVec::new(alloc);
+    let mut lits = Vec::new(alloc);
     // Room for all at once, so that they do not grow step by step.
     let mut hints = Vec::with_capacity(alloc, marking.met.len() + 1)?;
     let derivation = Derivation {

@@ -4,12 +4,10 @@ ghost use Rattle.analyze.specs.Analyzer.{greatest_level, chosen_reasons};
 ghost use Rattle.analyze.specs.Met.{GoesAlong};
 ghost use Rattle.analyze.specs.Marks.{learned_from, resolved_of};
 
-use crate::analyzer::SHORT;
 use crate::marks::{Mark, Marking, literal_at};
 use clauses::store::CRef;
 use cnf::types::Lit;
 use propagate::engine::Engine;
-use smallvec::SmallVec;
 use std::alloc::AllocError;
 
 /// Where the resolution of a clause began and ended.
@@ -27,7 +25,7 @@ pub(crate) fn collect(
     engine: &Engine,
     derivation: &Derivation,
     marking: &Marking,
-    lits: &mut SmallVec<Lit, SHORT>,
+    lits: &mut Vec<Lit>,
     hints: &mut Vec<CRef>,
 ) -> Result<(), AllocError>
     requires along { GoesAlong engine.now marking.now.marks.items marking.now.met.items }

@@ -18,7 +18,6 @@ use crate::ordering::put_in_order;
 use clauses::store::{CRef, Store};
 use cnf::types::Lit;
 use propagate::engine::Engine;
-use smallvec::SmallVec;
 use std::alloc::AllocError;
 
 /// Resolves the marked variables before the literal's, the last first, by their reasons.
@@ -63,7 +62,7 @@ pub(crate) fn learn_final(
     resolve_before(engine, store, falsified, marking);
     put_in_order(engine, marking);
     let alloc = store.allocator();
-    let mut lits = SmallVec::new(alloc);
+    let mut lits = Vec::new(alloc);
     // Room for all at once, so that they do not grow step by step.
     let mut hints = Vec::with_capacity(alloc, marking.met.len() + 1)?;
     let derivation = Derivation {

@@ -7,7 +7,7 @@ ghost use Rattle.cdcl_search.specs.Running.{Runs};
 ghost use Rattle.cdcl.specs.Guiding.{FindsCore};
 
 use crate::budget::Budget;
-use cdcl_guide::assumptions::Assumptions;
+use cdcl_search::assumptions::Assumptions;
 use cdcl_search::cores::{Refusal, learn_core};
 use cdcl_search::input::Input;
 use cdcl_search::search::Search;

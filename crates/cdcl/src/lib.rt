@@ -1,9 +1,8 @@
 //! Conflict-driven clause learning (CDCL) under a budget.
 #![tactic(auto)]
 
-pub use cdcl_guide::{assumptions, guide};
 pub use cdcl_order::{budget, watch};
-pub use cdcl_search::given;
+pub use cdcl_search::{assumptions, given, guide};
 
 pub mod answers;
 pub mod core_finding;

@@ -1,7 +1,7 @@
 // A guide that leaves all to the policy.
 ghost use Rattle.std.specs.Prelude.{⊤};
 
-use cdcl_guide::guide::{Advice, Guide};
+use cdcl_search::guide::{Advice, Guide};
 use cdcl_search::search::Search;
 use std::alloc::AllocError;
 

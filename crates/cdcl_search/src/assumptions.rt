@@ -4,7 +4,7 @@
 ghost use Rattle.std.specs.Prelude.{◌≡◌, []};
 
 use crate::guide::{Advice, Guide};
-use cdcl_search::search::Search;
+use crate::search::Search;
 use cnf::clause_list::ClauseList;
 use cnf::types::Lit;
 use propagate::engine::Engine;

@@ -3,7 +3,7 @@
 ghost use Rattle.std.specs.Prelude.{◌≡◌, Ok, ⊤};
 ghost use Rattle.cdcl_search.specs.Running.{IsReady};
 
-use cdcl_search::search::Search;
+use crate::search::Search;
 use cnf::types::Lit;
 use std::alloc::AllocError;
 

@@ -24,7 +24,7 @@ use crate::resuming::resume_cores;
 use crate::shortening::{Shortened, negations, shorten};
 use crate::tables::at;
 use adder::relaxations::Relaxation;
-use cdcl_guide::assumptions::{Assumptions, Passed, Share};
+use cdcl_search::assumptions::{Assumptions, Passed, Share};
 use cnf::clause_list::ClauseList;
 use cnf::types::Lit;
 use forms::types::NamedFact;

@@ -13,7 +13,7 @@ use crate::desk::{Desk, DeskFault};
 use crate::items::Items;
 use crate::shortening::negations;
 use adder::relaxations::Relaxation;
-use cdcl_guide::assumptions::{Assumptions, Passed, Share};
+use cdcl_search::assumptions::{Assumptions, Passed, Share};
 use cnf::types::Lit;
 use std::alloc::{AllocError, Global};
 

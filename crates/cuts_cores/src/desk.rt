@@ -2,9 +2,9 @@
 //! solution.
 ghost use Rattle.std.specs.Prelude.{◌≡◌, ℕ, ◌≤◌, true, IsTrue};
 
-use cdcl_guide::assumptions::Assumptions;
-use cdcl_guide::guide::Guide;
 use cdcl_order::watch::Way;
+use cdcl_search::assumptions::Assumptions;
+use cdcl_search::guide::Guide;
 use cnf::types::{Formula, Lit};
 use forms::state::Forms;
 use forms::types::NamedFact;

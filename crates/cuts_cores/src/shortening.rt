@@ -6,7 +6,7 @@
 
 use crate::desk::{Desk, DeskFault, Trial};
 use crate::items::Items;
-use cdcl_guide::assumptions::{Assumptions, Passed, Share};
+use cdcl_search::assumptions::{Assumptions, Passed, Share};
 use cnf::types::Lit;
 use std::alloc::{AllocError, Global};
 

@@ -10,7 +10,7 @@ ghost use Rattle.std.specs.Prelude.{⊤};
 
 use crate::line::Line;
 use crate::node::{Node, Trailed};
-use cdcl_guide::guide::{Advice, Guide};
+use cdcl_search::guide::{Advice, Guide};
 use cdcl_search::search::Search;
 use cnf::limits::VARIABLE_LIMIT;
 use cnf::types::Lit;

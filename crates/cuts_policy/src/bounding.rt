@@ -15,7 +15,7 @@
 ghost use Rattle.std.specs.Prelude.{◌<◌, ⊤};
 ghost use Rattle.cnf.specs.declared.limits.TheConstants.{VARIABLE_LIMIT};
 
-use cdcl_guide::guide::{Advice, Guide};
+use cdcl_search::guide::{Advice, Guide};
 use cdcl_search::search::Search;
 use cnf::types::Lit;
 use cuts_cores::desk::{Desk, DeskFault};

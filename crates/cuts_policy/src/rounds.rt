@@ -19,7 +19,7 @@ use crate::bounding::BoundGuide;
 use crate::linear_bounds::LinearBounds;
 use crate::walks::Walks;
 use adder::relaxations::Relaxation;
-use cdcl_guide::assumptions::{Assumptions, Passed, Share};
+use cdcl_search::assumptions::{Assumptions, Passed, Share};
 use cuts_cores::cores::{Cores, Course};
 use cuts_cores::desk::{Descent, Desk, DeskFault};
 use cuts_cores::tables::set;

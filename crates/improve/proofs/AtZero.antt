@@ -12,9 +12,9 @@ use Rattle.lrat_log.specs.Log.{LogLine}
 use Rattle.lrat_log.proofs.Laws.{numbered_right}
 use Rattle.adder.specs.declared.profiles.Profile.{Profile}
 use Rattle.bound.specs.Bound.{bound_as, fixed_clauses}
-use Rattle.improve.specs.Improving.{IsSolution, IsAcceptedOver, IsClauseCount, IsRightFound}
-use Rattle.improve.specs.Improving.{repeats_empty}
-use Rattle.improve.specs.declared.found.Found.TheVariants.{Optimum}
+use Rattle.improve_found.specs.Solutions.{IsSolution}
+use Rattle.improve.specs.Improving.{IsAcceptedOver, IsClauseCount, IsRightFound, repeats_empty}
+use Rattle.improve_found.specs.declared.found.Found.TheVariants.{Optimum}
 
 -- its number is that of the clauses
 empty_accepted : (cs : List (List Literal)) (n : ℕ) → n ≡ length (cs ++ [] ∷ [])

@@ -1,7 +1,7 @@
 -- Bits that satisfy all that was given are a solution that is cheaper than the last bound.
 use Rattle.std.proofs.Common.{◌≡◌, ℕ, zero, suc, ◌+◌, ◌^◌, ◌<◌, ◌≤◌, Bool, true, List, [], ◌∷◌}
-use Rattle.std.proofs.Common.{◌++◌}
-use Rattle.std.proofs.Common.{length, inr, append_assoc, refl, sym, ◌∙◌, ap, subst, arith, All}
+use Rattle.std.proofs.Common.{◌++◌, length, inr, append_assoc, refl, sym, ◌∙◌, ap, subst, arith}
+use Rattle.std.proofs.Common.{All}
 use Rattle.std.specs.List.{AllByRecursion, flat_map}
 use Rattle.std.proofs.lemmas.List.Elements.{recursion_from_All, All-from_recursion, All-map}
 use Rattle.std.proofs.lemmas.List.Elements.{Contains-push}
@@ -19,14 +19,12 @@ use Rattle.std.proofs.lemmas.List.Sums.{sum_by-append}
 use Rattle.lrat_log.specs.Log.{LogLine, is_learned, clauses_in}
 use Rattle.lrat_log.specs.Steps.{IsLogOver, IsBaseOf, LearnsNew, is_later, nothing_exempt}
 use Rattle.lrat_log.specs.Steps.{learned_count, given_of}
-use Rattle.lrat_log.proofs.Laws.{base_of}
+use Rattle.lrat_log.proofs.Laws.{base_of, new_searched}
 use Rattle.improve.specs.Frozen.{AreFrozen}
 use Rattle.cdcl.specs.Solving.{given_to, SatisfyGiven, SameGiven, IsPlainlyRefuted, lines_since}
-use Rattle.improve.specs.Improving.{IsSolution, IsCostOfSome, AreFalling}
 use Rattle.improve.specs.Bounds.{LogSolver, IsOver}
 use Rattle.cnf.specs.Formula.{Cnf}
 use Rattle.std.proofs.lemmas.List.{length-map}
-use Rattle.lrat_log.proofs.Laws.{new_searched}
 use Rattle.improve.specs.declared.bounds.Bounds.{Bounds}
 use Rattle.cnf.proofs.Laws.{extends_own, all_left, all_right, all_append}
 use Rattle.improve.proofs.Comparators.{variables_within}
@@ -70,18 +68,6 @@ pub bits_long : (p : Problem) (b : Bounds) (bits : List Bool) → IsOver p b
     → length bits ≡ ((b.solver).formula).variables → p.variables ≤ length bits
 bits_long p b bits h e =
     omega (arith, ap (λ f. f.variables) h.formula, variables_within b.profile p (2 ^ 62))
-
--- a solution's cost is that of some assignment, and cheaper ones go on falling
-pub cost_of_solution : (p : Problem) (bits : List Bool) (c : ℕ) → IsSolution p bits c
-    → IsCostOfSome p c
-cost_of_solution p bits c s =
-    let t = assignment_of bits in (t, (s.1 t (extends_own bits)).0, (s.1 t (extends_own bits)).1)
-
-pub falling_more : (costs : List ℕ) (c d : ℕ) → AreFalling (costs ++ c ∷ []) → d < c
-    → AreFalling ((costs ++ c ∷ []) ++ d ∷ [])
-falling_more [] c d h lt = (lt, tt)
-falling_more (x ∷ []) c d h lt = (h.0, (lt, tt))
-falling_more (x ∷ y ∷ costs) c d h lt = (h.0, falling_more (y ∷ costs) c d h.1 lt)
 
 -- after a search the same clauses are given
 pub solved_over : (p : Problem) (b : Bounds) (s : LogSolver) → IsOver p b → SameGiven b.solver s

@@ -15,19 +15,16 @@ use Rattle.lrat_log.specs.declared.lines.Name.{Name}
 use Rattle.lrat_log.specs.Log.{LogLine, numbered_lines, clauses_in}
 use Rattle.lrat_log.specs.Steps.{IsLogOver, IsAcceptedLog, IsBaseOf, AddsNoEmptyClause, LearnsNew}
 use Rattle.lrat_log.specs.Steps.{nothing_exempt, learned_count}
-use Rattle.lrat_log.proofs.Laws.{base_of, clauses_given}
-use Rattle.lrat_log.proofs.Laws.{accepts_of_log, steps_of_log}
+use Rattle.lrat_log.proofs.Laws.{base_of, clauses_given, accepts_of_log, steps_of_log, first_new}
 use Rattle.adder.specs.declared.profiles.Profile.{Profile}
 use Rattle.bound.specs.Bound.{hard_cnf}
-use Rattle.bound.proofs.Laws.{feasible}
-use Rattle.bound.proofs.Laws.{hard_few}
+use Rattle.bound.proofs.Laws.{feasible, hard_few}
 use Rattle.cdcl.specs.Solving.{given_to, SatisfyGiven, SameGiven, IsPlainlyRefuted, lines_since}
 use Rattle.improve.specs.Improving.{IsHardLog, IsRightFound}
-use Rattle.improve.specs.Standing.{AreFeasible}
+use Rattle.improve_found.specs.Solutions.{AreFeasible}
 use Rattle.improve.specs.Bounds.{LogSolver, IsOverHard}
-use Rattle.improve.specs.declared.found.Work.{Work}
-use Rattle.improve.specs.declared.found.Found.TheVariants.{Unsat, Nothing}
-use Rattle.lrat_log.proofs.Laws.{first_new}
+use Rattle.improve_found.specs.declared.found.Work.{Work}
+use Rattle.improve_found.specs.declared.found.Found.TheVariants.{Unsat, Nothing}
 use Rattle.improve.proofs.CheaperBits.{same_given, learned_more}
 
 -- a log without lines is one

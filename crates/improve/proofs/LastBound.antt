@@ -15,25 +15,24 @@ use Rattle.cnf.specs.Problem.{Problem}
 use Rattle.cnf.specs.Instance.{IsInstance}
 use Rattle.lrat_log.specs.declared.lines.Name.{Name}
 use Rattle.lrat_log.specs.Log.{LogLine, clauses_in}
-use Rattle.lrat_log.specs.Steps.{IsLogOver, IsAcceptedLog, AddsNoEmptyClause}
-use Rattle.lrat_log.specs.Steps.{LearnsNew, is_later, learned_count, given_of}
+use Rattle.lrat_log.specs.Steps.{IsLogOver, IsAcceptedLog, AddsNoEmptyClause, LearnsNew, is_later}
+use Rattle.lrat_log.specs.Steps.{learned_count, given_of}
 use Rattle.lrat_log.specs.Rebase.{WeakerList, rebased, IsWeakerOf, IsSomeClause, KeepsLog}
+use Rattle.lrat_log.specs.Rebase.{weaker_list}
 use Rattle.adder.specs.declared.profiles.Profile.{Profile}
 use Rattle.adder.specs.Network.{adders_as}
 use Rattle.bound.specs.Bound.{bound_as, fixed_clauses, comparator_for}
 use Rattle.bound.proofs.Laws.{covers_larger, without_bound, bound_is_formula}
 use Rattle.lrat_log.proofs.Laws.{numbered_right, open_rebased, learned_rebased}
 use Rattle.cdcl.specs.Solving.{given_to}
-use Rattle.improve.specs.Improving.{AreFalling}
+use Rattle.improve_found.specs.Progress.{AreFalling}
 use Rattle.improve.specs.Weaker.{first_subset, weaker_among}
-use Rattle.improve.specs.Bounds.{IsOver}
+use Rattle.improve.specs.Bounds.{IsOver, BoundLog}
 use Rattle.improve.specs.declared.bounds.Bounds.{Bounds}
 use Rattle.cnf.specs.Lrat.{IsId}
 use Rattle.cnf.proofs.Laws.{all_right, all_append, all_weaker, all_both, all_mapped}
-use Rattle.lrat_log.specs.Rebase.{weaker_list}
 use Rattle.std.specs.declared.vec.Vec.{Vec}
 use Rattle.std.specs.declared.alloc.Global.{Global}
-use Rattle.improve.specs.Bounds.{BoundLog}
 use Rattle.improve.proofs.Comparators.{compared_some}
 use Rattle.improve.proofs.GivenParts.{clause_ids, entries_are, entry_literals}
 

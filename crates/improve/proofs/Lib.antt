@@ -1,6 +1,4 @@
-mod Told
 mod Numbering
-mod BitLaws
 mod Comparators
 mod FrozenOutputs
 mod OverBounds
@@ -12,7 +10,4 @@ mod CheaperBits
 mod AtZero
 mod SearchEnds
 mod HardEnds
-mod Lowering
 mod Standings
-mod Shown
-pub mod Laws

@@ -17,16 +17,17 @@ use Rattle.lrat_log.specs.Rebase.{weaker_line, moved_line, rebased}
 use Rattle.lrat_log.proofs.Laws.{accepts_of_log, steps_of_log}
 use Rattle.adder.specs.declared.profiles.Profile.{Profile}
 use Rattle.bound.specs.Bound.{bound_as, fixed_clauses, comparator_for}
-use Rattle.bound.proofs.Laws.{says_cheaper}
-use Rattle.bound.proofs.Laws.{clauses_few}
+use Rattle.bound.proofs.Laws.{says_cheaper, clauses_few}
 use Rattle.cdcl.specs.Solving.{given_to}
-use Rattle.improve.specs.Improving.{IsSolution, EndsWith, AreFalling, IsAcceptedOver, IsHardLog}
-use Rattle.improve.specs.Improving.{IsRightFound, BeginsWithWeaker, but_last, weaker_for}
+use Rattle.improve_found.specs.Solutions.{IsSolution}
+use Rattle.improve_found.specs.Progress.{EndsWith, AreFalling}
+use Rattle.improve.specs.Improving.{IsAcceptedOver, IsHardLog, IsRightFound, BeginsWithWeaker}
+use Rattle.improve.specs.Improving.{but_last, weaker_for}
 use Rattle.improve.specs.Weaker.{first_subset, weaker_among}
 use Rattle.improve.specs.Bounds.{IsOver, BoundLog}
 use Rattle.improve.specs.declared.bounds.Bounds.{Bounds}
-use Rattle.improve.specs.declared.found.Found.TheVariants.{Optimum, Best}
-use Rattle.improve.specs.declared.found.Work.{Work}
+use Rattle.improve_found.specs.declared.found.Found.TheVariants.{Optimum, Best}
+use Rattle.improve_found.specs.declared.found.Work.{Work}
 
 but_last-end : (before : List ℕ) (c : ℕ) → but_last (before ++ c ∷ []) ≡ before
 but_last-end [] c = refl

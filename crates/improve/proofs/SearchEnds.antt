@@ -5,12 +5,14 @@ use Rattle.std.specs.Prelude.{IfOk, IfErr}
 use Rattle.cnf.specs.Problem.{Problem}
 use Rattle.adder.specs.declared.profiles.Profile.{Profile}
 use Rattle.cdcl_order.specs.Budgets.{BudgetState, left_of}
-use Rattle.improve.specs.declared.found.Found.{Found}
-use Rattle.improve.specs.declared.found.ImproveFault.{ImproveFault}
-use Rattle.improve.specs.declared.found.ImproveFault.TheVariants.{Memory, Progress}
-use Rattle.improve.specs.Progress.{Telling}
-use Rattle.improve.specs.Improving.{AreFalling, IsCostOfSome, IsRightFound, Improves}
-use Rattle.improve.specs.Improving.{OnWork, work_count}
+use Rattle.improve_found.specs.declared.found.Found.{Found}
+use Rattle.improve_found.specs.declared.found.Found.TheVariants.{Optimum, Unsat, Best, Nothing}
+use Rattle.improve_found.specs.declared.found.Work.{Work}
+use Rattle.improve_found.specs.declared.found.ImproveFault.{ImproveFault}
+use Rattle.improve_found.specs.declared.found.ImproveFault.TheVariants.{Memory, Progress}
+use Rattle.improve_found.specs.Progress.{Telling, AreFalling}
+use Rattle.improve_found.specs.Solutions.{IsCostOfSome}
+use Rattle.improve.specs.Improving.{IsRightFound, Improves, OnWork, work_count}
 
 module _ (profile : Profile) (p : Problem) (old new : Telling) (before left : BudgetState)
     (limit : left.limit ≡ before.limit) (costs : List ℕ) (tells : new.told ≡ old.told ++ costs)
@@ -76,3 +78,12 @@ module _ (profile : Profile) (p : Problem) (old new : Telling) (before left : Bu
     found_end (Err e) falling honest same fault right answers learned spent =
         subst (λ x. Improves profile p (Err x) old new before left) (sym fault)
         (memory_end falling honest same)
+
+-- what holds of the work of an answer, and implies something else of it
+pub on_work_weaker : (r : Result Found ImproveFault) (P Q : Work → Type 0)
+    → ((w : Work) → P w → Q w) → OnWork r P → OnWork r Q
+on_work_weaker (Ok (Optimum c bits log clauses)) P Q f h = tt
+on_work_weaker (Ok (Unsat log clauses)) P Q f h = tt
+on_work_weaker (Ok (Best c bits work)) P Q f h = f work h
+on_work_weaker (Ok (Nothing work)) P Q f h = f work h
+on_work_weaker (Err e) P Q f h = tt

@@ -9,21 +9,19 @@ use Rattle.cnf.specs.Problem.{Problem}
 use Rattle.lrat_log.specs.Steps.{learned_count}
 use Rattle.adder.specs.declared.profiles.Profile.{Profile}
 use Rattle.cdcl_order.specs.Budgets.{BudgetState, left_of}
-use Rattle.improve.specs.declared.found.Found.{Found}
-use Rattle.improve.specs.declared.found.ImproveFault.{ImproveFault}
-use Rattle.improve.specs.declared.found.ImproveFault.TheVariants.{Memory, Progress}
-use Rattle.improve.specs.Progress.{Telling, with_told, with_failed}
-use Rattle.improve.specs.Improving.{IsSolution, IsCostOfSome, AreFalling, IsRightFound, OnWork}
-use Rattle.improve.specs.Improving.{work_count}
+use Rattle.improve_found.specs.declared.found.Found.{Found}
+use Rattle.improve_found.specs.declared.found.ImproveFault.{ImproveFault}
+use Rattle.improve_found.specs.declared.found.ImproveFault.TheVariants.{Memory, Progress}
+use Rattle.improve_found.specs.Progress.{Telling, with_told, with_failed, AreFalling}
+use Rattle.improve_found.specs.Solutions.{IsSolution, IsCostOfSome}
+use Rattle.improve.specs.Improving.{IsRightFound, OnWork, work_count}
 use Rattle.improve.specs.Standing.{Standing, starting_with, costs_of, IsStanding, MovesStanding}
-use Rattle.improve.specs.Standing.{Descends}
-use Rattle.improve.specs.Standing.{Ends, Fails}
+use Rattle.improve.specs.Standing.{Descends, Ends, Fails}
 use Rattle.improve.specs.Bounds.{HasLast, HasNoBound}
 use Rattle.improve.specs.declared.bounds.Bounds.{Bounds}
-use Rattle.improve.specs.declared.solutions.Solution.{Solution}
-use Rattle.improve.proofs.SearchEnds.{memory_end, progress_end, found_end}
-use Rattle.improve.proofs.CheaperBits.{cost_of_solution, falling_more}
-use Rattle.improve.proofs.Lowering.{on_work_weaker}
+use Rattle.improve_found.specs.declared.solutions.Solution.{Solution}
+use Rattle.improve.proofs.SearchEnds.{memory_end, progress_end, found_end, on_work_weaker}
+use Rattle.improve_found.proofs.Laws.{cost_of_solution, falling_more}
 
 -- the costs told, with the best one, are costs of solutions
 pub honest_costs : (p : Problem) (s : Standing) → IsStanding p s → All (IsCostOfSome p) (costs_of s)

@@ -5,16 +5,17 @@ use Rattle.cnf.specs.Problem.{Problem}
 use Rattle.cnf.specs.Instance.{IsInstance}
 use Rattle.cnf.specs.declared.limits.TheConstants.{NUMBER_LIMIT}
 use Rattle.lrat_log.specs.Log.{LogLine, clauses_in}
-use Rattle.lrat_log.specs.Steps.{IsLogOver, IsAcceptedLog, AddsNoEmptyClause, LearnsNew}
-use Rattle.lrat_log.specs.Steps.{is_later, learned_count, given_of}
+use Rattle.lrat_log.specs.Steps.{IsLogOver, IsAcceptedLog, AddsNoEmptyClause, LearnsNew, is_later}
+use Rattle.lrat_log.specs.Steps.{learned_count, given_of}
 use Rattle.lrat_log.specs.Rebase.{rebased}
 use Rattle.adder.specs.declared.profiles.Profile.{Profile}
 use Rattle.adder.specs.Network.{adders_as}
 use Rattle.bound.specs.Bound.{hard_cnf, bound_as, fixed_clauses, comparator_for}
 use Rattle.cdcl.specs.Solving.{SolverState, given_to}
 use Rattle.improve.specs.Frozen.{AreFrozen}
-use Rattle.improve.specs.Improving.{AreFalling, IsSolution, IsNewOver}
-use Rattle.improve.specs.Improving.{comparators_for, weaker_before}
+use Rattle.improve_found.specs.Progress.{AreFalling}
+use Rattle.improve_found.specs.Solutions.{IsSolution}
+use Rattle.improve.specs.Improving.{IsNewOver, comparators_for, weaker_before}
 use Rattle.improve.specs.declared.bounds.Bounds.{Bounds}
 use Rattle.improve.specs.declared.bounds.Next.{Next}
 use Rattle.improve.specs.declared.bounds.Next.TheVariants.{Cheaper, Refuted, Spent}

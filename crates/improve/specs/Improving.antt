@@ -1,11 +1,10 @@
 -- What the improving search finds.
-use Rattle.std.specs.Prelude.{◌≡◌, ◌+◌, ◌<◌, [], ◌∷◌, ◌++◌, ⊤}
-use Rattle.std.specs.Prelude.{ℕ, Bool, List, length, map, All}
-use Rattle.std.specs.Prelude.{Option, Some, Result, Ok, Err, IfOk, OnOk}
+use Rattle.std.specs.Prelude.{◌≡◌, ◌+◌, ◌<◌, [], ◌∷◌, ◌++◌, ⊤, ℕ, Bool, List, length, map, All}
+use Rattle.std.specs.Prelude.{Result, Ok, Err, IfOk, OnOk}
 use Rattle.std.specs.List.{flat_map}
 use Rattle.cnf.specs.Literal.{Literal, Assignment}
 use Rattle.cnf.specs.Bits.{Extends}
-use Rattle.cnf.specs.Problem.{Problem, IsFeasible, cost_under, IsOptimal, IsInconsistent}
+use Rattle.cnf.specs.Problem.{Problem, IsOptimal, IsInconsistent}
 use Rattle.cnf.specs.Refute.{IsRefutedByHints}
 use Rattle.cnf.specs.Lrat.{start_of, Accepts}
 use Rattle.cnf.specs.declared.limits.TheConstants.{CLAUSE_LIMIT}
@@ -13,37 +12,20 @@ use Rattle.lrat_log.specs.declared.lines.Name.TheVariants.{Formula}
 use Rattle.lrat_log.specs.declared.lines.Hint.TheVariants.{Plain}
 use Rattle.lrat_log.specs.declared.lines.Kind.TheVariants.{Empty}
 use Rattle.lrat_log.specs.Log.{LogLine, numbered_lines}
-use Rattle.lrat_log.specs.Steps.{AreSteps, AddsNoEmptyClause, LearnsNew}
-use Rattle.lrat_log.specs.Steps.{nothing_exempt, is_later, given_of, learned_count}
+use Rattle.lrat_log.specs.Steps.{AreSteps, AddsNoEmptyClause, LearnsNew, nothing_exempt, is_later}
+use Rattle.lrat_log.specs.Steps.{given_of, learned_count}
 use Rattle.lrat_log.specs.Rebase.{WeakerList, weaker_line}
 use Rattle.adder.specs.declared.profiles.Profile.{Profile}
 use Rattle.bound.specs.Bound.{hard_cnf, bound_as, fixed_clauses, comparator_for}
 use Rattle.cdcl_order.specs.Budgets.{BudgetState, left_of}
-use Rattle.improve.specs.Progress.{Telling}
+use Rattle.improve_found.specs.Progress.{Telling, AreFalling, EndsWith, TellsOf}
+use Rattle.improve_found.specs.Solutions.{IsSolution, IsCostOfSome}
 use Rattle.improve.specs.Weaker.{weaker_among}
-use Rattle.improve.specs.declared.found.Work.{Work}
-use Rattle.improve.specs.declared.found.Found.{Found}
-use Rattle.improve.specs.declared.found.Found.TheVariants.{Optimum, Unsat, Best, Nothing}
-use Rattle.improve.specs.declared.found.ImproveFault.{ImproveFault}
-use Rattle.improve.specs.declared.found.ImproveFault.TheVariants.{Memory, Progress}
-
-abbrev pub AreFalling : List ℕ → Type 0
-AreFalling [] = Unit {0}
-AreFalling (c ∷ []) = Unit {0}
-AreFalling (c ∷ d ∷ cs) = (d < c) × AreFalling (d ∷ cs)
-
--- the cost of some solution
-abbrev pub IsCostOfSome : Problem → ℕ → Type 0
-IsCostOfSome p c = (t : Assignment) × IsFeasible p t × (cost_under p t ≡ c)
-
-abbrev pub EndsWith : List ℕ → ℕ → Type 0
-EndsWith costs c = (before : List ℕ) × (costs ≡ before ++ c ∷ [])
-
--- the bits are a solution of this cost
-abbrev pub IsSolution : Problem → List Bool → ℕ → Type 0
-IsSolution p bits c =
-    (length bits ≡ p.variables)
-    × ((t : Assignment) → Extends bits t → IsFeasible p t × (cost_under p t ≡ c))
+use Rattle.improve_found.specs.declared.found.Work.{Work}
+use Rattle.improve_found.specs.declared.found.Found.{Found}
+use Rattle.improve_found.specs.declared.found.Found.TheVariants.{Optimum, Unsat, Best, Nothing}
+use Rattle.improve_found.specs.declared.found.ImproveFault.{ImproveFault}
+use Rattle.improve_found.specs.declared.found.ImproveFault.TheVariants.{Progress}
 
 abbrev pub but_last : List ℕ → List ℕ
 but_last [] = []
@@ -164,18 +146,6 @@ IsRightFound profile p costs (Optimum c bits log clauses) =
 IsRightFound profile p costs (Unsat log clauses) = IsRightUnsat p costs log clauses
 IsRightFound profile p costs (Best c bits work) = IsRightBest profile p costs c bits.items work
 IsRightFound profile p costs (Nothing work) = IsRightNothing p costs work
-
--- all that was tried was told but the last cost, where telling failed
-pub record TellsAllButLast (tried told : List ℕ) (failed : Option ℕ) : Type 0 where
-  pub last : ℕ
-  pub last_failed : failed ≡ Some last
-  pub tried_is : tried ≡ told ++ last ∷ []
-
--- what was tried was told, but for a last cost where that failed
-abbrev pub TellsOf : {A : Type 0} → Result A ImproveFault → List ℕ → List ℕ → Option ℕ → Type 0
-TellsOf (Ok found) tried told failed = tried ≡ told
-TellsOf (Err Memory) tried told failed = tried ≡ told
-TellsOf (Err Progress) tried told failed = TellsAllButLast tried told failed
 
 -- for the answers with work
 abbrev pub OnWork : Result Found ImproveFault → (Work → Type 0) → Type 0

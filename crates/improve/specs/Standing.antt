@@ -1,24 +1,17 @@
 -- What stands between the first solution and the last one.
-use Rattle.std.specs.Prelude.{◌≡◌, ℕ, ◌+◌, ◌≤◌, Bool, List, [], ◌∷◌, ◌++◌, length, All}
-use Rattle.std.specs.Prelude.{Result, Err}
-use Rattle.cnf.specs.Literal.{Assignment}
-use Rattle.cnf.specs.Bits.{Extends}
-use Rattle.cnf.specs.Problem.{Problem, IsFeasible}
+use Rattle.std.specs.Prelude.{◌≡◌, ℕ, ◌+◌, List, [], ◌∷◌, ◌++◌, length, All, Result, Err}
+use Rattle.cnf.specs.Problem.{Problem}
 use Rattle.lrat_log.specs.Steps.{learned_count}
 use Rattle.adder.specs.declared.profiles.Profile.{Profile}
 use Rattle.cdcl_order.specs.Budgets.{BudgetState}
-use Rattle.improve.specs.Progress.{Telling}
-use Rattle.improve.specs.Improving.{IsSolution, AreFalling, IsCostOfSome, Improves}
+use Rattle.improve_found.specs.Progress.{Telling, AreFalling}
+use Rattle.improve_found.specs.Solutions.{IsSolution, IsCostOfSome}
+use Rattle.improve.specs.Improving.{Improves}
 use Rattle.improve.specs.Bounds.{HasLast}
 use Rattle.improve.specs.declared.bounds.Bounds.{Bounds}
-use Rattle.improve.specs.declared.solutions.Solution.{Solution}
-use Rattle.improve.specs.declared.found.Found.{Found}
-use Rattle.improve.specs.declared.found.ImproveFault.{ImproveFault}
-
--- as many bits as variables at least, with which all hard clauses hold
-abbrev pub AreFeasible : Problem → List Bool → Type 0
-AreFeasible p bits =
-    (p.variables ≤ length bits) × ((t : Assignment) → Extends bits t → IsFeasible p t)
+use Rattle.improve_found.specs.declared.solutions.Solution.{Solution}
+use Rattle.improve_found.specs.declared.found.Found.{Found}
+use Rattle.improve_found.specs.declared.found.ImproveFault.{ImproveFault}
 
 -- the best solution so far, whose cost was told last, and the costs told before that
 pub record Standing : Type 0 where

@@ -2,8 +2,8 @@
 // of each bound are added to those of the bounds before, so learned clauses are kept. The
 // certificate's formula has only the clauses of the last bound: at the end the log is rewritten as
 // one over that formula.
-ghost use Rattle.std.specs.Prelude.{◌≡◌, ◌+◌, ◌<◌, ◌≤◌, [], ◌∷◌, ◌++◌};
-ghost use Rattle.std.specs.Prelude.{ℕ, false, List, length, All, IfOk, OnOk};
+ghost use Rattle.std.specs.Prelude.{◌≡◌, ◌+◌, ◌<◌, ◌≤◌, [], ◌∷◌, ◌++◌, ℕ, false, List, length, All};
+ghost use Rattle.std.specs.Prelude.{IfOk, OnOk};
 ghost use Rattle.cnf.specs.declared.limits.TheConstants.{MOST_PLACES, NUMBER_LIMIT};
 ghost use Rattle.cnf.specs.Literal.{Literal};
 ghost use Rattle.cnf.specs.Clause.{has_repeat, is_tautology};
@@ -13,14 +13,13 @@ ghost use Rattle.lrat_log.specs.Rebase.{weaker_list};
 ghost use Rattle.adder.specs.Network.{adders_as};
 ghost use Rattle.bound.specs.Bound.{bound_as};
 ghost use Rattle.cdcl.specs.Solving.{IsFrozen};
-ghost use Rattle.improve.specs.Bounds.{IsUsable, Gives, GivesAll};
-ghost use Rattle.improve.specs.Bounds.{IsOver, IsOverFixed, HasNoBound, IsNext, BoundLog};
-ghost use Rattle.improve.specs.Improving.{AreFalling, EndsWith};
+ghost use Rattle.improve.specs.Bounds.{IsUsable, Gives, GivesAll, IsOver, IsOverFixed, HasNoBound};
+ghost use Rattle.improve.specs.Bounds.{IsNext, BoundLog};
+ghost use Rattle.improve_found.specs.Progress.{AreFalling, EndsWith};
 ghost use Rattle.improve.specs.Weaker.{weaker_among};
 ghost use Rattle.cdcl_order.specs.Budgets.{WaivesAs};
 
 use crate::frozen::freeze_outputs;
-use crate::solutions::{Solution, price};
 use crate::weaker::pair_with_subsets;
 use adder::building::network_as;
 use adder::networks::Network;
@@ -34,6 +33,7 @@ use cdcl::solver::Solver;
 use cdcl::watch::SearchWatch;
 use cnf::limits::NUMBER_LIMIT;
 use cnf::types::{Clause, Instance, Lit};
+use improve_found::solutions::{Solution, price};
 use lrat_log::lines::{Name, Number};
 use lrat_log::log::Log;
 use lrat_log::rebase::rebase;

@@ -1,26 +1,22 @@
 //! The improving search: each solution bounds the cost of the next (Handbook of Satisfiability,
 //! chapter MaxSAT, linear search from satisfiable to unsatisfiable).
-ghost use Rattle.std.specs.Prelude.{◌≡◌, [], ◌∷◌, IfOk, OnOk, OnErr};
+ghost use Rattle.std.specs.Prelude.{◌≡◌, IfOk};
 ghost use Rattle.lrat_log.specs.Steps.{learned_count};
 ghost use Rattle.cdcl_order.specs.Budgets.{BudgetState, WaivesAs};
-ghost use Rattle.cdcl_order.specs.Watch.{Better, with_seen};
-ghost use Rattle.improve.specs.Improving.{Improves, IsHardLog, IsSolution, PaysForHard};
-ghost use Rattle.improve.specs.Progress.{CanFail, with_told, with_failed};
+ghost use Rattle.improve.specs.Improving.{Improves, IsHardLog, PaysForHard};
+ghost use Rattle.improve_found.specs.Solutions.{IsSolution, AreFeasible};
+ghost use Rattle.improve_found.specs.Progress.{CanFail};
 ghost use Rattle.improve.specs.Bounds.{IsOverHard};
-ghost use Rattle.improve.specs.Standing.{AreFeasible, Ends, starting_with};
-ghost use Rattle.improve.specs.Watch.{AreShown};
+ghost use Rattle.improve.specs.Standing.{Ends, starting_with};
+ghost use Rattle.improve_found.specs.Watch.{AreShown};
 
 mod concluding;
 mod descending;
 
 use crate::bounds::Bounds;
-use crate::found::{Found, ImproveFault};
 use crate::frozen::freeze_none;
-use crate::progress::{Progress, ProgressFault};
 use crate::search::concluding::{conclude_nothing, conclude_zero};
 use crate::search::descending::{Descent, tighten};
-use crate::solutions::{Solution, price_polished};
-use crate::watch::Watch;
 use adder::profiles::Profile;
 use bound::formulas::hard_formula;
 use cdcl::budget::Budget;
@@ -28,6 +24,10 @@ use cdcl::outcome::Outcome;
 use cdcl::solver::Solver;
 use cdcl::watch::Unwatched;
 use cnf::types::Instance;
+use improve_found::found::{Found, ImproveFault};
+use improve_found::progress::Progress;
+use improve_found::solutions::{Solution, price_polished};
+use improve_found::watch::{Watch, tell};
 use lrat_log::log::Log;
 use std::alloc::AllocError;
 
@@ -290,28 +290,4 @@ fn suggest_given(bounds: &mut Bounds, first: &Solution, is_given: bool)
     if is_given {
         bounds.suggest(&first.bits);
     }
-}
-
-/// Shows the solution, and then tells what it costs: whoever is told a cost finds what it belongs
-/// to.
-pub fn tell<T: Progress, W: Watch>(
-    instance: &Instance,
-    progress: &mut T,
-    watch: &mut W,
-    solution: &Solution,
-) -> Result<(), ProgressFault>
-    requires failures { CanFail (T.state progress.old) }
-    requires solution { IsSolution instance.now solution.now.bits.items solution.now.cost }
-    ensures ok { OnOk result
-        (T.state progress.new ≡ with_told solution.now.cost (T.state progress.old)) }
-    ensures err { OnErr result
-        (T.state progress.new ≡ with_failed solution.now.cost (T.state progress.old)) }
-    ensures follows { (first : T) → T.follows first progress.old → T.follows first progress.new }
-    ensures shown { W.seen watch.new
-        ≡ with_seen (Better instance.now solution.now.cost solution.now.bits.items ∷ [])
-        (W.seen watch.old) }
-    ensures same_waived { W.waived watch.new ≡ W.waived watch.old }
-{
-    watch.better(instance, solution.cost, &solution.bits);
-    progress.improved(solution.cost)
 }

@@ -1,7 +1,7 @@
 -- From one state of a session to the next.
-use Rattle.std.proofs.Common.{◌≡◌, ℕ, ◌<◌, ◌≤◌, Bool, List, [], ◌∷◌, ◌++◌, Option, Some, None}
-use Rattle.std.proofs.Common.{map, refl, sym, ◌∙◌, ap, subst, arith, append_assoc}
-use Rattle.std.proofs.Common.{append-nil, length-append}
+use Rattle.std.proofs.Common.{◌≡◌, ℕ, ◌<◌, ◌≤◌, Bool, List, [], ◌∷◌, ◌++◌, Option, Some, None, map}
+use Rattle.std.proofs.Common.{refl, sym, ◌∙◌, ap, subst, arith, append_assoc, append-nil}
+use Rattle.std.proofs.Common.{length-append}
 use Rattle.std.proofs.lemmas.List.{map-append}
 use Rattle.std.proofs.lemmas.List.Elements.{All-nil, All-push}
 use Rattle.cnf.specs.Problem.{Problem}
@@ -11,11 +11,11 @@ use Rattle.cdcl_order.proofs.Laws.{with_seen_more}
 use Rattle.cuts_cores.specs.declared.desk.DeskFault.{DeskFault}
 use Rattle.cuts_cores.specs.declared.desk.DeskFault.TheVariants.{Memory, Progress}
 use Rattle.cuts_solver.specs.Solving.{SolverState, SameSolver}
-use Rattle.improve.specs.Progress.{Telling, with_told, with_failed}
-use Rattle.improve.specs.Improving.{IsSolution, AreFalling}
-use Rattle.improve.specs.Watch.{better_of, costs_shown}
-use Rattle.improve.specs.declared.solutions.Solution.{Solution}
-use Rattle.improve.proofs.Laws.{falling_more}
+use Rattle.improve_found.specs.Progress.{Telling, with_told, with_failed, AreFalling}
+use Rattle.improve_found.specs.Solutions.{IsSolution}
+use Rattle.improve_found.specs.Watch.{better_of, costs_shown}
+use Rattle.improve_found.specs.declared.solutions.Solution.{Solution}
+use Rattle.improve_found.proofs.Laws.{falling_more}
 use Rattle.improve_cuts.specs.Sessions.{SessionState, HasCome, HasMet, HasKept, HasFailedToTell}
 use Rattle.improve_cuts.specs.Sessions.{IsSameSearch, LeadsTo, WorksOn, Meets, Keeps, FailsToTell}
 use Rattle.improve_cuts.specs.Sessions.{IsLastOf, cost_of, with_all_told}

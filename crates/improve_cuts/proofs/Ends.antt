@@ -1,7 +1,6 @@
 -- How a search begins, and how one ends that has come so far.
-use Rattle.std.proofs.Common.{◌≡◌, ℕ, Bool, List, [], ◌∷◌, ◌++◌, Option, Some}
-use Rattle.std.proofs.Common.{None, Ok, Err, refl, sym, ◌∙◌, ap, subst, arith}
-use Rattle.std.proofs.Common.{append-nil, false, ◌≤◌}
+use Rattle.std.proofs.Common.{◌≡◌, ℕ, Bool, List, [], ◌∷◌, ◌++◌, Option, Some, None, Ok, Err, refl}
+use Rattle.std.proofs.Common.{sym, ◌∙◌, ap, subst, arith, append-nil, false, ◌≤◌}
 use Rattle.std.specs.Prelude.{All, IfSome, IfNone, Result, IfOk, IfErr}
 use Rattle.std.proofs.lemmas.List.{map-append, length-map}
 use Rattle.std.proofs.lemmas.List.Elements.{All-nil, All-push, All-pop, All-map, All-weaker}
@@ -11,18 +10,17 @@ use Rattle.cdcl_order.specs.Budgets.{BudgetState, left_of}
 use Rattle.cdcl_order.proofs.Laws.{with_seen_none}
 use Rattle.cuts_cores.specs.declared.desk.DeskFault.{DeskFault}
 use Rattle.cuts_cores.specs.declared.desk.DeskFault.TheVariants.{Memory, Progress}
-use Rattle.improve.specs.Improving.{IsSolution, IsCostOfSome}
-use Rattle.improve.specs.Progress.{Telling}
-use Rattle.improve.specs.Watch.{AreShown, costs_shown}
-use Rattle.improve.specs.declared.found.ImproveFault.{ImproveFault}
-use Rattle.improve.specs.declared.found.ImproveFault.TheVariants.{Memory as NoMemory}
-use Rattle.improve.specs.declared.found.ImproveFault.TheVariants.{Progress as CannotTell}
-use Rattle.improve.specs.declared.solutions.Solution.{Solution}
-use Rattle.improve.proofs.Laws.{cost_of_solution}
+use Rattle.improve_found.specs.Solutions.{IsSolution, IsCostOfSome}
+use Rattle.improve_found.specs.Progress.{Telling}
+use Rattle.improve_found.specs.Watch.{AreShown, costs_shown}
+use Rattle.improve_found.specs.declared.found.ImproveFault.{ImproveFault}
+use Rattle.improve_found.specs.declared.found.ImproveFault.TheVariants.{Memory as NoMemory}
+use Rattle.improve_found.specs.declared.found.ImproveFault.TheVariants.{Progress as CannotTell}
+use Rattle.improve_found.specs.declared.solutions.Solution.{Solution}
+use Rattle.improve_found.proofs.Laws.{cost_of_solution}
 use Rattle.improve_cuts.specs.ByCuts.{BeginsWith, FindsByCuts, IsBestOf, HasNone}
 use Rattle.improve_cuts.specs.Sessions.{SessionState, HasCome, HasMet, HasKept, HasFailedToTell}
-use Rattle.improve_cuts.specs.Sessions.{IsLastOf, IsFaultOf, EndsWithout, cost_of}
-use Rattle.improve_cuts.specs.Sessions.{found_by}
+use Rattle.improve_cuts.specs.Sessions.{IsLastOf, IsFaultOf, EndsWithout, cost_of, found_by}
 
 -- nothing was met yet
 pub begins : (p : Problem) (s : SessionState) → s.best ≡ None → s.fault ≡ None

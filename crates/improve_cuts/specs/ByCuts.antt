@@ -7,12 +7,12 @@ use Rattle.cnf.specs.declared.limits.TheConstants.{NUMBER_LIMIT}
 use Rattle.cdcl_order.specs.Budgets.{BudgetState, left_of}
 use Rattle.cuts_log.specs.Logs.{start_of}
 use Rattle.cuts_solver.specs.Solving.{SolverState, instance_of}
-use Rattle.improve.specs.Progress.{Telling}
-use Rattle.improve.specs.Improving.{IsSolution, EndsWith, AreFalling, IsCostOfSome, TellsOf}
-use Rattle.improve.specs.declared.found.ImproveFault.{ImproveFault}
-use Rattle.improve.specs.declared.found.ImproveFault.TheVariants.{Progress}
-use Rattle.improve.specs.declared.solutions.Solution.{Solution}
-use Rattle.improve.specs.declared.found.CutsFound.{CutsFound}
+use Rattle.improve_found.specs.Progress.{Telling, EndsWith, AreFalling, TellsOf}
+use Rattle.improve_found.specs.Solutions.{IsSolution, IsCostOfSome}
+use Rattle.improve_found.specs.declared.found.ImproveFault.{ImproveFault}
+use Rattle.improve_found.specs.declared.found.ImproveFault.TheVariants.{Progress}
+use Rattle.improve_found.specs.declared.solutions.Solution.{Solution}
+use Rattle.improve_found.specs.declared.found.CutsFound.{CutsFound}
 
 -- a search begins with a solution that costs at most what cuts hold for; or they hold in all
 abbrev pub BeginsWith : Problem → (held : ℕ) → Option Solution → Type 0

@@ -1,7 +1,6 @@
 -- How a search stands that has come from a beginning.
 use Rattle.std.specs.Prelude.{◌≡◌, ℕ, ◌+◌, ◌<◌, ◌≤◌, List, [], ◌∷◌, ◌++◌, length, map, min, All}
-use Rattle.std.specs.Prelude.{true, false}
-use Rattle.std.specs.Prelude.{Bool, Option, Some, None, Result, Ok, Err}
+use Rattle.std.specs.Prelude.{true, false, Bool, Option, Some, None, Result, Ok, Err}
 use Rattle.std.specs.Coded.{Coded, Coded-set, codes}
 use Rattle.cnf.specs.Problem.{Problem}
 use Rattle.cnf.specs.declared.limits.TheConstants.{NUMBER_LIMIT}
@@ -10,15 +9,15 @@ use Rattle.cdcl_order.specs.Watch.{Sight, Better, with_seen}
 use Rattle.cuts_cores.specs.declared.desk.DeskFault.{DeskFault}
 use Rattle.cuts_cores.specs.declared.desk.DeskFault.TheVariants.{Memory, Progress}
 use Rattle.cuts_solver.specs.Solving.{SolverState}
-use Rattle.improve.specs.Progress.{Telling, with_told, with_failed}
-use Rattle.improve.specs.Improving.{IsSolution, AreFalling}
-use Rattle.improve.specs.declared.found.ImproveFault.{ImproveFault}
-use Rattle.improve.specs.declared.found.ImproveFault.TheVariants.{Memory as NoMemory}
-use Rattle.improve.specs.declared.found.ImproveFault.TheVariants.{Progress as CannotTell}
-use Rattle.improve.specs.Watch.{better_of, costs_shown}
-use Rattle.improve.specs.declared.solutions.Solution.{Solution}
+use Rattle.improve_found.specs.Progress.{Telling, with_told, with_failed, AreFalling}
+use Rattle.improve_found.specs.Solutions.{IsSolution}
+use Rattle.improve_found.specs.declared.found.ImproveFault.{ImproveFault}
+use Rattle.improve_found.specs.declared.found.ImproveFault.TheVariants.{Memory as NoMemory}
+use Rattle.improve_found.specs.declared.found.ImproveFault.TheVariants.{Progress as CannotTell}
+use Rattle.improve_found.specs.Watch.{better_of, costs_shown}
+use Rattle.improve_found.specs.declared.solutions.Solution.{Solution}
 use Rattle.improve_cuts.specs.ByCuts.{SameOrigin, IsProved}
-use Rattle.improve.specs.declared.found.CutsFound.{CutsFound}
+use Rattle.improve_found.specs.declared.found.CutsFound.{CutsFound}
 
 -- what a session works on, as it stands
 pub record SessionState : Type 0 where

@@ -1,8 +1,8 @@
 -- Worked states: a session that has told the costs 5 and 3.
 use Rattle.std.specs.Prelude.{◌≡◌, ◌∷◌, [], None, Ok, Err, true, refl}
 use Rattle.cnf.specs.declared.limits.TheConstants.{NUMBER_LIMIT}
-use Rattle.improve.specs.Progress.{Telling}
-use Rattle.improve.specs.declared.found.ImproveFault.TheVariants.{Memory}
+use Rattle.improve_found.specs.Progress.{Telling}
+use Rattle.improve_found.specs.declared.found.ImproveFault.TheVariants.{Memory}
 use Rattle.improve_cuts.specs.Sessions.{cost_of, found_by, with_all_told}
 
 abbrev before : Telling

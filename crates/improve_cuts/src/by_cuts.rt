@@ -1,7 +1,7 @@
 //! The search by forms and cuts, from the beginning of a log to its end.
 ghost use Rattle.cdcl_order.specs.Budgets.{WaivesAs};
-ghost use Rattle.improve.specs.Progress.{CanFail};
-ghost use Rattle.improve.specs.Watch.{AreShown};
+ghost use Rattle.improve_found.specs.Progress.{CanFail};
+ghost use Rattle.improve_found.specs.Watch.{AreShown};
 ghost use Rattle.improve_cuts.specs.ByCuts.{BeginsOn, SameOrigin, FindsByCuts};
 
 use crate::parts::numbered_in;
@@ -11,10 +11,10 @@ use adder::relaxations::Relaxation;
 use cdcl::budget::Budget;
 use cnf::types::Instance;
 use cuts_solver::solver::CutsSolver;
-use improve::found::{CutsFound, ImproveFault};
-use improve::progress::Progress;
-use improve::solutions::Solution;
-use improve::watch::Watch;
+use improve_found::found::{CutsFound, ImproveFault};
+use improve_found::progress::Progress;
+use improve_found::solutions::Solution;
+use improve_found::watch::Watch;
 use improve_local::walking::size_of;
 use std::io::Write;
 

@@ -8,8 +8,8 @@ use cdcl::watch::Way;
 use cnf::limits::NUMBER_LIMIT;
 use cnf::types::Lit;
 use forms::state::Forms;
-use improve::solutions::Solution;
-use improve::watch::Raised;
+use improve_found::solutions::Solution;
+use improve_found::watch::Raised;
 
 /// What the best solution costs; 2^62 while there is none.
 pub fn cost_in(best: &Option<Solution>) -> u64

@@ -1,7 +1,7 @@
 // The course of a search: its beginning, its rounds and its end.
 ghost use Rattle.std.specs.Prelude.{◌≡◌, ◌<◌, ◌⊎◌, true, None, IfOk, IfErr, IfSome, OnOk};
 ghost use Rattle.cdcl_order.specs.Budgets.{WaivesAs, left_of};
-ghost use Rattle.improve.specs.Watch.{AreShown};
+ghost use Rattle.improve_found.specs.Watch.{AreShown};
 ghost use Rattle.improve_cuts.specs.ByCuts.{BeginsOn, BeginsWith, SameOrigin, FindsByCuts};
 ghost use Rattle.improve_cuts.specs.Sessions.{EndsWithout, HasCome, IsFaultOf, found_by};
 
@@ -10,10 +10,10 @@ use adder::relaxations::Relaxation;
 use bound::weighted::weights;
 use cuts_cores::desk::{Desk, DeskFault};
 use cuts_policy::rounds::search;
-use improve::found::ImproveFault;
-use improve::progress::Progress;
-use improve::solutions::Solution;
-use improve::watch::Watch;
+use improve_found::found::ImproveFault;
+use improve_found::progress::Progress;
+use improve_found::solutions::Solution;
+use improve_found::watch::Watch;
 use std::io::Write;
 
 impl<'i, 's, 'b, 'p, 'k, 'm, 'w, W: Write + Drop, T: Progress, K: Watch> Session<

@@ -2,7 +2,7 @@
 ghost use Rattle.std.specs.Prelude.{◌≡◌, ◌<◌, true, None};
 ghost use Rattle.cdcl_order.specs.Budgets.{left_of};
 ghost use Rattle.cuts_solver.specs.Solving.{instance_of};
-ghost use Rattle.improve.specs.Progress.{CanFail};
+ghost use Rattle.improve_found.specs.Progress.{CanFail};
 ghost use Rattle.improve_cuts.specs.Sessions.{LeadsTo, same_prop};
 
 mod keeping;
@@ -19,9 +19,9 @@ use cuts_cores::desk::{Descent, Desk, DeskFault, Trial, Walked};
 use cuts_solver::solver::{Assumed, CutsSolver, SolverEnd};
 use forms::state::Forms;
 use forms::types::NamedFact;
-use improve::progress::Progress;
-use improve::solutions::Solution;
-use improve::watch::Watch;
+use improve_found::progress::Progress;
+use improve_found::solutions::Solution;
+use improve_found::watch::Watch;
 use improve_local::kinds::WalkKind;
 use std::alloc::{AllocError, Global};
 use std::io::Write;

@@ -1,9 +1,9 @@
 // The local searches of a session: their tables are made when they are first asked for.
 ghost use Rattle.std.specs.Prelude.{IfSome};
-ghost use Rattle.improve.specs.Standing.{AreFeasible};
+ghost use Rattle.improve_found.specs.Solutions.{AreFeasible};
 
 use cnf::types::Instance;
-use improve::solutions::Solution;
+use improve_found::solutions::Solution;
 use improve_local::kinds::WalkKind;
 use improve_local::walking::{Found, LocalSearch};
 

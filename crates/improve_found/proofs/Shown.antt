@@ -7,9 +7,9 @@ use Rattle.std.proofs.lemmas.List.Elements.{All-nil, All-push, All-append}
 use Rattle.cnf.specs.Problem.{Problem}
 use Rattle.cdcl_order.specs.Watch.{Sight, Better, with_seen}
 use Rattle.cdcl_order.proofs.Laws.{with_seen_none, with_seen_more}
-use Rattle.improve.specs.Progress.{Telling, with_told, with_failed}
-use Rattle.improve.specs.Improving.{IsSolution}
-use Rattle.improve.specs.Watch.{better_of, costs_shown, AreShown}
+use Rattle.improve_found.specs.Progress.{Telling, with_told, with_failed}
+use Rattle.improve_found.specs.Solutions.{IsSolution}
+use Rattle.improve_found.specs.Watch.{better_of, costs_shown, AreShown}
 
 -- nothing was shown or told
 pub shown_none : (p : Problem) (now : Telling) (s : Option (List Sight)) → AreShown p now now s s

@@ -2,8 +2,8 @@
 use Rattle.std.specs.Prelude.{◌≡◌, ℕ, ◌+◌, Bool, List, ◌++◌, map, All, Option}
 use Rattle.cnf.specs.Problem.{Problem}
 use Rattle.cdcl_order.specs.Watch.{Sight, Better, with_seen}
-use Rattle.improve.specs.Progress.{Telling}
-use Rattle.improve.specs.Improving.{IsSolution, TellsAllButLast}
+use Rattle.improve_found.specs.Progress.{Telling, TellsAllButLast}
+use Rattle.improve_found.specs.Solutions.{IsSolution}
 
 -- bits with their cost, as they are shown
 abbrev pub better_of : Problem → ℕ × List Bool → Sight

@@ -1,6 +1,6 @@
 // Where a search reports the cost of each better solution.
 ghost use Rattle.std.specs.Prelude.{◌≡◌, OnOk, OnErr};
-ghost use Rattle.improve.specs.Progress.{Telling, CanFail, with_told, with_failed};
+ghost use Rattle.improve_found.specs.Progress.{Telling, CanFail, with_told, with_failed};
 
 /// A cost could not be told.
 #[derive(Clone, Copy, Debug, PartialEq, Eq, Drop)]

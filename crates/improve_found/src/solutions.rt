@@ -3,7 +3,7 @@ ghost use Rattle.std.specs.Prelude.{◌≡◌, ◌≤◌, length};
 ghost use Rattle.cnf.specs.Literal.{Assignment};
 ghost use Rattle.cnf.specs.Bits.{Extends};
 ghost use Rattle.cnf.specs.Problem.{IsFeasible, cost_under};
-ghost use Rattle.improve.specs.Improving.{IsSolution};
+ghost use Rattle.improve_found.specs.Solutions.{IsSolution};
 
 use cnf::types::Instance;
 use improve_local::polishing::polish;

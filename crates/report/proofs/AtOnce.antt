@@ -1,6 +1,6 @@
 -- What is found at once, where nothing costs less than cuts have held for.
-use Rattle.std.proofs.Common.{◌≡◌, ℕ, ◌+◌, ◌<◌, ◌^◌, Bool, true, false, List, [], ◌∷◌, Option}
-use Rattle.std.proofs.Common.{Some, None, Ok, Err, refl, sym, ◌∙◌, ap, arith, append-nil}
+use Rattle.std.proofs.Common.{◌≡◌, ℕ, ◌+◌, ◌<◌, ◌^◌, Bool, true, false, List, [], ◌∷◌, Option, Some}
+use Rattle.std.proofs.Common.{None, Ok, Err, refl, sym, ◌∙◌, ap, arith, append-nil}
 use Rattle.std.specs.Prelude.{All}
 use Rattle.std.proofs.KnownBytes.{Appends-nil}
 use Rattle.std.proofs.lemmas.List.Elements.{All-nil, All-push}
@@ -8,14 +8,14 @@ use Rattle.cnf.specs.Problem.{Problem}
 use Rattle.cdcl_order.specs.Budgets.{BudgetState, left_of}
 use Rattle.cdcl_order.specs.Watch.{Sight, Better, with_seen}
 use Rattle.cdcl_order.proofs.Laws.{with_seen_none}
-use Rattle.improve.specs.Improving.{IsCostOfSome, IsSolution}
-use Rattle.improve.specs.Progress.{Telling, with_failed, with_told}
-use Rattle.improve.specs.Watch.{AreShown}
-use Rattle.improve.specs.declared.found.ImproveFault.TheVariants.{Progress}
-use Rattle.improve.specs.declared.solutions.Solution.{Solution}
-use Rattle.improve.proofs.Laws.{cost_of_solution}
+use Rattle.improve_found.specs.Solutions.{IsCostOfSome, IsSolution}
+use Rattle.improve_found.specs.Progress.{Telling, with_failed, with_told}
+use Rattle.improve_found.specs.Watch.{AreShown}
+use Rattle.improve_found.specs.declared.found.ImproveFault.TheVariants.{Progress}
+use Rattle.improve_found.specs.declared.solutions.Solution.{Solution}
+use Rattle.improve_found.proofs.Laws.{cost_of_solution}
 use Rattle.improve_cuts.specs.ByCuts.{FindsByCuts, IsCutsFound}
-use Rattle.improve.specs.declared.found.CutsFound.{CutsFound}
+use Rattle.improve_found.specs.declared.found.CutsFound.{CutsFound}
 use Rattle.report.specs.ByCuts.{IsShownByCuts, SearchesByCuts}
 use Rattle.report.specs.Earlier.{EndsAt}
 

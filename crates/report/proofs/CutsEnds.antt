@@ -31,22 +31,19 @@ use Rattle.lrat_check.proofs.BitsFaults.{fault_none}
 use Rattle.lrat_check.proofs.CutsLaws.{said_by_cuts, none_by}
 use Rattle.lrat_check.proofs.TrueResults.{optimal_least}
 use Rattle.cuts_solver.specs.Solving.{IsRightText}
-use Rattle.improve.specs.Improving.{AreFalling}
-use Rattle.improve.specs.Watch.{better_of, costs_shown}
-use Rattle.improve.specs.declared.solutions.Solution.{Solution}
+use Rattle.improve_found.specs.Progress.{AreFalling}
+use Rattle.improve_found.specs.Watch.{better_of, costs_shown}
+use Rattle.improve_found.specs.declared.solutions.Solution.{Solution}
 use Rattle.improve_cuts.specs.ByCuts.{IsBestOf, HasNone, IsProved, IsCutsFound}
-use Rattle.improve.specs.declared.found.CutsFound.{CutsFound}
+use Rattle.improve_found.specs.declared.found.CutsFound.{CutsFound}
 use Rattle.report_text.specs.declared.status.CutsStatus.{CutsStatus}
 use Rattle.report_text.specs.declared.fault.RunFault.{RunFault}
 use Rattle.report_text.specs.declared.fault.RunFault.TheVariants.{Read, Memory, Output, ProofOutput}
 use Rattle.report_text.specs.Told.{cost_lines}
-use Rattle.report_text.specs.Best.{IsTrueOf, end_of}
-use Rattle.report_text.specs.Answering.{result_text}
+use Rattle.report_text.specs.Best.{IsTrueOf, end_of, said_with, said_of_cuts}
+use Rattle.report_text.specs.Answering.{result_text, status_by}
 use Rattle.report.specs.Running.{told_in, AreHonest, NeedsProof, IsTrueLimit}
-use Rattle.report_text.specs.Answering.{status_by}
-use Rattle.report_text.specs.Best.{said_with, said_of_cuts}
-use Rattle.report.specs.ByCuts.{said_text, cost_held_by}
-use Rattle.report.specs.ByCuts.{IsRightBehind, ChecksByCuts, EndsBehind}
+use Rattle.report.specs.ByCuts.{said_text, cost_held_by, IsRightBehind, ChecksByCuts, EndsBehind}
 use Rattle.report.specs.ByCuts.{LeavesResultBehind, LeavesBehind, IsSeenByCuts, SearchesByCuts}
 use Rattle.report.specs.ByCuts.{IsShownByCuts, GrowsRightly, AnswersByCuts, LeavesAnswerByCuts}
 use Rattle.report.proofs.CutsTexts.{grown_kept}

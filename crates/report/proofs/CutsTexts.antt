@@ -1,6 +1,6 @@
 -- What the writer of a certificate has, behind what was written before.
-use Rattle.std.proofs.Common.{◌≡◌, ℕ, ◌<◌, ◌≤◌, true, List, [], ◌++◌, Option, Some, None, Ok}
-use Rattle.std.proofs.Common.{refl, sym, ◌∙◌, ap, subst, arith, inl, append-nil}
+use Rattle.std.proofs.Common.{◌≡◌, ℕ, ◌<◌, ◌≤◌, true, List, [], ◌++◌, Option, Some, None, Ok, refl}
+use Rattle.std.proofs.Common.{sym, ◌∙◌, ap, subst, arith, inl, append-nil}
 use Rattle.std.specs.Prelude.{IfSome, IfOk, IfErr, IsOk, Result}
 use Rattle.std.specs.Io.KnownBytes.{Appends, Keeps}
 use Rattle.std.proofs.KnownBytes.{Appends-kept, Appends-nil}
@@ -19,9 +19,9 @@ use Rattle.cuts_log.specs.Logs.{LogState, problem_of, start_of}
 use Rattle.cuts_log.specs.Starts.{IsReached}
 use Rattle.cuts_solver.specs.Solving.{SolverState, HasWritten, HasBegunToWrite, IsRightText}
 use Rattle.cuts_solver.specs.Solving.{instance_of}
-use Rattle.improve.specs.Improving.{IsSolution}
-use Rattle.improve.specs.declared.solutions.Solution.{Solution}
-use Rattle.improve.proofs.Laws.{cost_of_solution, cost_small}
+use Rattle.improve_found.specs.Solutions.{IsSolution}
+use Rattle.improve_found.specs.declared.solutions.Solution.{Solution}
+use Rattle.improve_found.proofs.Laws.{cost_of_solution, cost_small}
 use Rattle.improve_cuts.specs.ByCuts.{BeginsWith, SameOrigin}
 use Rattle.cdcl_order.specs.Budgets.{BudgetState}
 use Rattle.report_text.specs.declared.status.CutsStatus.{CutsStatus}

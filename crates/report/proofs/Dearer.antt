@@ -5,8 +5,8 @@ use Rattle.cnf.specs.Bits.{Extends, assignment_of}
 use Rattle.cnf.specs.Literal.{Assignment}
 use Rattle.cnf.specs.Problem.{Problem, cost_under}
 use Rattle.cnf.proofs.Laws.{extends_own}
-use Rattle.improve.specs.Improving.{IsSolution}
-use Rattle.improve.specs.declared.solutions.Solution.{Solution}
+use Rattle.improve_found.specs.Solutions.{IsSolution}
+use Rattle.improve_found.specs.declared.solutions.Solution.{Solution}
 use Rattle.report.specs.Earlier.{IsDearer}
 
 pub same_cost : (p : Problem) (bits : List Bool) (cost other : ℕ) → IsSolution p bits cost

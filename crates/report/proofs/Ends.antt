@@ -1,7 +1,6 @@
 -- What a run ends with, or leaves.
-use Rattle.std.proofs.Common.{◌≡◌, ℕ, ◌+◌, ◌<◌, Bool, List, [], ◌++◌, length, Option}
-use Rattle.std.proofs.Common.{Some, None, Ok, Err, refl, sym, ◌∙◌, ap, subst, arith, append_assoc}
-use Rattle.std.proofs.Common.{append-nil}
+use Rattle.std.proofs.Common.{◌≡◌, ℕ, ◌+◌, ◌<◌, Bool, List, [], ◌++◌, length, Option, Some, None}
+use Rattle.std.proofs.Common.{Ok, Err, refl, sym, ◌∙◌, ap, subst, arith, append_assoc, append-nil}
 use Rattle.std.specs.Prelude.{All, IfSome}
 use Rattle.std.specs.Io.KnownBytes.{Appends}
 use Rattle.std.proofs.KnownBytes.{Appends-nil, Appends-trans, Keeps-refl}
@@ -23,10 +22,11 @@ use Rattle.lrat_result.specs.Result.{Unsatisfiable as SaysUnsatisfiable}
 use Rattle.lrat_result.specs.Result.{Satisfiable as SaysSatisfiable, Unknown as SaysUnknown}
 use Rattle.lrat_result.specs.Result.{FallsTo, Says}
 use Rattle.lrat_check.specs.Checks.{IsProofOver, ChecksAs}
-use Rattle.improve.specs.declared.found.Found.{Found}
-use Rattle.improve.specs.declared.found.Found.TheVariants.{Optimum, Unsat, Best, Nothing}
-use Rattle.improve.specs.Improving.{AreFalling, IsCostOfSome, IsSolution, IsAcceptedOver}
-use Rattle.improve.specs.Improving.{IsClauseCount, IsBoundWork}
+use Rattle.improve_found.specs.declared.found.Found.{Found}
+use Rattle.improve_found.specs.declared.found.Found.TheVariants.{Optimum, Unsat, Best, Nothing}
+use Rattle.improve_found.specs.Progress.{AreFalling}
+use Rattle.improve_found.specs.Solutions.{IsCostOfSome, IsSolution}
+use Rattle.improve.specs.Improving.{IsAcceptedOver, IsClauseCount, IsBoundWork}
 use Rattle.cnf.proofs.Laws.{extends_own}
 use Rattle.report_text.specs.declared.status.Status.{Status}
 use Rattle.report_text.specs.declared.fault.RunFault.{RunFault}
@@ -35,9 +35,8 @@ use Rattle.report_text.specs.Told.{cost_lines}
 use Rattle.report_text.specs.Answering.{status_of, end_text, proof_text, HasIdRoom, HasProofRoom}
 use Rattle.report_text.specs.Answering.{IsSpelledProof, HasProof, LeavesAnswer, Answers}
 use Rattle.report_text.specs.Answering.{result_text}
-use Rattle.report.specs.Running.{told_in, AreHonest, AreChecked, IsTrueAnswer}
-use Rattle.report.specs.Running.{NeedsProof, EndsAs, LeavesResult, LeavesProof, Leaves, Searches}
-use Rattle.report.specs.Running.{IsTrueLimit}
+use Rattle.report.specs.Running.{told_in, AreHonest, AreChecked, IsTrueAnswer, NeedsProof, EndsAs}
+use Rattle.report.specs.Running.{LeavesResult, LeavesProof, Leaves, Searches, IsTrueLimit}
 use Rattle.report_text.proofs.ResultTexts.{optimum_text, satisfiable_text, falls_in, text_says}
 use Rattle.report_text.proofs.ResultTexts.{begun, not_past}
 

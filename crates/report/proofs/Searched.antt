@@ -11,14 +11,15 @@ use Rattle.std.proofs.KnownBytes.{Appends-nil}
 use Rattle.adder.specs.declared.profiles.Profile.{Profile}
 use Rattle.cdcl_order.specs.Budgets.{BudgetState}
 use Rattle.cdcl_order.specs.Watch.{Sight}
-use Rattle.improve.specs.declared.found.Found.{Found}
-use Rattle.improve.specs.declared.found.ImproveFault.{ImproveFault}
-use Rattle.improve.specs.declared.found.ImproveFault.TheVariants.{Memory as SearchMemory, Progress}
-use Rattle.improve.specs.Progress.{Telling}
-use Rattle.improve.specs.Improving.{AreFalling, IsCostOfSome, IsRightFound, Improves}
-use Rattle.improve.specs.Watch.{AreShown, costs_shown}
-use Rattle.improve.proofs.Laws.{cost_small}
-use Rattle.improve.proofs.Laws.{told_fall, told_each}
+use Rattle.improve_found.specs.declared.found.Found.{Found}
+use Rattle.improve_found.specs.declared.found.ImproveFault.{ImproveFault}
+use Rattle.improve_found.specs.declared.found.ImproveFault.TheVariants.{Memory as SearchMemory}
+use Rattle.improve_found.specs.declared.found.ImproveFault.TheVariants.{Progress}
+use Rattle.improve_found.specs.Progress.{Telling, AreFalling}
+use Rattle.improve_found.specs.Solutions.{IsCostOfSome}
+use Rattle.improve.specs.Improving.{IsRightFound, Improves}
+use Rattle.improve_found.specs.Watch.{AreShown, costs_shown}
+use Rattle.improve_found.proofs.Laws.{cost_small, told_fall, told_each}
 use Rattle.report_text.specs.declared.fault.RunFault.{RunFault}
 use Rattle.report_text.specs.declared.fault.RunFault.TheVariants.{Memory, Output}
 use Rattle.report_text.specs.Told.{Tells, cost_lines, fault_of_telling}

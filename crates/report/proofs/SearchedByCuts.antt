@@ -8,14 +8,15 @@ use Rattle.cnf.specs.Instance.{IsInstance}
 use Rattle.text.specs.Writing.{AppendsPart}
 use Rattle.cdcl_order.specs.Budgets.{BudgetState}
 use Rattle.cdcl_order.specs.Watch.{Sight}
-use Rattle.improve.specs.declared.found.ImproveFault.{ImproveFault}
-use Rattle.improve.specs.declared.found.ImproveFault.TheVariants.{Memory as SearchMemory, Progress}
-use Rattle.improve.specs.Progress.{Telling}
-use Rattle.improve.specs.Improving.{AreFalling, IsCostOfSome}
-use Rattle.improve.specs.Watch.{AreShown, costs_shown}
-use Rattle.improve.proofs.Laws.{told_fall, told_each}
+use Rattle.improve_found.specs.declared.found.ImproveFault.{ImproveFault}
+use Rattle.improve_found.specs.declared.found.ImproveFault.TheVariants.{Memory as SearchMemory}
+use Rattle.improve_found.specs.declared.found.ImproveFault.TheVariants.{Progress}
+use Rattle.improve_found.specs.Progress.{Telling, AreFalling}
+use Rattle.improve_found.specs.Solutions.{IsCostOfSome}
+use Rattle.improve_found.specs.Watch.{AreShown, costs_shown}
+use Rattle.improve_found.proofs.Laws.{told_fall, told_each}
 use Rattle.improve_cuts.specs.ByCuts.{FindsByCuts, IsCutsFound}
-use Rattle.improve.specs.declared.found.CutsFound.{CutsFound}
+use Rattle.improve_found.specs.declared.found.CutsFound.{CutsFound}
 use Rattle.report_text.specs.declared.fault.RunFault.{RunFault}
 use Rattle.report_text.specs.declared.fault.RunFault.TheVariants.{Memory, Output, ProofOutput}
 use Rattle.report_text.specs.Told.{Tells, cost_lines, fault_of_telling}

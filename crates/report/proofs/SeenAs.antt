@@ -8,14 +8,13 @@ use Rattle.wcnf.specs.Wcnf.{Reads}
 use Rattle.adder.specs.declared.profiles.Profile.{Profile}
 use Rattle.cdcl_order.specs.Watch.{Sight, with_seen}
 use Rattle.cdcl_order.proofs.Laws.{with_seen_more}
-use Rattle.improve.specs.declared.found.Found.{Found}
-use Rattle.improve.specs.declared.found.Found.TheVariants.{Optimum, Unsat, Best, Nothing}
+use Rattle.improve_found.specs.declared.found.Found.{Found}
+use Rattle.improve_found.specs.declared.found.Found.TheVariants.{Optimum, Unsat, Best, Nothing}
 use Rattle.improve.specs.Improving.{IsRightFound}
-use Rattle.improve.specs.Watch.{better_of, costs_shown}
+use Rattle.improve_found.specs.Watch.{better_of, costs_shown}
 use Rattle.report_text.specs.declared.status.Status.{Status}
 use Rattle.report_text.specs.Told.{cost_lines}
-use Rattle.report_text.specs.Answering.{status_of, end_text, Answers}
-use Rattle.report_text.specs.Answering.{result_text}
+use Rattle.report_text.specs.Answering.{status_of, end_text, Answers, result_text}
 use Rattle.report.specs.Running.{told_in}
 use Rattle.report_text.specs.Best.{IsTrueOf, said_of, end_of}
 use Rattle.report.specs.Seen.{IsShownFor, IsSeenAs}

@@ -1,6 +1,5 @@
 -- What a run by forms and cuts writes and leaves. Its certificate is written while it searches.
-use Rattle.std.specs.Prelude.{◌≡◌, ◌+◌, ◌<◌, ◌++◌, map}
-use Rattle.std.specs.Prelude.{ℕ, Bool, true, false, List, [], ◌∷◌, length, All}
+use Rattle.std.specs.Prelude.{◌≡◌, ◌+◌, ◌<◌, ◌++◌, map, ℕ, Bool, true, List, [], ◌∷◌, length, All}
 use Rattle.std.specs.Prelude.{Option, Some, None, IfSome, Result, Ok, Err, IfOk, IsOk, OnOk}
 use Rattle.std.specs.Prelude.{if◌then◌else◌}
 use Rattle.std.specs.Io.KnownBytes.{Keeps, Appends}
@@ -14,21 +13,22 @@ use Rattle.cdcl_order.specs.Watch.{Sight, with_seen}
 use Rattle.lrat_machine.specs.declared.verdicts.Verdict.TheVariants.{Yes}
 use Rattle.lrat_cuts.specs.Cuts.{CutsState}
 use Rattle.lrat_cuts.specs.Verdict.{ended_part, judged_text}
-use Rattle.lrat_result.specs.Result.{Said, FallsTo, Says, OptimumFound, Unsatisfiable}
-use Rattle.lrat_result.specs.Result.{Satisfiable, Unknown}
+use Rattle.lrat_result.specs.Result.{Said, FallsTo, Says, OptimumFound, Unsatisfiable, Satisfiable}
+use Rattle.lrat_result.specs.Result.{Unknown}
 use Rattle.lrat_check.specs.Cuts.{verdict_by_cuts}
-use Rattle.improve.specs.Improving.{AreFalling, EndsWith, IsCostOfSome, IsSolution}
-use Rattle.improve.specs.Watch.{better_of, costs_shown}
-use Rattle.improve.specs.declared.solutions.Solution.{Solution}
-use Rattle.improve.specs.declared.found.ImproveFault.{ImproveFault}
-use Rattle.improve.specs.declared.found.ImproveFault.TheVariants.{Memory as SearchMemory, Progress}
+use Rattle.improve_found.specs.Progress.{AreFalling, EndsWith}
+use Rattle.improve_found.specs.Solutions.{IsCostOfSome, IsSolution}
+use Rattle.improve_found.specs.Watch.{better_of, costs_shown}
+use Rattle.improve_found.specs.declared.solutions.Solution.{Solution}
+use Rattle.improve_found.specs.declared.found.ImproveFault.{ImproveFault}
+use Rattle.improve_found.specs.declared.found.ImproveFault.TheVariants.{Memory as SearchMemory}
+use Rattle.improve_found.specs.declared.found.ImproveFault.TheVariants.{Progress}
 use Rattle.improve_cuts.specs.ByCuts.{IsCutsFound}
-use Rattle.improve.specs.declared.found.CutsFound.{CutsFound}
+use Rattle.improve_found.specs.declared.found.CutsFound.{CutsFound}
 use Rattle.report_text.specs.Told.{cost_lines}
 use Rattle.report_text.specs.Best.{IsTrueOf, end_of}
 use Rattle.report_text.specs.Answering.{bits_word, words_text, result_text, status_by}
-use Rattle.report.specs.Running.{told_in, AreHonest, NeedsProof, IsTrueLimit}
-use Rattle.report.specs.Running.{LeavesNothing}
+use Rattle.report.specs.Running.{told_in, AreHonest, NeedsProof, IsTrueLimit, LeavesNothing}
 use Rattle.report_text.specs.declared.status.CutsStatus.{CutsStatus}
 use Rattle.report_text.specs.declared.fault.RunFault.{RunFault}
 use Rattle.report_text.specs.declared.fault.RunFault.TheVariants.{Read, Memory, Output, ProofOutput}

@@ -1,11 +1,10 @@
 -- A certificate that an earlier run has left.
-use Rattle.std.specs.Prelude.{◌≡◌, ℕ, ◌+◌, ◌*◌, ◌^◌, ◌<◌, ◌≤◌, min, Bool, true, List}
-use Rattle.std.specs.Prelude.{Option}
+use Rattle.std.specs.Prelude.{ℕ, ◌+◌, ◌*◌, ◌^◌, ◌<◌, ◌≤◌, min, Bool, true, List, Option}
 use Rattle.cnf.specs.Problem.{Problem}
 use Rattle.lrat_check.specs.Checks.{CostsAtLeast}
 use Rattle.cuts_solver.specs.Solving.{IsRightText}
-use Rattle.improve.specs.Improving.{IsSolution}
-use Rattle.improve.specs.declared.solutions.Solution.{Solution}
+use Rattle.improve_found.specs.Solutions.{IsSolution}
+use Rattle.improve_found.specs.declared.solutions.Solution.{Solution}
 use Rattle.improve_cuts.specs.ByCuts.{BeginsWith}
 
 -- a text is right for each cost up to the limit, and ends in the empty clause

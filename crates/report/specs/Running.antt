@@ -1,7 +1,6 @@
 -- What a run reads, writes and leaves. Bytes are known where a reader or a writer tells them, as
 -- those over memory do.
-use Rattle.std.specs.Prelude.{◌≡◌, ◌+◌, ◌<◌, [], ◌∷◌, ◌++◌, ⊤, ◌⊎◌}
-use Rattle.std.specs.Prelude.{ℕ, Bool, List, length, All}
+use Rattle.std.specs.Prelude.{◌≡◌, ◌+◌, ◌<◌, [], ◌∷◌, ◌++◌, ⊤, ◌⊎◌, ℕ, Bool, List, length, All}
 use Rattle.std.specs.Prelude.{Option, IfSome, Result, Ok, Err, IfOk, OnOk}
 use Rattle.std.specs.Io.KnownBytes.{Keeps, Appends}
 use Rattle.cnf.specs.Literal.{Assignment}
@@ -17,16 +16,17 @@ use Rattle.wcnf.specs.declared.faults.FaultKind.TheVariants.{Memory as MemoryKin
 use Rattle.adder.specs.declared.profiles.Profile.{Profile}
 use Rattle.bound.specs.Bound.{hard_cnf}
 use Rattle.cdcl_order.specs.Budgets.{BudgetState, left_of}
-use Rattle.lrat_result.specs.Result.{Said, FallsTo, Says}
-use Rattle.lrat_result.specs.Result.{OptimumFound as SaysOptimum}
+use Rattle.lrat_result.specs.Result.{Said, FallsTo, Says, OptimumFound as SaysOptimum}
 use Rattle.lrat_result.specs.Result.{Unsatisfiable as SaysUnsatisfiable}
 use Rattle.lrat_result.specs.Result.{Satisfiable as SaysSatisfiable, Unknown as SaysUnknown}
 use Rattle.lrat_check.specs.Checks.{ChecksAs}
-use Rattle.improve.specs.declared.found.Found.{Found}
-use Rattle.improve.specs.declared.found.Work.{Work}
-use Rattle.improve.specs.declared.found.ImproveFault.{ImproveFault}
-use Rattle.improve.specs.declared.found.ImproveFault.TheVariants.{Memory as SearchMemory, Progress}
-use Rattle.improve.specs.Improving.{AreFalling, EndsWith, IsCostOfSome, IsSolution}
+use Rattle.improve_found.specs.declared.found.Found.{Found}
+use Rattle.improve_found.specs.declared.found.Work.{Work}
+use Rattle.improve_found.specs.declared.found.ImproveFault.{ImproveFault}
+use Rattle.improve_found.specs.declared.found.ImproveFault.TheVariants.{Memory as SearchMemory}
+use Rattle.improve_found.specs.declared.found.ImproveFault.TheVariants.{Progress}
+use Rattle.improve_found.specs.Progress.{AreFalling, EndsWith}
+use Rattle.improve_found.specs.Solutions.{IsCostOfSome, IsSolution}
 use Rattle.improve.specs.Improving.{IsHardWork, IsBoundWork, IsRightFound, OnWork, work_count}
 use Rattle.report_text.specs.Answering.{result_text}
 use Rattle.report_text.specs.Told.{cost_lines}

@@ -5,13 +5,13 @@ use Rattle.cnf.specs.Problem.{Problem}
 use Rattle.wcnf.specs.Wcnf.{Reads}
 use Rattle.adder.specs.declared.profiles.Profile.{Profile}
 use Rattle.cdcl_order.specs.Watch.{Sight, with_seen}
-use Rattle.improve.specs.declared.found.Found.{Found}
-use Rattle.improve.specs.Improving.{IsSolution, IsRightFound}
-use Rattle.improve.specs.Watch.{better_of, costs_shown}
+use Rattle.improve_found.specs.declared.found.Found.{Found}
+use Rattle.improve_found.specs.Solutions.{IsSolution}
+use Rattle.improve.specs.Improving.{IsRightFound}
+use Rattle.improve_found.specs.Watch.{better_of, costs_shown}
 use Rattle.report_text.specs.declared.status.Status.{Status}
 use Rattle.report_text.specs.Told.{cost_lines}
-use Rattle.report_text.specs.Answering.{status_of}
-use Rattle.report_text.specs.Answering.{result_text}
+use Rattle.report_text.specs.Answering.{status_of, result_text}
 use Rattle.report.specs.Running.{told_in}
 use Rattle.report_text.specs.Best.{said_of, end_of}
 

@@ -1,9 +1,9 @@
 //! What a run is made of, and its course: it reads, searches and writes.
 ghost use Rattle.std.specs.Prelude.{◌≡◌, ◌<◌, ℕ, false, List, Option, IfOk, IfErr, IsTrue};
-ghost use Rattle.improve.specs.Improving.{Improves, IsSolution};
-ghost use Rattle.improve.specs.Progress.{CanFail};
-ghost use Rattle.improve.specs.Standing.{AreFeasible};
-ghost use Rattle.improve.specs.Watch.{AreShown};
+ghost use Rattle.improve.specs.Improving.{Improves};
+ghost use Rattle.improve_found.specs.Solutions.{IsSolution, AreFeasible};
+ghost use Rattle.improve_found.specs.Progress.{CanFail};
+ghost use Rattle.improve_found.specs.Watch.{AreShown};
 ghost use Rattle.report.specs.Running.{EndsAs, ReadsOnlyAs, Leaves, Searches, outcome_of};
 ghost use Rattle.report.specs.Seen.{IsSeenAs, IsShownFor};
 ghost use Rattle.cdcl_order.specs.Budgets.{WaivesAs};
@@ -11,9 +11,9 @@ ghost use Rattle.cdcl_order.specs.Budgets.{WaivesAs};
 use adder::profiles::Profile;
 use cdcl::budget::Budget;
 use cnf::types::Instance;
-use improve::found::{Found, ImproveFault};
-use improve::progress::Progress;
 use improve::search::{Beginning, improve_from, improve_watched};
+use improve_found::found::{Found, ImproveFault};
+use improve_found::progress::Progress;
 use report_text::answering::write_answer;
 use report_text::best::RunWatch;
 use report_text::fault::RunFault;

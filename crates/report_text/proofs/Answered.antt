@@ -6,11 +6,11 @@ use Rattle.std.specs.Prelude.{IfErr, IsOk, OnOk, is_ok}
 use Rattle.std.specs.Io.KnownBytes.{Appends, Keeps}
 use Rattle.text.specs.Writing.{AppendsPart, Writes}
 use Rattle.text.proofs.Laws.{part-kept, writes_kept}
-use Rattle.improve.specs.declared.found.Found.{Found}
+use Rattle.improve_found.specs.declared.found.Found.{Found}
 use Rattle.report_text.specs.declared.fault.RunFault.{RunFault}
 use Rattle.report_text.specs.declared.fault.RunFault.TheVariants.{Output, ProofOutput}
-use Rattle.report_text.specs.Answering.{end_text, proof_text, bits_word, words_text}
-use Rattle.report_text.specs.Answering.{HasProof, IsSpelledProof, LeavesAnswer, Answers}
+use Rattle.report_text.specs.Answering.{end_text, proof_text, bits_word, words_text, HasProof}
+use Rattle.report_text.specs.Answering.{IsSpelledProof, LeavesAnswer, Answers}
 
 -- the words and bits, by what they were told from
 pub end_is : (status words : List ℕ) (bits first last : List Bool)

@@ -1,6 +1,6 @@
 -- The text of the best solution: how it is spelled, and that it is so.
-use Rattle.std.proofs.Common.{◌≡◌, ℕ, ◌<◌, ◌^◌, Bool, List, [], ◌∷◌, ◌++◌, refl, sym, ◌∙◌}
-use Rattle.std.proofs.Common.{ap, append-nil}
+use Rattle.std.proofs.Common.{◌≡◌, ℕ, ◌<◌, ◌^◌, Bool, List, [], ◌∷◌, ◌++◌, refl, sym, ◌∙◌, ap}
+use Rattle.std.proofs.Common.{append-nil}
 use Rattle.std.proofs.lemmas.List.Elements.{All-from_recursion}
 use lib.Chars.{codes}
 use Rattle.cnf.specs.Bits.{assignment_of}
@@ -9,10 +9,9 @@ use Rattle.cnf.specs.Instance.{IsInstance}
 use Rattle.cnf.proofs.Laws.{extends_own}
 use Rattle.text.specs.Writing.{spaced}
 use Rattle.lrat_result.specs.Result.{Said, OptimumFound, Unsatisfiable, Satisfiable, Unknown}
-use Rattle.lrat_result.specs.Result.{FallsTo}
-use Rattle.lrat_result.specs.Result.{cost_tokens}
-use Rattle.improve.specs.Improving.{IsSolution}
-use Rattle.improve.proofs.Laws.{cost_small}
+use Rattle.lrat_result.specs.Result.{FallsTo, cost_tokens}
+use Rattle.improve_found.specs.Solutions.{IsSolution}
+use Rattle.improve_found.proofs.Laws.{cost_small}
 use Rattle.report_text.specs.Answering.{bits_word, words_text}
 use Rattle.report_text.specs.Best.{IsTrueOf, IsTrueText, best_text}
 use Rattle.report_text.proofs.ResultTexts.{optimum_text, satisfiable_text, text_says}

@@ -14,10 +14,9 @@ use Rattle.lrat_log.proofs.Laws.{IsWord, token_lines-spaced, decimal_word}
 use Rattle.lrat_result.specs.Result.{Said, OptimumFound, Unsatisfiable, Satisfiable, Unknown}
 use Rattle.lrat_result.specs.Result.{FallsTo, Says, fall_to, cost_tokens, digit_of, bits_tokens}
 use Rattle.lrat_result.specs.Result.{is_ignored, result_lines}
-use Rattle.improve.specs.Improving.{AreFalling}
+use Rattle.improve_found.specs.Progress.{AreFalling}
 use Rattle.report_text.specs.Told.{cost_lines}
-use Rattle.report_text.specs.Answering.{result_text}
-use Rattle.report_text.specs.Answering.{digits_text, bits_word, words_text}
+use Rattle.report_text.specs.Answering.{result_text, digits_text, bits_word, words_text}
 
 -- the line of the bits
 bits_line : (bits : List Bool) → spaced (bits_tokens bits) ≡ words_text (bits_word bits) bits

@@ -7,12 +7,11 @@ use Rattle.cnf.specs.declared.limits.TheConstants.{CLAUSE_LIMIT, NUMBER_LIMIT}
 use Rattle.text.specs.Writing.{AppendsPart, spaced}
 use Rattle.text.specs.LratText.{IsTextOf}
 use Rattle.lrat_log.specs.Log.{LogLine, HasSmallIds, numbered_lines, text_of}
-use Rattle.lrat_result.specs.Result.{Said, digit_of, result_tokens}
-use Rattle.lrat_result.specs.Result.{OptimumFound as SaysOptimum}
+use Rattle.lrat_result.specs.Result.{Said, digit_of, result_tokens, OptimumFound as SaysOptimum}
 use Rattle.lrat_result.specs.Result.{Unsatisfiable as SaysUnsatisfiable}
 use Rattle.lrat_result.specs.Result.{Satisfiable as SaysSatisfiable, Unknown as SaysUnknown}
-use Rattle.improve.specs.declared.found.Found.{Found}
-use Rattle.improve.specs.declared.found.Found.TheVariants.{Optimum, Unsat, Best, Nothing}
+use Rattle.improve_found.specs.declared.found.Found.{Found}
+use Rattle.improve_found.specs.declared.found.Found.TheVariants.{Optimum, Unsat, Best, Nothing}
 use Rattle.report_text.specs.declared.status.CutsStatus.{CutsStatus}
 use Rattle.report_text.specs.declared.status.CutsStatus.TheVariants.{OptimumFound as EndsOptimum}
 use Rattle.report_text.specs.declared.status.CutsStatus.TheVariants.{Unsatisfiable as EndsUnsat}

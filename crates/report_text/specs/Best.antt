@@ -5,11 +5,11 @@ use Rattle.cnf.specs.Bits.{Extends}
 use Rattle.cnf.specs.Problem.{Problem, IsOptimal, IsInconsistent}
 use Rattle.cdcl_order.specs.Watch.{Sight, End}
 use Rattle.lrat_result.specs.Result.{Said, Says, OptimumFound, Unsatisfiable, Satisfiable, Unknown}
-use Rattle.improve.specs.declared.found.CutsFound.{CutsFound}
-use Rattle.improve.specs.declared.found.Found.{Found}
-use Rattle.improve.specs.declared.found.Found.TheVariants.{Optimum, Unsat, Best, Nothing}
-use Rattle.improve.specs.declared.solutions.Solution.{Solution}
-use Rattle.improve.specs.Improving.{IsSolution}
+use Rattle.improve_found.specs.declared.found.CutsFound.{CutsFound}
+use Rattle.improve_found.specs.declared.found.Found.{Found}
+use Rattle.improve_found.specs.declared.found.Found.TheVariants.{Optimum, Unsat, Best, Nothing}
+use Rattle.improve_found.specs.declared.solutions.Solution.{Solution}
+use Rattle.improve_found.specs.Solutions.{IsSolution}
 use Rattle.report_text.specs.declared.finding.Finding.{Finding}
 use Rattle.report_text.specs.declared.finding.Finding.TheVariants.{Optimum as FoundOptimum}
 use Rattle.report_text.specs.declared.finding.Finding.TheVariants.{Unsat as FoundUnsat}

@@ -1,18 +1,17 @@
 // What was found, on its way to the writers: the certificate first, whole and flushed, then the
 // lines of the status and the bits.
-ghost use Rattle.std.specs.Prelude.{◌≡◌, ◌+◌, ◌<◌, ◌++◌, ◌∷◌, []};
-ghost use Rattle.std.specs.Prelude.{length, codes, OnOk, IfErr};
+ghost use Rattle.std.specs.Prelude.{◌≡◌, ◌+◌, ◌<◌, ◌++◌, ◌∷◌, [], length, codes, OnOk, IfErr};
 ghost use Rattle.cnf.specs.declared.limits.TheConstants.{CLAUSE_LIMIT, NUMBER_LIMIT};
 ghost use Rattle.text.specs.LratText.{IsTextOf};
 ghost use Rattle.text.specs.Writing.{Puts, Writes};
 ghost use Rattle.lrat_log.specs.Log.{HasSmallIds, numbered_lines, text_of};
 ghost use Rattle.lrat_result.specs.Result.{digit_of};
-ghost use Rattle.report_text.specs.Answering.{Answers, LeavesAnswer, HasProofRoom};
-ghost use Rattle.report_text.specs.Answering.{bits_word, digits_text, words_text};
+ghost use Rattle.report_text.specs.Answering.{Answers, LeavesAnswer, HasProofRoom, bits_word};
+ghost use Rattle.report_text.specs.Answering.{digits_text, words_text};
 
 use crate::fault::RunFault;
 use crate::printing::deliver;
-use improve::found::Found;
+use improve_found::found::Found;
 use lrat_log::log::{Log, write_to};
 use lrat_log::sink::Sink;
 use std::io::Write;

@@ -3,16 +3,16 @@ ghost use Rattle.std.specs.Prelude.{◌≡◌, ◌++◌, [], ◌∷◌};
 ghost use Rattle.text.specs.Writing.{Writes, spaced};
 ghost use Rattle.cdcl_order.specs.Watch.{with_seen};
 ghost use Rattle.lrat_result.specs.Result.{Satisfiable, Unknown, cost_tokens};
-ghost use Rattle.improve.specs.Improving.{IsSolution};
+ghost use Rattle.improve_found.specs.Solutions.{IsSolution};
 ghost use Rattle.report_text.specs.Answering.{words_text};
 ghost use Rattle.report_text.specs.Best.{IsTrueOf, IsTrueText, best_text, end_of, said_by};
 
 use crate::answering::{spell_optimum, spell_satisfiable, write_end};
 use crate::finding::Finding;
 use crate::told::write_cost;
-use cdcl::watch::Unwatched;
+use cdcl_order::watch::Unwatched;
 use cnf::types::Instance;
-use improve::watch::Watch;
+use improve_found::watch::Watch;
 use std::io::Write;
 use text::output::WriteFault;
 

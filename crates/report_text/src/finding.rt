@@ -2,7 +2,7 @@
 ghost use Rattle.std.specs.Prelude.{◌≡◌};
 ghost use Rattle.report_text.specs.Best.{said_by, said_of, said_of_cuts};
 
-use improve::found::{CutsFound, Found};
+use improve_found::found::{CutsFound, Found};
 
 /// What a run found out.
 #[derive(Clone, Copy, Drop)]

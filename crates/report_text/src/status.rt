@@ -5,7 +5,7 @@ ghost use Rattle.report_text.specs.Best.{said_by};
 ghost use Rattle.report_text.specs.Codes.{code_of_cuts, code_of_status};
 
 use crate::finding::Finding;
-use improve::found::{Found, Work};
+use improve_found::found::{Found, Work};
 
 /// What a run found out.
 #[derive(Drop)]

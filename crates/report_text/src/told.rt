@@ -7,7 +7,7 @@ ghost use Rattle.lrat_result.specs.Result.{cost_tokens};
 ghost use Rattle.report_text.specs.Told.{Tells, fault_of_telling};
 
 use crate::fault::RunFault;
-use improve::progress::{Progress, ProgressFault};
+use improve_found::progress::{Progress, ProgressFault};
 use itoa::write_digits;
 use std::alloc::Global;
 use std::io::Write;

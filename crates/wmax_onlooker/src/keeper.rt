@@ -2,7 +2,7 @@
 //! an earlier run left there stays byte for byte until this run has a cheaper solution, or has
 //! proved that none is cheaper or that there is none.
 ghost use Rattle.std.specs.Prelude.{◌≡◌, IfOk, IfErr, IfSome, IsNone, IsSome};
-ghost use Rattle.improve.specs.Improving.{IsSolution};
+ghost use Rattle.improve_found.specs.Solutions.{IsSolution};
 ghost use Rattle.report_text.specs.Best.{IsTrueOf, said_by};
 ghost use Rattle.wmax_onlooker.specs.Keeper.{IsImproved, IsLeft, is_better, undercuts};
 

@@ -5,9 +5,9 @@ use crate::alarm::Alarm;
 use crate::keeper::Keeper;
 use crate::progress::Meter;
 use crate::standard_error::Messages;
-use cdcl::watch::SearchReport;
+use cdcl_order::watch::SearchReport;
 use cnf::types::Instance;
-use improve::watch::{Raised, Watch};
+use improve_found::watch::{Raised, Watch};
 use report_text::best::RunWatch;
 use report_text::finding::Finding;
 use std::io::Write;
@@ -27,7 +27,7 @@ pub struct Onlooker<'a, 'm, 'b, R: Files + Clock, E: Write> {
     pub messages: &'m mut Messages<'b, E>,
 }
 
-impl<'a, 'm, 'b, R: Files + Clock + AllocGlobal, E: Write> cdcl::watch::SearchWatch
+impl<'a, 'm, 'b, R: Files + Clock + AllocGlobal, E: Write> cdcl_order::watch::SearchWatch
     for Onlooker<'a, 'm, 'b, R, E> {
     // What it was shown is in files and on standard error, and is not known here.
     ghost seen = { λ _. None };

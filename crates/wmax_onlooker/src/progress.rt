@@ -1,8 +1,8 @@
 //! The lines of `--progress`: how far a run is, once a second, at each better solution and at the
 //! end of the search, and that the certificate is being written.
 use crate::standard_error::Messages;
-use cdcl::watch::{SearchReport, Way};
-use improve::watch::Raised;
+use cdcl_order::watch::{SearchReport, Way};
+use improve_found::watch::Raised;
 use report_text::finding::Finding;
 use std::alloc::AllocError;
 use std::fs;

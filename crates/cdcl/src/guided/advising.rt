@@ -12,7 +12,7 @@ ghost use Rattle.cdcl.specs.declared.guided.GuidedEnd.TheVariants.{Stopped};
 
 use super::GuidedEnd;
 use crate::guided::turns::Course;
-use cdcl_guide::guide::{Advice, Guide};
+use cdcl_search::guide::{Advice, Guide};
 use cdcl_search::input::Input;
 use cdcl_search::reducing::reduce;
 use cdcl_search::search::Search;

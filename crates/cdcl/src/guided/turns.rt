@@ -13,8 +13,8 @@ ghost use Rattle.cdcl.specs.declared.guided.GuidedEnd.TheVariants.{Refuted, Stop
 use super::GuidedEnd;
 use crate::budget::Budget;
 use crate::watch::SearchWatch;
-use cdcl_guide::guide::Guide;
 use cdcl_order::watch::heed;
+use cdcl_search::guide::Guide;
 use cdcl_search::input::Input;
 use cdcl_search::learning::learn;
 use cdcl_search::noting::{note_level, write_empty};

@@ -4,15 +4,16 @@ ghost use Rattle.cnf.specs.Refute.{IsRefutedByHints};
 ghost use Rattle.lrat_log.specs.Steps.{IsAcceptedLog, AddsNoEmptyClause, learned_count};
 ghost use Rattle.bound.specs.Bound.{hard_cnf};
 ghost use Rattle.cdcl.specs.Solving.{given_to};
-ghost use Rattle.improve.specs.Improving.{IsHardLog, IsRightFound, IsSolution, OnWork, EndsWith};
-ghost use Rattle.improve.specs.Improving.{AreFalling, work_count};
+ghost use Rattle.improve.specs.Improving.{IsHardLog, IsRightFound, OnWork, work_count};
+ghost use Rattle.improve_found.specs.Solutions.{IsSolution};
+ghost use Rattle.improve_found.specs.Progress.{EndsWith, AreFalling};
 ghost use Rattle.improve.specs.Bounds.{IsOver};
 
-use crate::found::{Found, ImproveFault, Work};
 use crate::search::descending::Descent;
 use crate::zero::refute_zero;
 use adder::profiles::Profile;
 use cnf::types::Instance;
+use improve_found::found::{Found, ImproveFault, Work};
 use lrat_log::log::Log;
 use std::alloc::AllocError;
 

@@ -2,21 +2,21 @@
 ghost use Rattle.std.specs.Prelude.{◌≡◌, IfOk, IfErr, OnOk};
 ghost use Rattle.lrat_log.specs.Steps.{learned_count};
 ghost use Rattle.cdcl_order.specs.Budgets.{WaivesAs};
-ghost use Rattle.improve.specs.Improving.{IsHardLog, IsSolution};
-ghost use Rattle.improve.specs.Progress.{CanFail};
+ghost use Rattle.improve.specs.Improving.{IsHardLog};
+ghost use Rattle.improve_found.specs.Solutions.{IsSolution};
+ghost use Rattle.improve_found.specs.Progress.{CanFail};
 ghost use Rattle.improve.specs.Bounds.{IsOver, HasNoBound, IsBoundsEnd};
 ghost use Rattle.improve.specs.Standing.{Descends, Ends, Fails, starting_with};
-ghost use Rattle.improve.specs.Watch.{AreShown};
+ghost use Rattle.improve_found.specs.Watch.{AreShown};
 
-use super::tell;
 use crate::bounds::{Bounds, BoundsEnd, Next};
-use crate::found::{Found, ImproveFault};
-use crate::progress::Progress;
 use crate::search::concluding::{conclude_optimum, conclude_spent};
-use crate::solutions::Solution;
-use crate::watch::Watch;
 use cdcl::budget::Budget;
 use cnf::types::Instance;
+use improve_found::found::{Found, ImproveFault};
+use improve_found::progress::Progress;
+use improve_found::solutions::Solution;
+use improve_found::watch::{Watch, tell};
 use lrat_log::log::Log;
 use std::alloc::AllocError;
 

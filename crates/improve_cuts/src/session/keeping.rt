@@ -2,17 +2,15 @@
 ghost use Rattle.std.specs.Prelude.{◌≡◌, ◌<◌, ◌≤◌, None, OnOk};
 ghost use Rattle.cdcl_order.specs.Budgets.{left_of};
 ghost use Rattle.cuts_solver.specs.Solving.{HasWritten};
-ghost use Rattle.improve.specs.Improving.{IsSolution};
-ghost use Rattle.improve.specs.Standing.{AreFeasible};
+ghost use Rattle.improve_found.specs.Solutions.{IsSolution, AreFeasible};
 ghost use Rattle.improve_cuts.specs.Sessions.{HasCome, cost_of};
 
 use super::Session;
 use crate::parts::cost_in;
 use cuts_cores::desk::{Desk, DeskFault};
-use improve::progress::Progress;
-use improve::search::tell;
-use improve::solutions::{Solution, price};
-use improve::watch::Watch;
+use improve_found::progress::Progress;
+use improve_found::solutions::{Solution, price};
+use improve_found::watch::{Watch, tell};
 use std::alloc::AllocError;
 use std::io::Write;
 

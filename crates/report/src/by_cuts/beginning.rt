@@ -1,9 +1,9 @@
 // What a run by forms and cuts begins with: its first solution, and variables to count with.
-ghost use Rattle.std.specs.Prelude.{◌≡◌, ◌<◌, ◌≤◌, ◌⊎◌, ℕ, Err, IfOk, IfErr, IfSome};
-ghost use Rattle.std.specs.Prelude.{length, IfNone, IsNone, IsSomeAnd};
+ghost use Rattle.std.specs.Prelude.{◌≡◌, ◌<◌, ◌≤◌, ◌⊎◌, ℕ, Err, IfOk, IfErr, IfSome, length};
+ghost use Rattle.std.specs.Prelude.{IfNone, IsNone, IsSomeAnd};
 ghost use Rattle.cnf.specs.Problem.{Problem};
 ghost use Rattle.cnf.specs.declared.limits.TheConstants.{NUMBER_LIMIT};
-ghost use Rattle.improve.specs.Improving.{IsSolution};
+ghost use Rattle.improve_found.specs.Solutions.{IsSolution};
 ghost use Rattle.improve_cuts.specs.ByCuts.{BeginsWith};
 ghost use Rattle.report.specs.Earlier.{EndsAt, room_for};
 
@@ -11,7 +11,7 @@ use crate::solving::is_solution;
 use cnf::limits::NUMBER_LIMIT;
 use cnf::types::Instance;
 use cuts_earlier::earlier::CannotResume;
-use improve::solutions::{Solution, price};
+use improve_found::solutions::{Solution, price};
 
 /// The most variables to count with.
 const MOST_COUNT_ROOM: usize = 1 << 20;

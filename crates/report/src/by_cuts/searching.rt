@@ -8,9 +8,9 @@ ghost use Rattle.report.specs.Earlier.{EndsAt};
 
 use cdcl::budget::Budget;
 use cuts_solver::solver::CutsSolver;
-use improve::found::{CutsFound, ImproveFault};
-use improve::search::tell;
 use improve_cuts::by_cuts::{CutsTask, improve_by_cuts};
+use improve_found::found::{CutsFound, ImproveFault};
+use improve_found::watch::tell;
 use report_text::best::RunWatch;
 use report_text::fault::RunFault;
 use report_text::told::{Finished, Told};

@@ -63,7 +63,7 @@ greatest-back_level-requires c =
     let is : c.put_in_order.new.marking.marks.items ≡ M = c.put_in_order.ensures.same in
     let lits = rw is at c.in_ok-collect.ensures.lits in
     let tail = tail_is (negation u) (others_in M u (literals_of e.trail)) c.as_slice.result.now
-    (c.as_slice.ensures ∙ lits) in
+    (c.as_slice.ensures.value ∙ lits) in
     subst (All (λ (l : Literal). l.variable ≤ e.variables)) (sym tail)
     (learned_within e c.args.store.now.slots M u c.requires.can.fits
     c.minimise.ensures.reduces.reduced)
@@ -83,8 +83,8 @@ returns-clause-learns c =
     let lits = rw is at c.in_ok-collect.ensures.lits in
     let hints = rw is at c.in_ok-collect.ensures.hints in
     let tail =
-    tail_is (negation u) (others_in M u (literals_of T)) c.as_slice.result.now (c.as_slice.ensures
-    ∙ lits) in
+    tail_is (negation u) (others_in M u (literals_of T)) c.as_slice.result.now
+    (c.as_slice.ensures.value ∙ lits) in
     let greatest = c.greatest-back_level.ensures ∙ ap (greatest_level T) tail in
     let conflict = conflict_is T ls _ c.lits.ensures c.requires.can.falsified in
     let first =

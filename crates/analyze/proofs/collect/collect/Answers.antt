@@ -53,7 +53,7 @@ loop-position-init c =
     let first = sweep_first (others_in M u) (literals_of T) e M met along
     (others_pass T M u) in
     record {
-      lits = c.in_ok-push.ensures.ok ∙ ap (λ x. x ++ c.negation.result ∷ []) c.requires.none
+      lits = c.in_ok-push.ensures.items ∙ ap (λ x. x ++ c.negation.result ∷ []) c.requires.none
           ∙ ap (λ x. x ∷ []) c.negation.ensures ∙ ap (λ x. negation u ∷ x) (sym first);
       hints = c.requires.no_hints
           ∙ sym (sweep_first (chosen_reasons chosen) T e M met along (chosen_pass T M));
@@ -110,7 +110,7 @@ loop-position-preserved c =
             let yes =
             others_yes M u (take p L) k
             (passes_is M u k c.variable-variable.result named kept ne) in
-            ap (λ h. h.items) w.lits-is ∙ w.in_ok-push-2.ensures.ok
+            ap (λ h. h.items) w.lits-is ∙ w.in_ok-push-2.ensures.items
             ∙ ap (λ x. c.loop-position.lits.items ++ x ∷ []) w.negation-then-variable.ensures
             ∙ ap (λ x. x ++ negation k ∷ []) lits ∙ ap (λ x. negation u ∷ x) (sym yes ∙ sym more)
         | else-eq w ↦

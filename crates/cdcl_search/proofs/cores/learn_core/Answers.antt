@@ -50,7 +50,7 @@ add_line-requires-clause-can g c =
       ready = c.backtrack.ensures.moves.ready;
       within =
           subst (λ n. IsWithin n c.as_slice-lits.result.now) (sym same)
-          (subst (IsWithin s.engine.variables) (sym c.as_slice-lits.ensures) within);
+          (subst (IsWithin s.engine.variables) (sym c.as_slice-lits.ensures.value) within);
     }
 
 pub add_line-requires-clause-hints : goal.add_line-requires-clause-hints
@@ -83,7 +83,7 @@ returns-clause-learns g c =
     let l : LogLine = record { kind = Learned; clause = lits; hints = hints } in
     let adds =
     core_adds s p ls c.args.clause.now lits rs s.names.items hints c.requires.runs k
-    c.as_slice-lits.ensures c.as_slice.ensures.value refl
+    c.as_slice-lits.ensures.value c.as_slice.ensures.value refl
     (rw c.deref.ensures.value c.in_ok-hints.ensures.hints) in
     let goes : Search → Type 0 = λ (x : Search). IsRunning x.engine (x.store).slots p.stack
     (tables_of x) p.frozen.items p.first p.given ls in
@@ -105,7 +105,7 @@ returns-clause-learns g c =
     let written =
     runs_added m n p ls (g.S.Sink.lines c.add_line.new.sink) l _ k.final.others moved
     c.backtrack.ensures.moves.ready.room past (λ level below. absurd (omega arith))
-    (c.as_slice-lits.ensures ∙ k.final.split)
+    (c.as_slice-lits.ensures.value ∙ k.final.split)
     (by_hints (length p.frozen.items) p.given ls l adds) added in
     record {
       runs = runs_chosen n c.note_learned.new.self p _
@@ -113,7 +113,7 @@ returns-clause-learns g c =
       writes =
           subst (λ x. Writes p.given ls x 1) (sym added.lines)
           (writes_learned p.given ls l refl refl adds
-          (core_new s p ls c.args.clause.now lits c.requires.runs k c.as_slice-lits.ensures));
+          (core_new s p ls c.args.clause.now lits c.requires.runs k c.as_slice-lits.ensures.value));
       has = core_has m.store.slots n.store.slots lits c.args.clause.now.lits.items
-          added.stored.slots c.as_slice-lits.ensures;
+          added.stored.slots c.as_slice-lits.ensures.value;
     }

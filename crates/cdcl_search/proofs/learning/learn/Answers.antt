@@ -86,7 +86,7 @@ add_line-requires-clause-can g c =
       ready = c.backtrack.ensures.moves.ready;
       within =
           subst (λ n. IsWithin n c.as_slice-2.result.now) (sym same)
-          (subst (IsWithin s.engine.variables) (sym c.as_slice-2.ensures) within);
+          (subst (IsWithin s.engine.variables) (sym c.as_slice-2.ensures.value) within);
     }
 
 pub add_line-requires-clause-hints : goal.add_line-requires-clause-hints
@@ -116,7 +116,7 @@ returns-clause-learns g c =
     c.requires.deep
     c.in_ok-learned.ensures.asserting c.in_ok-learned.ensures.hints
     (rw c.deref.ensures.value c.in_ok-hints.ensures.hints)
-    c.as_slice-2.ensures c.as_slice.ensures.value refl in
+    c.as_slice-2.ensures.value c.as_slice.ensures.value refl in
     let m = c.backtrack.new.self in
     let n = c.add_line.new.self in
     let l : LogLine =

@@ -3,11 +3,11 @@ use Rattle.std.proofs.Common.{Ok, [], refl, sym, ap, arith, append-nil, ◌≡�
 use Rattle.std.proofs.lemmas.List.Elements.{All-nil}
 use Rattle.lrat_log.specs.Steps.{learned_count}
 use Rattle.cdcl_order.specs.Budgets.{left_of}
-use Rattle.improve.specs.Improving.{IsCostOfSome, work_count}
-use Rattle.improve.proofs.SearchEnds.{found_end}
-use Rattle.improve.proofs.Lowering.{on_work_weaker}
+use Rattle.improve_found.specs.Solutions.{IsCostOfSome}
+use Rattle.improve.specs.Improving.{work_count}
+use Rattle.improve.proofs.SearchEnds.{found_end, on_work_weaker}
 use Rattle.improve.proofs.HardEnds.{hard_none, solved_open}
-use Rattle.improve.proofs.Shown.{shown_none}
+use Rattle.improve_found.proofs.Laws.{shown_none}
 use Rattle.improve.proofs.search.improve_from.Goals as goal
 
 pub conclude_nothing-requires-clause-hard : goal.conclude_nothing-requires-clause-hard

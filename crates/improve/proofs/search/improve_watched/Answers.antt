@@ -4,14 +4,14 @@ use Rattle.std.proofs.lemmas.List.Elements.{All-nil}
 use Rattle.lrat_log.specs.Steps.{IsAcceptedLog, learned_count}
 use Rattle.cdcl.specs.Solving.{given_to}
 use Rattle.cdcl_order.specs.Budgets.{left_of}
-use Rattle.improve.specs.declared.found.Found.TheVariants.{Unsat}
-use Rattle.improve.specs.Improving.{IsCostOfSome, IsHardLog}
+use Rattle.improve_found.specs.declared.found.Found.TheVariants.{Unsat}
+use Rattle.improve_found.specs.Solutions.{IsCostOfSome}
+use Rattle.improve.specs.Improving.{IsHardLog}
 use Rattle.improve.proofs.CheaperBits.{same_given}
-use Rattle.improve.proofs.SearchEnds.{memory_end, found_end}
-use Rattle.improve.proofs.Lowering.{on_work_weaker}
+use Rattle.improve.proofs.SearchEnds.{memory_end, found_end, on_work_weaker}
 use Rattle.improve.proofs.HardEnds.{hard_feasible, hard_log, hard_learned, right_unsat}
 use Rattle.improve.proofs.HardEnds.{plainly_open}
-use Rattle.improve.proofs.Shown.{shown_none, shown_after, shown_same}
+use Rattle.improve_found.proofs.Laws.{shown_none, shown_after, shown_same}
 use Rattle.improve.proofs.search.improve_watched.Goals as goal
 
 pub price_polished-first-requires-clause-feasible :

@@ -3,12 +3,11 @@ use Rattle.std.proofs.Common.{◌≡◌, ◌+◌, [], ◌∷◌, sym, ◌∙◌,
 use Rattle.std.proofs.lemmas.List.Elements.{All-nil, All-push}
 use Rattle.cdcl_order.specs.Budgets.{left_of}
 use Rattle.std.specs.Prelude.{IfOk}
-use Rattle.improve.specs.Improving.{IsCostOfSome, IsSolution, IsRightFound, work_count}
-use Rattle.improve.proofs.CheaperBits.{cost_of_solution}
-use Rattle.improve.proofs.SearchEnds.{progress_end, found_end}
+use Rattle.improve_found.specs.Solutions.{IsCostOfSome, IsSolution}
+use Rattle.improve.specs.Improving.{IsRightFound, work_count}
+use Rattle.improve_found.proofs.Laws.{cost_of_solution, shown_told, shown_failed, shown_more}
+use Rattle.improve.proofs.SearchEnds.{progress_end, found_end, on_work_weaker}
 use Rattle.cnf.proofs.Laws.{on_ok_at, on_err_at}
-use Rattle.improve.proofs.Lowering.{on_work_weaker}
-use Rattle.improve.proofs.Shown.{shown_told, shown_failed, shown_more}
 use Rattle.improve.proofs.search.lower.Goals as goal
 
 pub returns-then-is_err-clause-improves : goal.returns-then-is_err-clause-improves

@@ -1,10 +1,10 @@
 -- The bounds begin with none.
 use Rattle.std.proofs.Common.{refl, subst}
 use Rattle.lrat_log.specs.Steps.{learned_count}
-use Rattle.improve.specs.declared.found.ImproveFault.TheVariants.{Memory}
+use Rattle.improve_found.specs.declared.found.ImproveFault.TheVariants.{Memory}
 use Rattle.improve.specs.Standing.{starting_with, Ends}
 use Rattle.improve.proofs.Standings.{ends_failing, fails_memory, first_standing}
-use Rattle.improve.proofs.Shown.{shown_none}
+use Rattle.improve_found.proofs.Laws.{shown_none}
 use Rattle.improve.proofs.search.lower_by_bounds.Goals as goal
 
 pub returns-in_default-clause-ends : goal.returns-in_default-clause-ends

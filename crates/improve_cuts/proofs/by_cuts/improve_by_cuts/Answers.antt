@@ -1,6 +1,6 @@
 -- Nothing is left to pay for the first solution.
 use Rattle.std.proofs.Common.{◌∙◌, sym}
-use Rattle.improve.proofs.Laws.{shown_none}
+use Rattle.improve_found.proofs.Laws.{shown_none}
 use Rattle.improve_cuts.proofs.Ends.{finds_nothing}
 use Rattle.improve_cuts.proofs.by_cuts.improve_by_cuts.Goals as goal
 

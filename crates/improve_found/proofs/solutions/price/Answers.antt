@@ -2,8 +2,8 @@
 use Rattle.std.proofs.Common.{sym, ◌∙◌, subst}
 use Rattle.cnf.specs.Bits.{Extends, assignment_of}
 use Rattle.cnf.proofs.Laws.{extends_own}
-use Rattle.improve.proofs.BitLaws.{extends_taken}
-use Rattle.improve.proofs.solutions.price.Goals as goal
+use Rattle.improve_found.proofs.BitLaws.{extends_taken}
+use Rattle.improve_found.proofs.solutions.price.Goals as goal
 
 pub prove-unreachable-requires : goal.prove-unreachable-requires
 prove-unreachable-requires c =

@@ -1,7 +1,7 @@
 -- What is shown is the solution.
 use Rattle.std.proofs.Common.{Bool, List, sym, subst}
-use Rattle.improve.specs.Improving.{IsSolution}
-use Rattle.improve.proofs.search.tell.Goals as goal
+use Rattle.improve_found.specs.Solutions.{IsSolution}
+use Rattle.improve_found.proofs.watch.tell.Goals as goal
 
 pub better-requires : goal.better-requires
 better-requires g c =

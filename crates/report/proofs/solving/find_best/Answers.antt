@@ -1,7 +1,7 @@
 -- The writer has what its progress told.
 use Rattle.std.proofs.Common.{◌≡◌, ◌∙◌, refl, sym, ap, subst, rules}
 use Rattle.std.specs.Prelude.{Result, IfOk}
-use Rattle.improve.specs.declared.found.Found.{Found}
+use Rattle.improve_found.specs.declared.found.Found.{Found}
 use Rattle.report_text.specs.declared.fault.RunFault.{RunFault}
 use Rattle.report.specs.Running.{Searches, outcome_of}
 use Rattle.report.specs.Seen.{IsShownFor}

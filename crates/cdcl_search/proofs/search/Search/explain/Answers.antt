@@ -8,7 +8,7 @@ use Rattle.cdcl_search.proofs.search.Search.explain.Goals as goal
 pub find-requires-clause-within : goal.find-requires-clause-within
 find-requires-clause-within c =
     let s = c.args.self.now in
-    subst (IsWithin s.engine.variables) (sym c.as_slice-lits.ensures)
+    subst (IsWithin s.engine.variables) (sym c.as_slice-lits.ensures.value)
     (core_within s.engine s.store.slots c.args.falsified c.args.reason c.in_ok-clause.clause
     c.requires.ready.searches.fits c.requires.falsified c.requires.small
     c.in_ok-clause.ensures.learns)
@@ -16,7 +16,7 @@ find-requires-clause-within c =
 pub find-requires-clause-untrue : goal.find-requires-clause-untrue
 find-requires-clause-untrue c =
     let s = c.args.self.now in
-    subst (λ x. HasTrue x (zero_of s.engine.trail) → ⊥) (sym c.as_slice-lits.ensures)
+    subst (λ x. HasTrue x (zero_of s.engine.trail) → ⊥) (sym c.as_slice-lits.ensures.value)
     (core_untrue s.store.slots s.engine.trail c.args.falsified c.args.reason c.in_ok-clause.clause
     c.requires.ready.searches.fits.reasons c.requires.falsified c.in_ok-clause.ensures.learns)
 
@@ -28,7 +28,7 @@ returns-then-branch-clause-refusal c =
     record {
       assumed = core_from s.store.slots s.engine.trail c.args.falsified c.args.reason
           c.in_ok-clause.clause c.args.assumptions.now lits core c.in_ok-clause.ensures.learns
-          c.requires.assumed c.as_slice-lits.ensures
+          c.requires.assumed c.as_slice-lits.ensures.value
           (c.are_assumed.ensures c.if-not-are_assumed.false) c.in_ok-core.ensures;
       shown = subst (HasSubset s.store.slots) (sym (core_negated lits core c.in_ok-core.ensures))
           (c.in_ok-find.ensures.some c.if-branch.true);
@@ -42,7 +42,7 @@ returns-clause-refusal c =
     record {
       assumed = core_from s.store.slots s.engine.trail c.args.falsified c.args.reason
           c.in_ok-clause.clause c.args.assumptions.now lits core c.in_ok-clause.ensures.learns
-          c.requires.assumed c.as_slice-lits.ensures
+          c.requires.assumed c.as_slice-lits.ensures.value
           (c.are_assumed.ensures c.if-not-are_assumed.false) c.in_ok-core.ensures;
       lesson = record {
         literal = c.args.falsified;
@@ -50,8 +50,8 @@ returns-clause-refusal c =
         falsified = c.requires.falsified;
         small = c.requires.small;
         final = c.in_ok-clause.ensures.learns;
-        new = subst (HasNoSubset s.store.slots) c.as_slice-lits.ensures
+        new = subst (HasNoSubset s.store.slots) c.as_slice-lits.ensures.value
             (c.in_ok-find.ensures.none c.if-branch.false);
       };
-      negated = core_negated lits core c.in_ok-core.ensures ∙ c.as_slice-lits.ensures;
+      negated = core_negated lits core c.in_ok-core.ensures ∙ c.as_slice-lits.ensures.value;
     }

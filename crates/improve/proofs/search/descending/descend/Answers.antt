@@ -3,15 +3,12 @@ use Rattle.std.proofs.Common.{◌≡◌, ℕ, [], ◌∷◌, ◌++◌, refl, ◌
 use Rattle.std.specs.declared.vec.Vec.{Vec}
 use Rattle.std.specs.declared.alloc.Global.{Global}
 use Rattle.lrat_log.specs.Steps.{learned_count}
-use Rattle.improve.specs.declared.found.ImproveFault.TheVariants.{Memory, Progress}
-use Rattle.improve.proofs.CheaperBits.{cost_of_solution}
+use Rattle.improve_found.specs.declared.found.ImproveFault.TheVariants.{Memory, Progress}
+use Rattle.improve_found.proofs.Laws.{cost_of_solution, cost_small, shown_none, shown_then}
+use Rattle.improve_found.proofs.Laws.{shown_more, shown_told, shown_failed}
 use Rattle.cnf.proofs.Laws.{on_ok_at, on_err_at}
-use Rattle.improve.proofs.Lowering.{cost_small}
-use Rattle.improve.proofs.Standings.{goes_cheaper, goes_first, goes_further}
-use Rattle.improve.proofs.Standings.{fails_memory, fails_progress}
-use Rattle.improve.proofs.Standings.{fails_after, descends_last}
-use Rattle.improve.proofs.Shown.{shown_none, shown_then, shown_more}
-use Rattle.improve.proofs.Shown.{shown_told, shown_failed}
+use Rattle.improve.proofs.Standings.{goes_cheaper, goes_first, goes_further, fails_memory}
+use Rattle.improve.proofs.Standings.{fails_progress, fails_after, descends_last}
 use Rattle.improve.proofs.search.descending.descend.Goals as goal
 
 pub bounds-init : goal.bounds-init

@@ -4,7 +4,7 @@ use Rattle.lrat_log.specs.Steps.{learned_count}
 use Rattle.cdcl_order.specs.Budgets.{WaivesAs}
 use Rattle.improve.specs.Bounds.{IsOver}
 use Rattle.improve.specs.Standing.{starting_with, MovesStanding}
-use Rattle.improve.specs.Watch.{AreShown}
+use Rattle.improve_found.specs.Watch.{AreShown}
 use Rattle.improve.proofs.search.descending.descend.Given as goal
 
 abbrev pub invariant-bounds : goal.invariant-bounds

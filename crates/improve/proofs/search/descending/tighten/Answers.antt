@@ -2,9 +2,10 @@
 use Rattle.std.proofs.Common.{◌≡◌, ◌+◌, ap, arith, sym, subst}
 use Rattle.lrat_log.specs.Steps.{learned_count}
 use Rattle.cdcl_order.specs.Budgets.{left_of}
-use Rattle.improve.specs.Improving.{AreFalling, IsHardLog, work_count}
+use Rattle.improve_found.specs.Progress.{AreFalling}
+use Rattle.improve.specs.Improving.{IsHardLog, work_count}
 use Rattle.improve.specs.Standing.{starting_with}
-use Rattle.improve.proofs.Lowering.{on_work_weaker}
+use Rattle.improve.proofs.SearchEnds.{on_work_weaker}
 use Rattle.improve.proofs.Standings.{ends_descended, ends_failing}
 use Rattle.improve.proofs.search.descending.tighten.Goals as goal
 

@@ -1,6 +1,6 @@
 -- The first solution was kept, or there is none.
 use Rattle.std.proofs.Common.{◌<◌, subst, sym}
-use Rattle.improve.proofs.Laws.{cost_of_solution, cost_small}
+use Rattle.improve_found.proofs.Laws.{cost_of_solution, cost_small}
 use Rattle.improve_cuts.specs.ByCuts.{BeginsWith}
 use Rattle.improve_cuts.specs.Sessions.{cost_of}
 use Rattle.improve_cuts.proofs.Ends.{begins}

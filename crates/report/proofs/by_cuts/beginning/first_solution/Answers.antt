@@ -1,7 +1,7 @@
 -- Bits that are a solution cost what they are priced at.
 use Rattle.std.proofs.Common.{◌≡◌, ℕ, subst, sym}
 use Rattle.std.specs.Prelude.{IfSome}
-use Rattle.improve.specs.Improving.{IsSolution}
+use Rattle.improve_found.specs.Solutions.{IsSolution}
 use Rattle.report.proofs.Dearer.{same_cost}
 use Rattle.report.proofs.by_cuts.beginning.first_solution.Goals as goal
 

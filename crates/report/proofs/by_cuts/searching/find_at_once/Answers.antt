@@ -1,10 +1,9 @@
 -- The one solution was told, or could not be; or nothing was.
-use Rattle.std.proofs.Common.{◌≡◌, ◌∙◌, Ok, Err, refl, sym, ap, subst, rules, true}
-use Rattle.std.proofs.Common.{false, Some}
+use Rattle.std.proofs.Common.{◌≡◌, ◌∙◌, Ok, Err, refl, sym, ap, subst, rules, true, false, Some}
 use Rattle.cnf.proofs.Laws.{on_ok_at, on_err_at}
-use Rattle.improve.specs.declared.found.ImproveFault.TheVariants.{Progress}
-use Rattle.improve.specs.Progress.{Telling}
-use Rattle.improve.specs.declared.found.CutsFound.{CutsFound}
+use Rattle.improve_found.specs.declared.found.ImproveFault.TheVariants.{Progress}
+use Rattle.improve_found.specs.Progress.{Telling}
+use Rattle.improve_found.specs.declared.found.CutsFound.{CutsFound}
 use Rattle.report.specs.ByCuts.{IsShownByCuts, SearchesByCuts}
 use Rattle.report.specs.Earlier.{EndsAt}
 use Rattle.report.proofs.AtOnce.{failed_one, none_right, none_shown, one_shown, told_one}

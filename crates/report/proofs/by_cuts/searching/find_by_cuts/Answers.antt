@@ -1,7 +1,7 @@
 -- The writer has what its progress told.
 use Rattle.std.proofs.Common.{◌≡◌, ◌∙◌, refl, sym, ap, subst, rules}
 use Rattle.std.specs.Prelude.{Result, IfOk}
-use Rattle.improve.specs.declared.found.CutsFound.{CutsFound}
+use Rattle.improve_found.specs.declared.found.CutsFound.{CutsFound}
 use Rattle.report_text.specs.declared.fault.RunFault.{RunFault}
 use Rattle.report.specs.ByCuts.{SearchesByCuts, IsShownByCuts, cuts_outcome}
 use Rattle.report.proofs.Searched.{tells_none}

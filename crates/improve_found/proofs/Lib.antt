@@ -1,0 +1,5 @@
+mod Told
+mod BitLaws
+mod Costs
+mod Shown
+pub mod Laws
